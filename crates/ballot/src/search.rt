@@ -7,7 +7,7 @@ ghost use Rattle.std.specs.Prelude.{◌≡◌, Bool, IfOk, List, None, filter};
 ghost use Rattle.types.specs.declared.ballot.Ballot.{Ballot};
 ghost use Rattle.protocol.specs.States.{above};
 ghost use Rattle.protocol.specs.Candidates.{greatest};
-ghost use Rattle.fedvote.specs.declared.candidates.Mention.{Mention};
+ghost use Rattle.fedvote.specs.declared.mention.Mention.{Mention};
 ghost use Rattle.fedvote.specs.Searching.{next_under};
 
 use fedvote::Mention;

@@ -16,7 +16,7 @@ greatest_none None = refl
 greatest_none (Some a) = refl
 
 -- one ballot bettered first
-pub bettered_then : (best bound : Option Ballot) (t : Ballot) (ts : List Ballot) → bettered (bettered best bound (t ∷ [])) bound ts ≡ bettered best bound (t ∷ ts)
+bettered_then : (best bound : Option Ballot) (t : Ballot) (ts : List Ballot) → bettered (bettered best bound (t ∷ [])) bound ts ≡ bettered best bound (t ∷ ts)
 bettered_then best bound t ts = counted (has_positive_counter t)
   where
     rest : List Ballot
@@ -41,7 +41,3 @@ bettered_append best bound (t ∷ ts) us =
     ap (λ o. bettered o bound us) (sym (bettered_then best bound t ts))
     ∙ bettered_append (bettered best bound (t ∷ [])) bound ts us
     ∙ bettered_then best bound t (ts ++ us)
-
--- one ballot bettered first, as the code has it
-pub one_first : (best bound first last : Option Ballot) (t : Ballot) (ts : List Ballot) → first ≡ bettered best bound (t ∷ []) → last ≡ bettered first bound ts → last ≡ bettered best bound (t ∷ ts)
-one_first best bound first last t ts e h = h ∙ ap (λ o. bettered o bound ts) e ∙ bettered_then best bound t ts

@@ -1,3 +1,4 @@
 pub mod Bettering
 pub mod Honesty
+pub mod Mentioning
 pub mod SeenVotes

@@ -1,10 +1,11 @@
 -- The ways in which a statement speaks of a ballot: it names it, or it speaks of commit at its counter.
-use Rattle.std.specs.Prelude.{List, filter, flat_map}
+use Rattle.std.specs.Prelude.{List, ◌++◌, filter, flat_map, option_to_list}
 use Rattle.types.specs.declared.ballot.Ballot.{Ballot}
 use Rattle.types.specs.declared.statement.Statement.{Statement}
 use Rattle.protocol.specs.Candidates.{committed_by, has_positive_counter, named_by}
-use Rattle.fedvote.specs.declared.candidates.Mention.{Mention}
-use Rattle.fedvote.specs.declared.candidates.Mention.TheVariants.{Committed, Named}
+use Rattle.fedvote.specs.declared.mention.Mention.{Mention}
+use Rattle.fedvote.specs.declared.mention.Mention.TheVariants.{Committed, Named}
+use Rattle.fedvote.specs.declared.mention.StatementBallots.{StatementBallots}
 
 -- the ballots of which a statement speaks in this way
 abbrev pub mentioned_by : Mention → Statement → List Ballot
@@ -14,3 +15,7 @@ mentioned_by Committed = committed_by
 -- those of several statements, with counters from 1 on
 abbrev pub mentioned_in : Mention → List Statement → List Ballot
 mentioned_in mention statements = filter has_positive_counter (flat_map (mentioned_by mention) statements)
+
+-- those that are handed out one by one, in order
+abbrev pub ballots_of : StatementBallots → List Ballot
+ballots_of b = option_to_list b.first ++ option_to_list b.second ++ option_to_list b.third

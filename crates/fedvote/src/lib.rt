@@ -9,14 +9,16 @@
 mod candidates;
 mod claim;
 mod counters;
+mod mention;
 mod position;
 mod question;
 mod seeing;
 mod sight;
 
-pub use candidates::{Mention, better_mentioned};
+pub use candidates::better_mentioned;
 pub use claim::Claim;
 pub use counters::{counter_by, lesser};
+pub use mention::{Mention, StatementBallots, statement_ballots};
 pub use position::Position;
 pub use question::Question;
 pub use seeing::seen_voting_is_by_rows;

@@ -11,8 +11,8 @@ ghost use Rattle.fedvote.specs.Questions.{accepts, asks, backs, kind_asked, kind
 ghost use Rattle.fedvote.specs.Searching.{next_counter, next_under};
 ghost use Rattle.fedvote.specs.Seeing.{AcceptsClaim, ConfirmsClaim, Standpoint, seen_from};
 
-use crate::candidates::Mention;
 use crate::claim::Claim;
+use crate::mention::Mention;
 use crate::position::Position;
 use crate::question::Question;
 use std::alloc::{AllocError, Global};

@@ -15,7 +15,7 @@ use Rattle.protocol.proofs.Sets.Contained.{contained_cases, contains_head, conta
 use Rattle.protocol.proofs.Sets.Mapped.{mapped_from, mapped_to}
 use Rattle.protocol.proofs.Statements.Found.{row_contained, row_found}
 use Rattle.protocol.proofs.Statements.Offers.{is_kind-itself, is_row_of-parts, same_kind}
-use Rattle.fedvote.specs.declared.candidates.Mention.{Mention}
+use Rattle.fedvote.specs.declared.mention.Mention.{Mention}
 use Rattle.fedvote.specs.Mentions.{mentioned_in}
 use Rattle.fedvote.specs.Searching.{next_counter, next_under}
 use Rattle.view.specs.Watching.{rows_of_others, said_by_another, values_in}

@@ -58,9 +58,9 @@ or_assoc : (a b c : Bool) → (a || b) || c ≡ a || (b || c)
 or_assoc true b c = refl
 or_assoc false b c = refl
 
-one_of-append : (xs ys : List Ballot) (t : Ballot) → is_one_of (xs ++ ys) t ≡ is_one_of xs t || is_one_of ys t
-one_of-append [] ys t = refl
-one_of-append (x ∷ xs) ys t = ap (λ b. same_ballot x t || b) (one_of-append xs ys t) ∙ sym (or_assoc (same_ballot x t) (is_one_of xs t) (is_one_of ys t))
+pub one_of_append : (xs ys : List Ballot) (t : Ballot) → is_one_of (xs ++ ys) t ≡ is_one_of xs t || is_one_of ys t
+one_of_append [] ys t = refl
+one_of_append (x ∷ xs) ys t = ap (λ b. same_ballot x t || b) (one_of_append xs ys t) ∙ sym (or_assoc (same_ballot x t) (is_one_of xs t) (is_one_of ys t))
 
 -- ---- whether what nodes say has it, node by node
 module _ (said : ℕ → Option Statement) (by : Statement → List Ballot) (us : List ℕ) (i : ℕ) (t : Ballot) where
@@ -85,7 +85,7 @@ module _ (said : ℕ → Option Statement) (by : Statement → List Ballot) (us 
   one_has s within is =
       next_has within
       ∙ ap (λ (o : Option Statement). is_one_of (flat_map by (cons_option o (filter_map said (drop (i + 1) us)))) t) (sym is)
-      ∙ one_of-append (by s) (flat_map by (filter_map said (drop (i + 1) us))) t
+      ∙ one_of_append (by s) (flat_map by (filter_map said (drop (i + 1) us))) t
 
   -- one that speaks of other ballots
   pub other_has : (s : Statement) (all : Bool) → i < length us → Some s ≡ said (get_or us i 0) → is_one_of (by s) t ≡ false → rest_has i ≡ all → rest_has (i + 1) ≡ all
@@ -245,13 +245,9 @@ taken_out ts t p down place has =
     (omega (arith, e), omega (arith, e, l), subst (λ n. AreLeft [] (t ∷ []) ts (remove ts n)) before (removed_left ts t at.0 at.2 at.3 down))
 
 -- the ballots that leave one after the other are those of a list
-pub one_left : (staying old new all : List Ballot) (a : Ballot) → a ∷ [] ≡ all → AreLeft staying (a ∷ []) old new → AreLeft staying all old new
-one_left staying old new all a is first = subst (λ (ts : List Ballot). AreLeft staying ts old new) is first
-
-pub two_left : (staying old mid new all : List Ballot) (a b : Ballot) → a ∷ b ∷ [] ≡ all → AreLeft staying (a ∷ []) old mid → AreLeft staying (b ∷ []) mid new → AreLeft staying all old new
-two_left staying old mid new all a b is first then = subst (λ (ts : List Ballot). AreLeft staying ts old new) is (left_then staying (a ∷ []) (b ∷ []) old mid new first then)
-
-pub three_left : (staying old mid then_mid new all : List Ballot) (a b d : Ballot) → a ∷ b ∷ d ∷ [] ≡ all
-    → AreLeft staying (a ∷ []) old mid → AreLeft staying (b ∷ []) mid then_mid → AreLeft staying (d ∷ []) then_mid new → AreLeft staying all old new
-three_left staying old mid then_mid new all a b d is first then last =
-    subst (λ (ts : List Ballot). AreLeft staying ts old new) is (left_then staying (a ∷ b ∷ []) (d ∷ []) old then_mid new (left_then staying (a ∷ []) (b ∷ []) old mid then_mid first then) last)
+pub three_left : (staying old mid then_mid new ps qs rs all : List Ballot) → ps ++ qs ++ rs ≡ all
+    → AreLeft staying ps old mid → AreLeft staying qs mid then_mid → AreLeft staying rs then_mid new
+    → AreLeft staying all old new
+three_left staying old mid then_mid new ps qs rs all is first then last =
+    subst (λ (ts : List Ballot). AreLeft staying ts old new) is
+    (left_then staying (ps ++ qs) rs old then_mid new (left_then staying ps qs old mid then_mid first then) last)

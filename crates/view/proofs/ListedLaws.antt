@@ -242,9 +242,16 @@ on_ok : {A E : Type 0} (r : Result A E) (P Q : Type 0) → (P → Q) → OnOk r 
 on_ok (Ok x) P Q f h = f h
 on_ok (Err e) P Q f h = h
 
--- the same where the second may want memory, and the ballots are named otherwise
-pub then_listed : {A E : Type 0} (r : Result A E) (old mid now ts us all : List Ballot) → ts ++ us ≡ all → AreListed mid (old ++ filter has_positive_counter ts) → OnOk r (AreListed now (mid ++ filter has_positive_counter us)) → OnOk r (AreListed now (old ++ filter has_positive_counter all))
-then_listed r old mid now ts us all is first then = on_ok r _ _ (λ h. subst (λ (ys : List Ballot). AreListed now (old ++ filter has_positive_counter ys)) is (listed_then old mid now ts us first h)) then
+-- the same of three, where the last may want memory, and the ballots are named otherwise
+pub three_listed : {A E : Type 0} (r : Result A E) (old mid then_mid now ts us vs all : List Ballot) → ts ++ us ++ vs ≡ all
+    → AreListed mid (old ++ filter has_positive_counter ts) → AreListed then_mid (mid ++ filter has_positive_counter us)
+    → OnOk r (AreListed now (then_mid ++ filter has_positive_counter vs))
+    → OnOk r (AreListed now (old ++ filter has_positive_counter all))
+three_listed r old mid then_mid now ts us vs all is first then last =
+    on_ok r _ _
+    (λ h. subst (λ (ys : List Ballot). AreListed now (old ++ filter has_positive_counter ys)) is
+    (listed_then old then_mid now (ts ++ us) vs (listed_then old mid then_mid ts us first then) h))
+    last
 
 -- what one node more says comes last
 said_more : (said : ℕ → Option Statement) (us : List ℕ) (u : ℕ) → filter_map said (us ++ u ∷ []) ≡ filter_map said us ++ option_to_list (said u)

@@ -14,7 +14,7 @@ use Rattle.protocol.proofs.Ballots.Greatest.{greatest_is_alone, greatest_is_exac
 use Rattle.protocol.proofs.Equality.Sameness.{same_value-refl, same_value-true}
 use Rattle.protocol.proofs.Sets.Finite.{same_test}
 use Rattle.protocol.proofs.Nominating.ValueSets.{has_all, one_set, set_ascending}
-use Rattle.fedvote.specs.declared.candidates.Mention.{Mention}
+use Rattle.fedvote.specs.declared.mention.Mention.{Mention}
 use Rattle.fedvote.specs.Mentions.{mentioned_by, mentioned_in}
 use Rattle.fedvote.specs.Searching.{counter_by, is_under, least_above, lesser, next_counter, next_under}
 use Rattle.view.specs.Watching.{values_in}

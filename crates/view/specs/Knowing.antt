@@ -9,8 +9,8 @@ use Rattle.types.specs.declared.statement.Statement.{Statement}
 use Rattle.protocol.specs.Candidates.{committed_in, named_in}
 use Rattle.protocol.specs.Rows.{is_kind, is_taken, row, with_row}
 use Rattle.protocol.specs.Sets.{among}
-use Rattle.fedvote.specs.declared.candidates.Mention.{Mention}
-use Rattle.fedvote.specs.declared.candidates.Mention.TheVariants.{Committed, Named}
+use Rattle.fedvote.specs.declared.mention.Mention.{Mention}
+use Rattle.fedvote.specs.declared.mention.Mention.TheVariants.{Committed, Named}
 use Rattle.view.specs.Listing.{AreListed, FindsAsAmong}
 use Rattle.view.specs.Regions.{IsRegion}
 use Rattle.view.specs.Watching.{rows_of_others, values_in}

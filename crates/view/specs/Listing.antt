@@ -38,8 +38,3 @@ pub record IsPlaceUnder (bound : Option Ballot) (ts : List Ballot) (place : ℕ)
 abbrev pub IsBallotPlace : Ballot → List Ballot → Result ℕ ℕ → Type 0
 IsBallotPlace t ts (Ok i) = IsPlaceUnder (Some t) ts i × Contains ts t
 IsBallotPlace t ts (Err i) = IsPlaceUnder (Some t) ts i × (Contains ts t → ⊥)
-
--- the two ballots of a pair, where there is one
-abbrev pub both_of : Option (Ballot × Ballot) → List Ballot
-both_of None = []
-both_of (Some (a, b)) = a ∷ b ∷ []

@@ -1,12 +1,14 @@
 //! Ballots in the order in which a search goes through them.
 
-ghost use Rattle.std.specs.Prelude.{◌≡◌, ◌<◌, ◌∷◌, ◌++◌, [], OnOk, Some, filter, length};
+ghost use Rattle.std.specs.Prelude.{◌≡◌, ◌<◌, ◌∷◌, ◌++◌, [], OnOk, Some, filter, length, option_to_list};
 ghost use Rattle.std.specs.List.{remove};
-ghost use Rattle.protocol.specs.Candidates.{committed_by, has_positive_counter, named_by};
+ghost use Rattle.protocol.specs.Candidates.{has_positive_counter};
+ghost use Rattle.fedvote.specs.Mentions.{mentioned_by};
 ghost use Rattle.fedvote.specs.Searching.{next_under};
 ghost use Rattle.types.specs.Orders.{ballot_cmp};
-ghost use Rattle.view.specs.Listing.{AreLeft, AreListed, IsBallotPlace, IsDescending, IsPlaceUnder, both_of};
+ghost use Rattle.view.specs.Listing.{AreLeft, AreListed, IsBallotPlace, IsDescending, IsPlaceUnder};
 
+use fedvote::{Mention, statement_ballots};
 use std::alloc::{AllocError, Global};
 use std::cmp::Ordering;
 use std::marker::Model;
@@ -53,72 +55,40 @@ impl ListedBallots {
         }
     }
 
-    /// Lists the ballots that the statement names. An error says that memory is short.
-    pub(crate) fn add_named(&mut self, statement: &Statement) -> Result<(), AllocError>
-        ensures { OnOk result (AreListed self.new (self.old ++ filter has_positive_counter (named_by statement.now))) }
+    /// Lists the ballots of which the statement speaks in this way. An error says that memory is short.
+    pub(crate) fn add_mentioned(
+        &mut self,
+        mention: Mention,
+        statement: &Statement,
+    ) -> Result<(), AllocError>
+        ensures { OnOk result (AreListed self.new (self.old ++ filter has_positive_counter (mentioned_by mention statement.now))) }
     {
-        match statement {
-            Statement::Nominate { .. } => Ok(()),
-            Statement::Prepare {
-                ballot,
-                prepared,
-                ..
-            } => {
-                self.add(LentBallot::of(ballot))?;
-                match prepared {
-                    None => Ok(()),
-                    Some(prepared) => self.add(LentBallot::of(prepared)),
-                }
-            }
-            Statement::Commit {
-                ballot,
-                prepared_counter,
-                high_counter,
-                ..
-            } => {
-                self.add(LentBallot::of(ballot))?;
-                let low = LentBallot::at(*prepared_counter, &ballot.value);
-                let high = LentBallot::at(*high_counter, &ballot.value);
-                self.add_both(low, high)
-            }
-            Statement::Externalize {
-                commit,
-                high_counter,
-            } => {
-                let high = LentBallot::at(*high_counter, &commit.value);
-                self.add_both(LentBallot::of(commit), high)
-            }
-        }
+        let ballots = statement_ballots(mention, statement);
+        self.add_if(&ballots.first)?;
+        self.add_if(&ballots.second)?;
+        self.add_if(&ballots.third)
     }
 
-    /// Lists the ballots at the counters at which the statement speaks of commit. An error says that memory
-    /// is short.
-    pub(crate) fn add_committed(&mut self, statement: &Statement) -> Result<(), AllocError>
-        ensures { OnOk result (AreListed self.new (self.old ++ filter has_positive_counter (committed_by statement.now))) }
+    /// Lists a ballot, if there is one. An error says that memory is short.
+    #[tactic(auto, using(crate::proofs::ListedLaws::as_before))]
+    fn add_if(&mut self, ballot: &Option<LentBallot>) -> Result<(), AllocError>
+        ensures { OnOk result (AreListed self.new (self.old ++ filter has_positive_counter (option_to_list ballot.now))) }
     {
-        match committed_by(statement) {
+        match ballot {
             None => Ok(()),
-            Some((low, high)) => self.add_both(low, high),
+            Some(ballot) => self.add(ballot),
         }
-    }
-
-    /// Lists two ballots. An error says that memory is short.
-    fn add_both(&mut self, one: LentBallot, other: LentBallot) -> Result<(), AllocError>
-        ensures { OnOk result (AreListed self.new (self.old ++ filter has_positive_counter (one.entry ∷ other.entry ∷ []))) }
-    {
-        self.add(one)?;
-        self.add(other)
     }
 
     /// Lists a ballot whose counter is from 1 on, where it is not listed yet. An error says that memory is
     /// short.
-    fn add(&mut self, ballot: LentBallot) -> Result<(), AllocError>
-        ensures { OnOk result (AreListed self.new (self.old ++ filter has_positive_counter (ballot.entry ∷ []))) }
+    fn add(&mut self, ballot: &LentBallot) -> Result<(), AllocError>
+        ensures { OnOk result (AreListed self.new (self.old ++ filter has_positive_counter (ballot.now ∷ []))) }
     {
         if ballot.counter() == 0 {
             return Ok(());
         }
-        match self.find(&ballot) {
+        match self.find(ballot) {
             Ok(_) => Ok(()),
             Err(place) => {
                 let copy = ballot.try_copy()?;
@@ -185,37 +155,6 @@ impl ListedBallots {
         {
             Ok(place) => Ok(place + 1),
             Err(place) => Err(place),
-        }
-    }
-}
-
-/// The ballots at the counters at which a statement speaks of commit.
-pub(crate) fn committed_by<'a>(statement: &'a Statement) -> Option<(LentBallot<'a>, LentBallot<'a>)>
-    ensures { both_of result ≡ committed_by statement.now }
-{
-    match statement {
-        Statement::Nominate { .. } => None,
-        Statement::Prepare {
-            ballot,
-            high_counter,
-            commit_counter,
-            ..
-        }
-        | Statement::Commit {
-            ballot,
-            high_counter,
-            commit_counter,
-            ..
-        } => {
-            let low = LentBallot::at(*commit_counter, &ballot.value);
-            Some((low, LentBallot::at(*high_counter, &ballot.value)))
-        }
-        Statement::Externalize {
-            commit,
-            high_counter,
-        } => {
-            let high = LentBallot::at(*high_counter, &commit.value);
-            Some((LentBallot::of(commit), high))
         }
     }
 }

@@ -1,16 +1,14 @@
 //! Whether some row speaks of a ballot.
 
-ghost use Rattle.std.specs.Prelude.{◌≡◌, flat_map};
-ghost use Rattle.protocol.specs.Candidates.{committed_by, named_by};
+ghost use Rattle.std.specs.Prelude.{◌≡◌, flat_map, option_to_list};
 ghost use Rattle.protocol.specs.Sameness.{same_ballot};
 ghost use Rattle.fedvote.specs.Mentions.{mentioned_by, mentioned_in};
 ghost use Rattle.view.specs.Listing.{is_one_of};
 ghost use Rattle.view.specs.Watching.{rows_of_others};
 
-use crate::listed::committed_by;
 use crate::reached::ReachedRows;
 use envstore::Places;
-use fedvote::Mention;
+use fedvote::{Mention, statement_ballots};
 use types::{LentBallot, NodeId, Statement};
 
 /// Whether a row of another than this node speaks of the ballot in this way, and its counter is from 1 on.
@@ -47,61 +45,21 @@ fn is_mentioned_by_one<S: Places>(
 }
 
 /// Whether the statement speaks of the ballot in this way.
+#[tactic(auto, using(crate::proofs::Leaving::one_of_append))]
 fn mentions(mention: Mention, statement: &Statement, ballot: &LentBallot) -> bool
     ensures { result ≡ is_one_of (mentioned_by mention statement.now) ballot.now }
 {
-    match mention {
-        Mention::Named => names(statement, ballot),
-        Mention::Committed => commits(statement, ballot),
-    }
+    let ballots = statement_ballots(mention, statement);
+    is_it(&ballots.first, ballot) || is_it(&ballots.second, ballot) || is_it(&ballots.third, ballot)
 }
 
-/// Whether the statement names the ballot.
-fn names(statement: &Statement, ballot: &LentBallot) -> bool
-    ensures { result ≡ is_one_of (named_by statement.now) ballot.now }
+/// Whether there is a ballot, and it is this one.
+fn is_it(one: &Option<LentBallot>, ballot: &LentBallot) -> bool
+    ensures { result ≡ is_one_of (option_to_list one.now) ballot.now }
 {
-    match statement {
-        Statement::Nominate { .. } => false,
-        Statement::Prepare {
-            ballot: first,
-            prepared,
-            ..
-        } => {
-            is_same(&LentBallot::of(first), ballot)
-                || match prepared {
-                    None => false,
-                    Some(prepared) => is_same(&LentBallot::of(prepared), ballot),
-                }
-        }
-        Statement::Commit {
-            ballot: first,
-            prepared_counter,
-            high_counter,
-            ..
-        } => {
-            let low = LentBallot::at(*prepared_counter, &first.value);
-            let high = LentBallot::at(*high_counter, &first.value);
-            is_same(&LentBallot::of(first), ballot)
-                || is_same(&low, ballot)
-                || is_same(&high, ballot)
-        }
-        Statement::Externalize {
-            commit,
-            high_counter,
-        } => {
-            let high = LentBallot::at(*high_counter, &commit.value);
-            is_same(&LentBallot::of(commit), ballot) || is_same(&high, ballot)
-        }
-    }
-}
-
-/// Whether the statement speaks of commit at the ballot's counter.
-fn commits(statement: &Statement, ballot: &LentBallot) -> bool
-    ensures { result ≡ is_one_of (committed_by statement.now) ballot.now }
-{
-    match committed_by(statement) {
+    match one {
         None => false,
-        Some((low, high)) => is_same(&low, ballot) || is_same(&high, ballot),
+        Some(one) => is_same(one, ballot),
     }
 }
 

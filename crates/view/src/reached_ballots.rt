@@ -1,19 +1,18 @@
 //! The ballots that reached rows speak of, listed once and kept from event to event.
 
-ghost use Rattle.std.specs.Prelude.{◌≡◌, ◌∷◌, [], List, IfOk, IsTrue, OnOk, Some, option_map};
-ghost use Rattle.protocol.specs.Candidates.{committed_by, committed_in, named_by, named_in};
+ghost use Rattle.std.specs.Prelude.{◌≡◌, List, IfOk, IsTrue, OnOk, Some, option_map, option_to_list};
 ghost use Rattle.types.specs.Statements.{Sent};
 ghost use Rattle.types.specs.declared.kind.Kind.{Kind};
-ghost use Rattle.fedvote.specs.Mentions.{mentioned_in};
+ghost use Rattle.fedvote.specs.Mentions.{mentioned_by, mentioned_in};
 ghost use Rattle.view.specs.Knowing.{AreBallotsOf, IsHeard, listed_as};
 ghost use Rattle.view.specs.Listing.{AreLeft};
 ghost use Rattle.view.specs.Watching.{rows_of_others};
 
-use crate::listed::{ListedBallots, committed_by};
+use crate::listed::ListedBallots;
 use crate::mentions::is_mentioned;
 use crate::reached::ReachedRows;
 use envstore::Places;
-use fedvote::Mention;
+use fedvote::{Mention, statement_ballots};
 use std::alloc::{AllocError, Global};
 use types::{LentBallot, NodeId, Statement};
 
@@ -57,8 +56,8 @@ impl ReachedBallots {
             if says(last, statement) {
                 continue;
             }
-            named.add_named(statement)?;
-            committed.add_committed(statement)?;
+            named.add_mentioned(Mention::Named, statement)?;
+            committed.add_mentioned(Mention::Committed, statement)?;
             last = Some(statement);
         }
         Ok(ReachedBallots { named, committed })
@@ -76,101 +75,46 @@ impl ReachedBallots {
         requires { rows.now.kind ≡ Kind.Ballot }
         ensures { OnOk result ((old : List Sent) → IsHeard own.now rows.now.nodes old rows.now.table now.now (option_map (λ s. s.now) before.entry) → AreBallotsOf own.now old rows.now.nodes self.old → AreBallotsOf own.now rows.now.table rows.now.nodes self.new) }
     {
-        self.named.add_named(now)?;
-        self.committed.add_committed(now)?;
+        self.named.add_mentioned(Mention::Named, now)?;
+        self.committed.add_mentioned(Mention::Committed, now)?;
         if let Some(before) = before {
-            leave_named(&mut self.named, own, rows, before);
-            leave_committed(&mut self.committed, own, rows, before);
+            leave_mentioned(&mut self.named, Mention::Named, own, rows, before);
+            leave_mentioned(&mut self.committed, Mention::Committed, own, rows, before);
         }
         Ok(())
     }
 }
 
-/// The ballots that a row named which stands no longer are listed no longer, but for those that some row names. It takes
-/// no memory.
-fn leave_named<S: Places>(
+/// The ballots of which a row spoke in this way that stands no longer are listed no longer, but for those of which some
+/// row speaks in this way. It takes no memory.
+fn leave_mentioned<S: Places>(
     listed: &mut ListedBallots,
+    mention: Mention,
     own: &NodeId,
     rows: &ReachedRows<'_, S>,
     before: &Statement,
 )
-    ensures { AreLeft (named_in (rows_of_others own.now rows.now.kind rows.now.table rows.now.nodes)) (named_by before.now) listed.old listed.new }
+    ensures { AreLeft (mentioned_in mention (rows_of_others own.now rows.now.kind rows.now.table rows.now.nodes)) (mentioned_by mention before.now) listed.old listed.new }
 {
-    match before {
-        Statement::Nominate { .. } => {}
-        Statement::Prepare {
-            ballot,
-            prepared,
-            ..
-        } => {
-            unless_mentioned(listed, Mention::Named, own, rows, &LentBallot::of(ballot));
-            if let Some(prepared) = prepared {
-                unless_mentioned(listed, Mention::Named, own, rows, &LentBallot::of(prepared));
-            }
-        }
-        Statement::Commit {
-            ballot,
-            prepared_counter,
-            high_counter,
-            ..
-        } => {
-            unless_mentioned(listed, Mention::Named, own, rows, &LentBallot::of(ballot));
-            unless_mentioned(
-                listed,
-                Mention::Named,
-                own,
-                rows,
-                &LentBallot::at(*prepared_counter, &ballot.value),
-            );
-            unless_mentioned(
-                listed,
-                Mention::Named,
-                own,
-                rows,
-                &LentBallot::at(*high_counter, &ballot.value),
-            );
-        }
-        Statement::Externalize {
-            commit,
-            high_counter,
-        } => {
-            unless_mentioned(listed, Mention::Named, own, rows, &LentBallot::of(commit));
-            unless_mentioned(
-                listed,
-                Mention::Named,
-                own,
-                rows,
-                &LentBallot::at(*high_counter, &commit.value),
-            );
-        }
-    }
+    let ballots = statement_ballots(mention, before);
+    unless_mentioned(listed, mention, own, rows, &ballots.first);
+    unless_mentioned(listed, mention, own, rows, &ballots.second);
+    unless_mentioned(listed, mention, own, rows, &ballots.third);
 }
 
-/// The same of the ballots at whose counters it spoke of commit.
-fn leave_committed<S: Places>(
-    listed: &mut ListedBallots,
-    own: &NodeId,
-    rows: &ReachedRows<'_, S>,
-    before: &Statement,
-)
-    ensures { AreLeft (committed_in (rows_of_others own.now rows.now.kind rows.now.table rows.now.nodes)) (committed_by before.now) listed.old listed.new }
-{
-    if let Some((low, high)) = committed_by(before) {
-        unless_mentioned(listed, Mention::Committed, own, rows, &low);
-        unless_mentioned(listed, Mention::Committed, own, rows, &high);
-    }
-}
-
-/// A ballot is listed no longer, unless some row speaks of it in this way.
+/// A ballot, if there is one, is listed no longer, unless some row speaks of it in this way.
 fn unless_mentioned<S: Places>(
     listed: &mut ListedBallots,
     mention: Mention,
     own: &NodeId,
     rows: &ReachedRows<'_, S>,
-    ballot: &LentBallot,
+    ballot: &Option<LentBallot>,
 )
-    ensures { AreLeft (mentioned_in mention (rows_of_others own.now rows.now.kind rows.now.table rows.now.nodes)) (ballot.now ∷ []) listed.old listed.new }
+    ensures { AreLeft (mentioned_in mention (rows_of_others own.now rows.now.kind rows.now.table rows.now.nodes)) (option_to_list ballot.now) listed.old listed.new }
 {
+    let Some(ballot) = ballot else {
+        return;
+    };
     if is_mentioned(mention, own, rows, ballot) {
         return;
     }

@@ -42,10 +42,10 @@ loop-place-preserved g c =
     let said : ℕ → Option Statement = λ u. said_by_another c.args.own.now (row rows.table u rows.kind) in
     let s = c.in-Some.statement.now in
     record {
-      named = one_listed said named_by rows.nodes before.place s before.named c.add_named.new.self (omega (arith, c.loop-place-test.true, ap (λ (us : List ℕ). length us) c.nodes-place-end.ensures)) (ap (option_map (λ (s : Bor Statement). s.now)) (sym c.in-Some.is) ∙ c.said_by_another.ensures) before.invariant.named c.in_ok-add_named.ensures;
-      committed = one_listed said committed_by rows.nodes before.place s before.committed c.add_committed.new.self (omega (arith, c.loop-place-test.true, ap (λ (us : List ℕ). length us) c.nodes-place-end.ensures)) (ap (option_map (λ (s : Bor Statement). s.now)) (sym c.in-Some.is) ∙ c.said_by_another.ensures) before.invariant.committed c.in_ok-add_committed.ensures;
-      last_named = has_added named_by s before.named c.add_named.new.self c.in_ok-add_named.ensures;
-      last_committed = has_added committed_by s before.committed c.add_committed.new.self c.in_ok-add_committed.ensures;
+      named = one_listed said named_by rows.nodes before.place s before.named c.add_mentioned.new.self (omega (arith, c.loop-place-test.true, ap (λ (us : List ℕ). length us) c.nodes-place-end.ensures)) (ap (option_map (λ (s : Bor Statement). s.now)) (sym c.in-Some.is) ∙ c.said_by_another.ensures) before.invariant.named c.in_ok-add_mentioned.ensures;
+      committed = one_listed said committed_by rows.nodes before.place s before.committed c.add_mentioned-in-loop-place.new.self (omega (arith, c.loop-place-test.true, ap (λ (us : List ℕ). length us) c.nodes-place-end.ensures)) (ap (option_map (λ (s : Bor Statement). s.now)) (sym c.in-Some.is) ∙ c.said_by_another.ensures) before.invariant.committed c.in_ok-add_mentioned-2.ensures;
+      last_named = has_added named_by s before.named c.add_mentioned.new.self c.in_ok-add_mentioned.ensures;
+      last_committed = has_added committed_by s before.committed c.add_mentioned-in-loop-place.new.self c.in_ok-add_mentioned-2.ensures;
     }
 
 pub returns : goal.returns

@@ -16,10 +16,10 @@ returns-in-Some g c = λ old heard are.
     let listed = c.args.self.now in
     let there = subst (IsHeard own rows.nodes old rows.table now) (ap (option_map (λ (s : Bor Statement). s.now)) c.in-Some.is) heard in
     record {
-      named = other_followed own rows.nodes old rows.table now named_by listed.named c.add_named.new.self before c.leave_named.new.listed there are.named c.in_ok-add_named.ensures
-          (subst (λ k. AreLeft (named_in (rows_of_others own k rows.table rows.nodes)) (named_by before) c.add_named.new.self c.leave_named.new.listed) c.requires c.leave_named.ensures);
-      committed = other_followed own rows.nodes old rows.table now committed_by listed.committed c.add_committed.new.self before c.leave_committed.new.listed there are.committed c.in_ok-add_committed.ensures
-          (subst (λ k. AreLeft (committed_in (rows_of_others own k rows.table rows.nodes)) (committed_by before) c.add_committed.new.self c.leave_committed.new.listed) c.requires c.leave_committed.ensures);
+      named = other_followed own rows.nodes old rows.table now named_by listed.named c.add_mentioned.new.self before c.leave_mentioned.new.listed there are.named c.in_ok-add_mentioned.ensures
+          (subst (λ k. AreLeft (named_in (rows_of_others own k rows.table rows.nodes)) (named_by before) c.add_mentioned.new.self c.leave_mentioned.new.listed) c.requires c.leave_mentioned.ensures);
+      committed = other_followed own rows.nodes old rows.table now committed_by listed.committed c.add_mentioned-2.new.self before c.leave_mentioned-in-Some.new.listed there are.committed c.in_ok-add_mentioned-2.ensures
+          (subst (λ k. AreLeft (committed_in (rows_of_others own k rows.table rows.nodes)) (committed_by before) c.add_mentioned-2.new.self c.leave_mentioned-in-Some.new.listed) c.requires c.leave_mentioned-in-Some.ensures);
     }
 
 pub returns-in_default : goal.returns-in_default
@@ -30,6 +30,6 @@ returns-in_default g c = λ old heard are.
     let listed = c.args.self.now in
     let there = subst (IsHeard own rows.nodes old rows.table now) (ap (option_map (λ (s : Bor Statement). s.now)) c.in_default.is) heard in
     record {
-      named = first_followed own rows.nodes old rows.table now named_by listed.named c.add_named.new.self there are.named c.in_ok-add_named.ensures;
-      committed = first_followed own rows.nodes old rows.table now committed_by listed.committed c.add_committed.new.self there are.committed c.in_ok-add_committed.ensures;
+      named = first_followed own rows.nodes old rows.table now named_by listed.named c.add_mentioned.new.self there are.named c.in_ok-add_mentioned.ensures;
+      committed = first_followed own rows.nodes old rows.table now committed_by listed.committed c.add_mentioned-2.new.self there are.committed c.in_ok-add_mentioned-2.ensures;
     }

@@ -1,0 +1,10 @@
+use Rattle.std.proofs.Common.{◌++◌, OnOk, Option, filter, option_to_list, subst, sym}
+use Rattle.types.specs.declared.ballot.Ballot.{Ballot}
+use Rattle.protocol.specs.Candidates.{has_positive_counter}
+use Rattle.view.specs.Listing.{AreListed}
+use Rattle.view.proofs.listed.ListedBallots.add_if.Goals as goal
+
+pub returns-in-Some : goal.returns-in-Some
+returns-in-Some c =
+    subst (λ (o : Option Ballot). OnOk c.add.result (AreListed c.add.new.self (c.args.self.now ++ filter has_positive_counter (option_to_list o))))
+    (sym c.in-Some.is) c.add.ensures
