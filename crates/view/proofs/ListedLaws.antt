@@ -243,7 +243,8 @@ on_ok (Ok x) P Q f h = f h
 on_ok (Err e) P Q f h = h
 
 -- the same of three, where the last may want memory, and the ballots are named otherwise
-pub three_listed : {A E : Type 0} (r : Result A E) (old mid then_mid now ts us vs all : List Ballot) → ts ++ us ++ vs ≡ all
+pub three_listed : {A E : Type 0} (r : Result A E) (old mid then_mid now ts us vs all : List Ballot)
+    → ts ++ us ++ vs ≡ all
     → AreListed mid (old ++ filter has_positive_counter ts) → AreListed then_mid (mid ++ filter has_positive_counter us)
     → OnOk r (AreListed now (then_mid ++ filter has_positive_counter vs))
     → OnOk r (AreListed now (old ++ filter has_positive_counter all))

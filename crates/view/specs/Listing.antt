@@ -1,5 +1,5 @@
 -- Ballots that are listed once, so that each search goes through them in order.
-use Rattle.std.specs.Prelude.{◌≡◌, ◌⊎◌, ℕ, ◌<◌, ◌≤◌, ◌↔◌, Bool, ◌||◌, true, false, List, [], ◌∷◌, Option, Some, None, Result, Ok, Err, get_or, length}
+use Rattle.std.specs.Prelude.{◌≡◌, ◌⊎◌, ℕ, ◌<◌, ◌≤◌, ◌↔◌, Bool, ◌||◌, true, false, List, [], ◌∷◌, Option, Some, Result, Ok, Err, get_or, length}
 use Rattle.std.specs.List.{Contains}
 use Rattle.types.specs.declared.ballot.Ballot.{Ballot}
 use Rattle.protocol.specs.Sameness.{same_ballot}

@@ -7,7 +7,10 @@ use Rattle.view.proofs.reached_ballots.leave_mentioned.Goals as goal
 pub returns : goal.returns
 returns g c =
     let rows = c.args.rows.now in
+    let mention = c.args.mention in
     let b = c.statement_ballots-ballots.result in
-    three_left (mentioned_in c.args.mention (rows_of_others c.args.own.now rows.kind rows.table rows.nodes)) c.args.listed.now c.unless_mentioned.new.listed c.unless_mentioned-2.new.listed c.unless_mentioned-3.new.listed
-    (option_to_list b.first) (option_to_list b.second) (option_to_list b.third) (mentioned_by c.args.mention c.args.before.now)
+    three_left (mentioned_in mention (rows_of_others c.args.own.now rows.kind rows.table rows.nodes))
+    c.args.listed.now c.unless_mentioned.new.listed c.unless_mentioned-2.new.listed c.unless_mentioned-3.new.listed
+    (option_to_list b.first) (option_to_list b.second) (option_to_list b.third)
+    (mentioned_by mention c.args.before.now)
     c.statement_ballots-ballots.ensures c.unless_mentioned.ensures c.unless_mentioned-2.ensures c.unless_mentioned-3.ensures

@@ -3,7 +3,7 @@ use Rattle.types.specs.declared.ballot.Ballot.{Ballot}
 use Rattle.fedvote.specs.Mentions.{mentioned_in}
 use Rattle.view.specs.Listing.{AreLeft}
 use Rattle.view.specs.Watching.{rows_of_others}
-use Rattle.view.proofs.Leaving.{gone_left, none_left, still_left}
+use Rattle.view.proofs.Leaving.{gone_left, still_left}
 use Rattle.view.proofs.reached_ballots.unless_mentioned.Goals as goal
 
 pub returns-then-is_mentioned : goal.returns-then-is_mentioned
@@ -20,4 +20,5 @@ returns g c =
     let staying = mentioned_in c.args.mention (rows_of_others c.args.own.now rows.kind rows.table rows.nodes) in
     let listed = c.args.listed.now in
     subst (λ (o : Option Ballot). AreLeft staying (option_to_list o) listed c.remove.new.self) (sym c.in-Some.is)
-    (gone_left staying listed c.remove.new.self c.in-Some.ballot (sym c.is_mentioned.ensures ∙ c.if-is_mentioned.false) c.remove.ensures)
+    (gone_left staying listed c.remove.new.self c.in-Some.ballot
+    (sym c.is_mentioned.ensures ∙ c.if-is_mentioned.false) c.remove.ensures)

@@ -6,5 +6,8 @@ use Rattle.view.proofs.listed.ListedBallots.add_if.Goals as goal
 
 pub returns-in-Some : goal.returns-in-Some
 returns-in-Some c =
-    subst (λ (o : Option Ballot). OnOk c.add.result (AreListed c.add.new.self (c.args.self.now ++ filter has_positive_counter (option_to_list o))))
+    let old = c.args.self.now in
+    let now = c.add.new.self in
+    subst
+    (λ (o : Option Ballot). OnOk c.add.result (AreListed now (old ++ filter has_positive_counter (option_to_list o))))
     (sym c.in-Some.is) c.add.ensures

@@ -41,11 +41,18 @@ loop-place-preserved g c =
     let before = c.loop-place in
     let said : ℕ → Option Statement = λ u. said_by_another c.args.own.now (row rows.table u rows.kind) in
     let s = c.in-Some.statement.now in
+    let named = c.add_mentioned.new.self in
+    let committed = c.add_mentioned-in-loop-place.new.self in
+    let within : before.place < length rows.nodes =
+    omega (arith, c.loop-place-test.true, ap (λ (us : List ℕ). length us) c.nodes-place-end.ensures) in
+    let is = ap (option_map (λ (s : Bor Statement). s.now)) (sym c.in-Some.is) ∙ c.said_by_another.ensures in
     record {
-      named = one_listed said named_by rows.nodes before.place s before.named c.add_mentioned.new.self (omega (arith, c.loop-place-test.true, ap (λ (us : List ℕ). length us) c.nodes-place-end.ensures)) (ap (option_map (λ (s : Bor Statement). s.now)) (sym c.in-Some.is) ∙ c.said_by_another.ensures) before.invariant.named c.in_ok-add_mentioned.ensures;
-      committed = one_listed said committed_by rows.nodes before.place s before.committed c.add_mentioned-in-loop-place.new.self (omega (arith, c.loop-place-test.true, ap (λ (us : List ℕ). length us) c.nodes-place-end.ensures)) (ap (option_map (λ (s : Bor Statement). s.now)) (sym c.in-Some.is) ∙ c.said_by_another.ensures) before.invariant.committed c.in_ok-add_mentioned-2.ensures;
-      last_named = has_added named_by s before.named c.add_mentioned.new.self c.in_ok-add_mentioned.ensures;
-      last_committed = has_added committed_by s before.committed c.add_mentioned-in-loop-place.new.self c.in_ok-add_mentioned-2.ensures;
+      named = one_listed said named_by rows.nodes before.place s before.named named within is
+          before.invariant.named c.in_ok-add_mentioned.ensures;
+      committed = one_listed said committed_by rows.nodes before.place s before.committed committed within is
+          before.invariant.committed c.in_ok-add_mentioned-2.ensures;
+      last_named = has_added named_by s before.named named c.in_ok-add_mentioned.ensures;
+      last_committed = has_added committed_by s before.committed committed c.in_ok-add_mentioned-2.ensures;
     }
 
 pub returns : goal.returns
