@@ -15,7 +15,8 @@ use Rattle.scphost.specs.Comparisons.{IsComparison}
 use Rattle.scphost.specs.Crowding.{TellsCrowd}
 use Rattle.scphost.specs.Reporting.{IsReport}
 use Rattle.scphost.specs.Scripts.{IsPlannedBy, IsSubmittedBy, IsTold, Story, longest_script}
-use Rattle.scphost.specs.Stops.{IsStatusOf}
+use Rattle.scphost.specs.Scripts.{StopsPlan, StopsStories, StopsStory, StopsSubmissions}
+use Rattle.scphost.specs.Stops.{IsStatusOf, status_of}
 use Rattle.scphost.specs.declared.answer.Answer.{Answer}
 use Rattle.command_line.specs.declared.call.Call.{Call}
 use Rattle.command_line.specs.declared.call.Call.TheVariants.{Table, Run, Closure, Compare, Crowd}
@@ -29,13 +30,14 @@ abbrev pub IsPrinted : Answer → Option Bytes → Option Bytes → ℕ → Type
 IsPrinted a old new status =
     ((status ≡ (if a.differs then 1 else 0)) × Appends old new (string_bytes a.text)) ⊎ (status ≡ 4)
 
--- nothing is written: a script is at fault, or there was no memory; or a write failed
-abbrev pub IsGivenUp : Option Bytes → Option Bytes → ℕ → Type 0
-IsGivenUp old new status = (((status ≡ 2) ⊎ (status ≡ 3)) × Keeps old new) ⊎ (status ≡ 4)
+-- nothing is written, for one of these reasons, with its status; or a write failed
+abbrev pub IsGivenUp : (Stop → Type 0) → Option Bytes → Option Bytes → ℕ → Type 0
+IsGivenUp Why old new status =
+    ((why : Stop) × Why why × (status ≡ status_of why) × Keeps old new) ⊎ (status ≡ 4)
 
--- an answer of this kind is printed, or none is
-abbrev pub HasAnswered : (Answer → Type 0) → Option Bytes → Option Bytes → ℕ → Type 0
-HasAnswered P old new status = ((a : Answer) × P a × IsPrinted a old new status) ⊎ IsGivenUp old new status
+-- an answer of this kind is printed, or none is, for one of these reasons
+abbrev pub HasAnswered : (Answer → Type 0) → (Stop → Type 0) → Option Bytes → Option Bytes → ℕ → Type 0
+HasAnswered P Why old new status = ((a : Answer) × P a × IsPrinted a old new status) ⊎ IsGivenUp Why old new status
 
 -- the answer is the report of a node after a script
 abbrev pub IsReported : Format → Subject → Option Bytes → Answer → Type 0
@@ -73,13 +75,13 @@ IsPerformed (Table file) first second old new status =
 IsPerformed (Run script None) first second old new status =
     HasRunLines Running.Tells Running.RefusesLine unhosted first old new status
 IsPerformed (Run script (Some workers)) first second old new status =
-    HasAnswered (IsPooled workers first) old new status
+    HasAnswered (IsPooled workers first) (StopsPlan first) old new status
 IsPerformed (Closure script subject format) first second old new status =
-    HasAnswered (IsReported format subject first) old new status
+    HasAnswered (IsReported format subject first) (StopsStory false first) old new status
 IsPerformed (Compare one other subject explain) first second old new status =
-    HasAnswered (IsCompared explain subject first second) old new status
+    HasAnswered (IsCompared explain subject first second) (StopsStories explain first second) old new status
 IsPerformed (Crowd one other subject) first second old new status =
-    HasAnswered (IsCrowd subject first second) old new status
+    HasAnswered (IsCrowd subject first second) (StopsSubmissions first second) old new status
 
 -- the same of lines each of which is answered before the next one is read
 abbrev pub HasRunAsTheyCome : {S : Type 0} → Telling S → Refusing S → S → Option Bytes → Option Bytes → Option Bytes → ℕ

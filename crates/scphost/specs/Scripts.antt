@@ -1,8 +1,11 @@
 -- Scripts of networks that commands run to their end without printing.
-use Rattle.std.specs.Prelude.{◌≡◌, ℕ, Bool, not, List, [], Option, Some, None, Result, Ok, IfSome, filter, slice_get, if◌then◌else◌}
+use Rattle.std.specs.Prelude.{◌≡◌, ◌⊎◌, ◌<◌, ℕ, Bool, not, List, [], length, Option, Some, None, Result, Ok, Err, IfSome}
+use Rattle.std.specs.Prelude.{filter, slice_get, if◌then◌else◌}
 use Rattle.std.specs.List.{enumerate_from}
 use Rattle.scripts.specs.Script.{AreLines, Bytes, is_no_record}
 use Rattle.scripts.specs.Runs.{Refusing, Runs, Telling}
+use Rattle.scripts.specs.declared.run.Stop.{Stop}
+use Rattle.scripts.specs.declared.run.Stop.TheVariants as stop
 use Rattle.protocol.specs.Hosts.{History}
 use Rattle.runs.specs.Hosting.{Hosting, unhosted}
 use Rattle.runs.specs.Unprinted.{IsFinishedUnprinted, Unprinted, RefusesUnprinted, TellsUnprinted, origin_in}
@@ -26,6 +29,25 @@ IsTextOf file text = IfSome file (λ left. text ≡ left)
 abbrev pub longest_script : ℕ
 longest_script = 67108864
 
+-- run in order, the line of a text with this number is the first that is bad
+pub record IsFirstBadLine {S : Type 0} (tells : Telling S) (refuses : Refusing S) (start : S) (text : Bytes) (n : ℕ)
+    : Type 0 where
+  pub lines : List Bytes
+  pub printed : Bytes
+  pub end : S
+  pub are_lines : AreLines text lines
+  pub ran : Runs tells refuses start (enumerate_from 1 lines) printed (Err (stop.BadLine n)) end
+
+-- what is known of a file whose run stopped so: it is too long, or this line is the first that is bad. Reads, writes and
+-- memory may fail whatever it holds.
+abbrev pub HasStopped : {S : Type 0} → Telling S → Refusing S → S → Option Bytes → Stop → Type 0
+HasStopped tells refuses start file stop.TooLong = IfSome file (λ left. longest_script < length left)
+HasStopped tells refuses start file (stop.BadLine n) =
+    (text : Bytes) × IsTextOf file text × IsFirstBadLine tells refuses start text n
+HasStopped tells refuses start file stop.CannotRead = Unit {0}
+HasStopped tells refuses start file stop.NoMemory = Unit {0}
+HasStopped tells refuses start file stop.CannotWrite = Unit {0}
+
 -- ---- for what becomes of the networks
 
 -- the networks after a script, and the script
@@ -46,6 +68,15 @@ pub record HasEnded (start : Unprinted) (text : Bytes) (end : Unprinted) : Type 
 -- a file is the script, which is run to its end
 abbrev pub IsTold : Bool → Option Bytes → Story → Type 0
 IsTold traced file story = IsTextOf file story.text × HasEnded (start_of traced) story.text story.run
+
+-- a run of the networks of a file stopped so
+abbrev pub StopsStory : Bool → Option Bytes → Stop → Type 0
+StopsStory traced = HasStopped TellsUnprinted RefusesUnprinted (start_of traced)
+
+-- that of one of two files stopped so; the second one is run where the first one came to its end
+abbrev pub StopsStories : Bool → Option Bytes → Option Bytes → Stop → Type 0
+StopsStories traced one other why =
+    StopsStory traced one why ⊎ ((first : Story) × IsTold traced one first × StopsStory traced other why)
 
 -- the line with a number, counted from 0, among those of a text that are run: neither empty lines nor comments are
 abbrev pub IsLineOf : Bytes → ℕ → Option (ℕ × Bytes) → Type 0
@@ -69,6 +100,15 @@ pub record IsSubmittedBy (file : Option Bytes) (run : Submitting) : Type 0 where
   pub ran : HaveRun Submits RefusesToSubmit unsubmitted text last
   pub finished : IsComplete last run
 
+-- a run of a file for what it submits stopped so
+abbrev pub StopsSubmission : Option Bytes → Stop → Type 0
+StopsSubmission = HasStopped Submits RefusesToSubmit unsubmitted
+
+-- that of one of two files stopped so; the second one is run where the first one came to its end
+abbrev pub StopsSubmissions : Option Bytes → Option Bytes → Stop → Type 0
+StopsSubmissions one other why =
+    StopsSubmission one why ⊎ ((first : Submitting) × IsSubmittedBy one first × StopsSubmission other why)
+
 -- ---- for the jobs of a pool
 
 -- the lines of a file are read in order, and after the last one the networks that are declared with nodes have been
@@ -79,3 +119,7 @@ pub record IsPlannedBy (file : Option Bytes) (plan : Plan) : Type 0 where
   pub last : Plan
   pub ran : HaveRun Puts RefusesToPut unplanned text last
   pub finished : IsCompletePlan last plan
+
+-- a reading of the lines of a file for their jobs stopped so
+abbrev pub StopsPlan : Option Bytes → Stop → Type 0
+StopsPlan = HasStopped Puts RefusesToPut unplanned

@@ -1,10 +1,10 @@
 //! What two scripts submit, side by side.
 
-ghost use Rattle.std.specs.Prelude.{◌≡◌, ◌++◌, IfOk, OnOk, codes, string_bytes};
+ghost use Rattle.std.specs.Prelude.{◌≡◌, ◌++◌, IfErr, IfOk, OnOk, codes, string_bytes};
 ghost use Rattle.std.specs.List.{flat_map};
 ghost use Rattle.scripts.specs.Names.{text_of_name};
 ghost use Rattle.scphost.specs.Crowding.{Tells, TellsCrowd, line, line_of_replied, line_of_reply as line_of};
-ghost use Rattle.scphost.specs.Scripts.{IsSubmittedBy};
+ghost use Rattle.scphost.specs.Scripts.{IsSubmittedBy, StopsSubmission};
 
 use crate::answer::Answer;
 use crowds::{Crowd, Replies, Reply, Submission, crowd};
@@ -19,7 +19,8 @@ use types::{NodeId, Subject};
 /// one the networks that are declared with nodes and that no event has named are declared too. A line that is
 /// bad ends it.
 pub fn read_submission<R: Read>(alloc: Global, script: &mut R) -> Result<SubmissionRun, Stop>
-    ensures { IfOk result (IsSubmittedBy (R.remaining script.old)) }
+    ensures submitted { IfOk result (IsSubmittedBy (R.remaining script.old)) }
+    ensures stopped { IfErr result (StopsSubmission (R.remaining script.old)) }
 {
     let mut run = SubmissionRun::new(alloc);
     run_script(alloc, &mut run, script, &mut io::sink())?;

@@ -1,9 +1,10 @@
 //! Carrying out a call: its files are run, and the status is answered.
 
-ghost use Rattle.std.specs.Prelude.{◌≡◌, IfSome, None};
+ghost use Rattle.std.specs.Prelude.{◌≡◌, IfSome, None, false};
 ghost use Rattle.runs.specs.Hosting.{unhosted};
 ghost use Rattle.runs.specs.Running.{RefusesLine, Tells};
 ghost use Rattle.scphost.specs.Printing.{HasAnswered, HasAnsweredUsage, HasRunLines, IsCompared, IsCrowd, IsPerformed, IsPerformedAsItComes, IsPooled, IsReported};
+ghost use Rattle.scphost.specs.Scripts.{StopsPlan, StopsStories, StopsStory, StopsSubmissions};
 ghost use Rattle.scphost.specs.Stops.{IsStatus, IsStatusOf, status_of};
 
 use crate::answer::write_text;
@@ -141,7 +142,7 @@ fn perform_run<
 >(rt: &A, workers: Option<PoolSize>, file: &Word, script: &mut R, outputs: &mut Outputs<W, E>) -> u8
     ensures status { IsStatus result }
     ensures ran { workers ≡ None → HasRunLines Tells RefusesLine unhosted (R.remaining script.old) (W.contents outputs.old.out) (W.contents outputs.new.out) result }
-    ensures pooled { IfSome workers (λ n. HasAnswered (IsPooled n (R.remaining script.old)) (W.contents outputs.old.out) (W.contents outputs.new.out) result) }
+    ensures pooled { IfSome workers (λ n. HasAnswered (IsPooled n (R.remaining script.old)) (StopsPlan (R.remaining script.old)) (W.contents outputs.old.out) (W.contents outputs.new.out) result) }
 {
     match workers {
         None => {
@@ -161,7 +162,8 @@ fn perform_pool<
     W: Write,
     E: Write,
 >(rt: &A, workers: PoolSize, file: &Word, script: &mut R, outputs: &mut Outputs<W, E>) -> u8
-    ensures { HasAnswered (IsPooled workers (R.remaining script.old)) (W.contents outputs.old.out) (W.contents outputs.new.out) result }
+    ensures { HasAnswered (IsPooled workers (R.remaining script.old)) (StopsPlan (R.remaining script.old))
+        (W.contents outputs.old.out) (W.contents outputs.new.out) result }
 {
     match answer_pool(rt, script, workers) {
         Ok(answer) => answer.print(outputs),
@@ -176,7 +178,8 @@ fn perform_closure<R: Read, W: Write, E: Write>(
     script: &mut R,
     outputs: &mut Outputs<W, E>,
 ) -> u8
-    ensures { HasAnswered (IsReported request.now.format request.now.subject.now (R.remaining script.old)) (W.contents outputs.old.out) (W.contents outputs.new.out) result }
+    ensures { HasAnswered (IsReported request.now.format request.now.subject.now (R.remaining script.old))
+        (StopsStory false (R.remaining script.old)) (W.contents outputs.old.out) (W.contents outputs.new.out) result }
 {
     let finished = match FinishedScript::read_and_run(alloc, script, false) {
         Ok(finished) => finished,
@@ -197,6 +200,7 @@ fn perform_compare<R: Read, T: Read, W: Write, E: Write>(
     outputs: &mut Outputs<W, E>,
 ) -> u8
     ensures { HasAnswered (IsCompared request.now.explain request.now.subject.now (R.remaining first.old) (T.remaining second.old))
+        (StopsStories request.now.explain (R.remaining first.old) (T.remaining second.old))
         (W.contents outputs.old.out) (W.contents outputs.new.out) result }
 {
     let first = match FinishedScript::read_and_run(alloc, first, request.explain) {
@@ -232,6 +236,7 @@ fn perform_crowd<R: Read, T: Read, W: Write, E: Write>(
     outputs: &mut Outputs<W, E>,
 ) -> u8
     ensures { HasAnswered (IsCrowd request.now.subject.now (R.remaining first.old) (T.remaining second.old))
+        (StopsSubmissions (R.remaining first.old) (T.remaining second.old))
         (W.contents outputs.old.out) (W.contents outputs.new.out) result }
 {
     let first = match read_submission(alloc, first) {

@@ -1,8 +1,8 @@
 //! A script whose events are jobs of a pool of workers.
 
-ghost use Rattle.std.specs.Prelude.{IfOk};
+ghost use Rattle.std.specs.Prelude.{IfErr, IfOk};
 ghost use Rattle.scphost.specs.Printing.{IsPooled};
-ghost use Rattle.scphost.specs.Scripts.{IsPlannedBy};
+ghost use Rattle.scphost.specs.Scripts.{IsPlannedBy, StopsPlan};
 
 use crate::answer::Answer;
 use command_line::PoolSize;
@@ -22,7 +22,8 @@ pub fn answer_pool<A: AllocGlobal + Threads + Wait + Sync + Send + Copy + Drop, 
     script: &mut R,
     workers: PoolSize,
 ) -> Result<Answer, Stop>
-    ensures { IfOk result (IsPooled workers (R.remaining script.old)) }
+    ensures pooled { IfOk result (IsPooled workers (R.remaining script.old)) }
+    ensures stopped { IfErr result (StopsPlan (R.remaining script.old)) }
 {
     let alloc = rt.alloc();
     let jobs = read_jobs(alloc, script)?;
@@ -40,7 +41,8 @@ pub fn answer_pool<A: AllocGlobal + Threads + Wait + Sync + Send + Copy + Drop, 
 /// Reads a script whole for the jobs of its lines. After the last one the networks that are declared with nodes
 /// and that no event has named are declared too. A line that is bad ends it.
 fn read_jobs<R: Read>(alloc: Global, script: &mut R) -> Result<JobRun, Stop>
-    ensures { IfOk result (IsPlannedBy (R.remaining script.old)) }
+    ensures planned { IfOk result (IsPlannedBy (R.remaining script.old)) }
+    ensures stopped { IfErr result (StopsPlan (R.remaining script.old)) }
 {
     let mut run = JobRun::new(alloc);
     run_script(alloc, &mut run, script, &mut io::sink())?;

@@ -1,8 +1,8 @@
 //! Scripts of networks that are run to their end without printing.
 
-ghost use Rattle.std.specs.Prelude.{◌≡◌, ◌≤◌, IfOk, length, option_map};
+ghost use Rattle.std.specs.Prelude.{◌≡◌, ◌≤◌, IfErr, IfOk, Some, length, option_map};
 ghost use Rattle.runs.specs.Unprinted.{origin_in};
-ghost use Rattle.scphost.specs.Scripts.{HasEnded, IsLineAt, IsLineOf, IsTold, start_of};
+ghost use Rattle.scphost.specs.Scripts.{HasEnded, IsLineAt, IsLineOf, IsTold, StopsStory, start_of};
 ghost use Rattle.scripts.specs.Script.{is_no_record as no_record};
 
 use runs::UnprintedRun;
@@ -45,7 +45,8 @@ impl FinishedScript {
         script: &mut R,
         traced: bool,
     ) -> Result<FinishedScript, Stop>
-        ensures { IfOk result (IsTold traced (R.remaining script.old)) }
+        ensures told { IfOk result (IsTold traced (R.remaining script.old)) }
+        ensures stopped { IfErr result (StopsStory traced (R.remaining script.old)) }
     {
         let text = read_whole(alloc, script)?;
         let run = run_to_end(alloc, &text, traced)?;
@@ -73,7 +74,8 @@ impl FinishedScript {
 
 /// Runs the lines of a text in order without printing, and ends the run.
 fn run_to_end(alloc: Global, text: &[u8], traced: bool) -> Result<UnprintedRun, Stop>
-    ensures { IfOk result (HasEnded (start_of traced) text.now) }
+    ensures ended { IfOk result (HasEnded (start_of traced) text.now) }
+    ensures stopped { IfErr result (StopsStory traced (Some text.now)) }
 {
     let mut run = new_run(alloc, traced);
     let mut lines = text;
