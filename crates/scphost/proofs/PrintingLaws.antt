@@ -11,35 +11,36 @@ use Rattle.runs.specs.Running
 use Rattle.scphost.specs.Printing.{HasAnswered, HasRunLines, IsCompared, IsCrowd, IsPerformed, IsPooled, IsPrinted, IsReported}
 use Rattle.scphost.specs.Reporting.{IsReport}
 use Rattle.scphost.specs.Scripts.{IsSubmittedBy, IsTold, StopsPlan, StopsStories, StopsStory, StopsSubmissions, Story}
+use Rattle.scphost.specs.Stops.{End}
 use Rattle.scphost.specs.declared.answer.Answer.{Answer}
 use Rattle.command_line.specs.declared.call.Call.TheVariants.{Run}
 use Rattle.command_line.specs.declared.subject.Format.{Format}
 use Rattle.types.specs.declared.subject.Subject.{Subject}
 
 -- an answer is printed
-pub has-reported : (format : Format) (subject : Subject) (file old new : Option Bytes) (status : ℕ) (story : Story) (a : Answer) → IsTold false file story
-    → IsReport format subject story.run.hosting.logs a → IsPrinted a old new status → HasAnswered (IsReported format subject file) (StopsStory false file) old new status
-has-reported format subject file old new status story a told right printed = inl (a, (story, told, right), printed)
+pub has-reported : (format : Format) (subject : Subject) (file old new : Option Bytes) (end : End) (story : Story) (a : Answer) → IsTold false file story
+    → IsReport format subject story.run.hosting.logs a → IsPrinted a old new end → HasAnswered (IsReported format subject file) (StopsStory false file) old new end
+has-reported format subject file old new end story a told right printed = inl (a, (story, told, right), printed)
 
-pub has-compared : (explain : Bool) (subject : Subject) (one other old new : Option Bytes) (status : ℕ) (first second : Story) (a : Answer)
+pub has-compared : (explain : Bool) (subject : Subject) (one other old new : Option Bytes) (end : End) (first second : Story) (a : Answer)
     → IsTold explain one first → IsTold explain other second
-    → IsComparison first.run.hosting.logs second.run.hosting.logs subject.net subject.slot subject.node explain a → IsPrinted a old new status
-    → HasAnswered (IsCompared explain subject one other) (StopsStories explain one other) old new status
-has-compared explain subject one other old new status first second a told also right printed = inl (a, (first, second, told, also, right), printed)
+    → IsComparison first.run.hosting.logs second.run.hosting.logs subject.net subject.slot subject.node explain a → IsPrinted a old new end
+    → HasAnswered (IsCompared explain subject one other) (StopsStories explain one other) old new end
+has-compared explain subject one other old new end first second a told also right printed = inl (a, (first, second, told, also, right), printed)
 
-pub has-crowded : (subject : Subject) (one other old new : Option Bytes) (status : ℕ) (first second : Submitting) (h k : History) (a : Answer)
-    → IsSubmittedBy one first → IsSubmittedBy other second → h ≡ first.history → k ≡ second.history → TellsCrowd h k subject a → IsPrinted a old new status
-    → HasAnswered (IsCrowd subject one other) (StopsSubmissions one other) old new status
-has-crowded subject one other old new status first second h k a told also e f right printed =
+pub has-crowded : (subject : Subject) (one other old new : Option Bytes) (end : End) (first second : Submitting) (h k : History) (a : Answer)
+    → IsSubmittedBy one first → IsSubmittedBy other second → h ≡ first.history → k ≡ second.history → TellsCrowd h k subject a → IsPrinted a old new end
+    → HasAnswered (IsCrowd subject one other) (StopsSubmissions one other) old new end
+has-crowded subject one other old new end first second h k a told also e f right printed =
     inl (a, (first, second, told, also, subst (λ x. TellsCrowd first.history x subject a) f (subst (λ x. TellsCrowd x k subject a) e right)), printed)
 
-pub has-pooled : (workers : ℕ) (file old new : Option Bytes) (status : ℕ) (a : Answer) → IsPooled workers file a → IsPrinted a old new status
-    → HasAnswered (IsPooled workers file) (StopsPlan file) old new status
-has-pooled workers file old new status a right printed = inl (a, right, printed)
+pub has-pooled : (workers : ℕ) (file old new : Option Bytes) (end : End) (a : Answer) → IsPooled workers file a → IsPrinted a old new end
+    → HasAnswered (IsPooled workers file) (StopsPlan file) old new end
+has-pooled workers file old new end a right printed = inl (a, right, printed)
 
 -- a run is one of lines or, on workers, of jobs
-pub run-performed : (script : Bytes) (workers : Option ℕ) (first second old new : Option Bytes) (status : ℕ)
-    → (workers ≡ None → HasRunLines Running.Tells Running.RefusesLine unhosted first old new status)
-    → IfSome workers (λ n. HasAnswered (IsPooled n first) (StopsPlan first) old new status) → IsPerformed (Run script workers) first second old new status
-run-performed script None first second old new status ran answered = ran refl
-run-performed script (Some n) first second old new status ran answered = answered
+pub run-performed : (script : Bytes) (workers : Option ℕ) (first second old new : Option Bytes) (end : End)
+    → (workers ≡ None → HasRunLines Running.Tells Running.RefusesLine unhosted first old new end)
+    → IfSome workers (λ n. HasAnswered (IsPooled n first) (StopsPlan first) old new end) → IsPerformed (Run script workers) first second old new end
+run-performed script None first second old new end ran answered = ran refl
+run-performed script (Some n) first second old new end ran answered = answered

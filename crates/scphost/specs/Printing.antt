@@ -1,10 +1,11 @@
--- What the commands print, and the exit status.
-use Rattle.std.specs.Prelude.{◌≡◌, ◌⊎◌, ℕ, Bool, false, [], Option, Some, None, Result, string_bytes, if◌then◌else◌}
+-- What the commands print, and how they end.
+use Rattle.std.specs.Prelude.{◌≡◌, ◌⊎◌, ℕ, Bool, false, [], Option, Some, None, Result, Ok, Err, string_bytes}
 use Rattle.std.specs.Io.KnownBytes.{Appends, Keeps}
 use Rattle.scripts.specs.Script.{Bytes}
 use Rattle.scripts.specs.Runs.{HasRunScript, Refusing, Telling}
 use Rattle.scripts.specs.Streams.{HasRunStream}
 use Rattle.scripts.specs.declared.run.Stop.{Stop}
+use Rattle.scripts.specs.declared.run.Stop.TheVariants as stop
 use Rattle.tables.specs.TableLines
 use Rattle.runs.specs.Hosting.{unhosted}
 use Rattle.runs.specs.Running
@@ -16,7 +17,7 @@ use Rattle.scphost.specs.Crowding.{TellsCrowd}
 use Rattle.scphost.specs.Reporting.{IsReport}
 use Rattle.scphost.specs.Scripts.{IsPlannedBy, IsSubmittedBy, IsTold, Story, longest_script}
 use Rattle.scphost.specs.Scripts.{StopsPlan, StopsStories, StopsStory, StopsSubmissions}
-use Rattle.scphost.specs.Stops.{IsStatusOf, status_of}
+use Rattle.scphost.specs.Stops.{End, IsEndOf}
 use Rattle.scphost.specs.declared.answer.Answer.{Answer}
 use Rattle.command_line.specs.declared.call.Call.{Call}
 use Rattle.command_line.specs.declared.call.Call.TheVariants.{Table, Run, Closure, Compare, Crowd}
@@ -25,19 +26,19 @@ use Rattle.command_line.specs.declared.call.Usage.TheVariants.{Help, Bad, NoMemo
 use Rattle.command_line.specs.declared.subject.Format.{Format}
 use Rattle.types.specs.declared.subject.Subject.{Subject}
 
--- the whole answer is written, with 1 for a difference, or a write failed
-abbrev pub IsPrinted : Answer → Option Bytes → Option Bytes → ℕ → Type 0
-IsPrinted a old new status =
-    ((status ≡ (if a.differs then 1 else 0)) × Appends old new (string_bytes a.text)) ⊎ (status ≡ 4)
+-- the whole answer is written, and told whether it is a difference; or a write failed
+abbrev pub IsPrinted : Answer → Option Bytes → Option Bytes → End → Type 0
+IsPrinted a old new end =
+    ((end ≡ Ok a.differs) × Appends old new (string_bytes a.text)) ⊎ (end ≡ Err stop.CannotWrite)
 
--- nothing is written, for one of these reasons, with its status; or a write failed
-abbrev pub IsGivenUp : (Stop → Type 0) → Option Bytes → Option Bytes → ℕ → Type 0
-IsGivenUp Why old new status =
-    ((why : Stop) × Why why × (status ≡ status_of why) × Keeps old new) ⊎ (status ≡ 4)
+-- nothing is written, for one of these reasons, which is told; or a write failed
+abbrev pub IsGivenUp : (Stop → Type 0) → Option Bytes → Option Bytes → End → Type 0
+IsGivenUp Why old new end =
+    ((why : Stop) × Why why × (end ≡ Err why) × Keeps old new) ⊎ (end ≡ Err stop.CannotWrite)
 
 -- an answer of this kind is printed, or none is, for one of these reasons
-abbrev pub HasAnswered : (Answer → Type 0) → (Stop → Type 0) → Option Bytes → Option Bytes → ℕ → Type 0
-HasAnswered P Why old new status = ((a : Answer) × P a × IsPrinted a old new status) ⊎ IsGivenUp Why old new status
+abbrev pub HasAnswered : (Answer → Type 0) → (Stop → Type 0) → Option Bytes → Option Bytes → End → Type 0
+HasAnswered P Why old new end = ((a : Answer) × P a × IsPrinted a old new end) ⊎ IsGivenUp Why old new end
 
 -- the answer is the report of a node after a script
 abbrev pub IsReported : Format → Subject → Option Bytes → Answer → Type 0
@@ -60,50 +61,50 @@ IsPooled workers script a =
     (plan : Plan) × IsPlannedBy script plan × (a.differs ≡ false)
     × IsPoolText plan.submitted.history.configs plan.submitted.history.calls plan.opens workers (string_bytes a.text)
 
--- the lines of a script are run in order, from this state on, and what they print is written; the status says how the
--- run ended
-abbrev pub HasRunLines : {S : Type 0} → Telling S → Refusing S → S → Option Bytes → Option Bytes → Option Bytes → ℕ
+-- the lines of a script are run in order, from this state on, and what they print is written; it is told how the run
+-- ended
+abbrev pub HasRunLines : {S : Type 0} → Telling S → Refusing S → S → Option Bytes → Option Bytes → Option Bytes → End
     → Type 0
-HasRunLines {S = S} tells refuses start script old new status =
-    (end : Result (Unit {0}) Stop) × (last : S) × IsStatusOf end status
-    × HasRunScript tells refuses start script old new end last
+HasRunLines {S = S} tells refuses start script old new end =
+    (ran : Result (Unit {0}) Stop) × (last : S) × IsEndOf ran end
+    × HasRunScript tells refuses start script old new ran last
 
 -- what a call does with its files: it runs the lines of one, or prints the answer
-abbrev pub IsPerformed : Call → Option Bytes → Option Bytes → Option Bytes → Option Bytes → ℕ → Type 0
-IsPerformed (Table file) first second old new status =
-    HasRunLines TableLines.Tells TableLines.Refuses None first old new status
-IsPerformed (Run script None) first second old new status =
-    HasRunLines Running.Tells Running.RefusesLine unhosted first old new status
-IsPerformed (Run script (Some workers)) first second old new status =
-    HasAnswered (IsPooled workers first) (StopsPlan first) old new status
-IsPerformed (Closure script subject format) first second old new status =
-    HasAnswered (IsReported format subject first) (StopsStory false first) old new status
-IsPerformed (Compare one other subject explain) first second old new status =
-    HasAnswered (IsCompared explain subject first second) (StopsStories explain first second) old new status
-IsPerformed (Crowd one other subject) first second old new status =
-    HasAnswered (IsCrowd subject first second) (StopsSubmissions first second) old new status
+abbrev pub IsPerformed : Call → Option Bytes → Option Bytes → Option Bytes → Option Bytes → End → Type 0
+IsPerformed (Table file) first second old new end =
+    HasRunLines TableLines.Tells TableLines.Refuses None first old new end
+IsPerformed (Run script None) first second old new end =
+    HasRunLines Running.Tells Running.RefusesLine unhosted first old new end
+IsPerformed (Run script (Some workers)) first second old new end =
+    HasAnswered (IsPooled workers first) (StopsPlan first) old new end
+IsPerformed (Closure script subject format) first second old new end =
+    HasAnswered (IsReported format subject first) (StopsStory false first) old new end
+IsPerformed (Compare one other subject explain) first second old new end =
+    HasAnswered (IsCompared explain subject first second) (StopsStories explain first second) old new end
+IsPerformed (Crowd one other subject) first second old new end =
+    HasAnswered (IsCrowd subject first second) (StopsSubmissions first second) old new end
 
 -- the same of lines each of which is answered before the next one is read
-abbrev pub HasRunAsTheyCome : {S : Type 0} → Telling S → Refusing S → S → Option Bytes → Option Bytes → Option Bytes → ℕ
-    → Type 0
-HasRunAsTheyCome {S = S} tells refuses start input old new status =
-    (end : Result (Unit {0}) Stop) × (last : S) × IsStatusOf end status
-    × HasRunStream longest_script tells refuses start input old new end last
+abbrev pub HasRunAsTheyCome : {S : Type 0} → Telling S → Refusing S → S → Option Bytes → Option Bytes → Option Bytes
+    → End → Type 0
+HasRunAsTheyCome {S = S} tells refuses start input old new end =
+    (ran : Result (Unit {0}) Stop) × (last : S) × IsEndOf ran end
+    × HasRunStream longest_script tells refuses start input old new ran last
 
 -- what a call does with the standard input: it runs its lines as they come, or is performed on all of it
-abbrev pub IsPerformedAsItComes : Call → Option Bytes → Option Bytes → Option Bytes → ℕ → Type 0
-IsPerformedAsItComes (Table file) input old new status =
-    HasRunAsTheyCome TableLines.Tells TableLines.Refuses None input old new status
-IsPerformedAsItComes (Run script None) input old new status =
-    HasRunAsTheyCome Running.Tells Running.RefusesLine unhosted input old new status
-IsPerformedAsItComes (Run script (Some workers)) input old new status =
-    IsPerformed (Run script (Some workers)) input (Some []) old new status
-IsPerformedAsItComes (Closure script subject format) input old new status =
-    IsPerformed (Closure script subject format) input (Some []) old new status
-IsPerformedAsItComes (Compare one other subject explain) input old new status =
-    IsPerformed (Compare one other subject explain) input (Some []) old new status
-IsPerformedAsItComes (Crowd one other subject) input old new status =
-    IsPerformed (Crowd one other subject) input (Some []) old new status
+abbrev pub IsPerformedAsItComes : Call → Option Bytes → Option Bytes → Option Bytes → End → Type 0
+IsPerformedAsItComes (Table file) input old new end =
+    HasRunAsTheyCome TableLines.Tells TableLines.Refuses None input old new end
+IsPerformedAsItComes (Run script None) input old new end =
+    HasRunAsTheyCome Running.Tells Running.RefusesLine unhosted input old new end
+IsPerformedAsItComes (Run script (Some workers)) input old new end =
+    IsPerformed (Run script (Some workers)) input (Some []) old new end
+IsPerformedAsItComes (Closure script subject format) input old new end =
+    IsPerformed (Closure script subject format) input (Some []) old new end
+IsPerformedAsItComes (Compare one other subject explain) input old new end =
+    IsPerformed (Compare one other subject explain) input (Some []) old new end
+IsPerformedAsItComes (Crowd one other subject) input old new end =
+    IsPerformed (Crowd one other subject) input (Some []) old new end
 
 -- what answers words that are no call: help is printed whole, or a write failed (4); else nothing is printed, and the
 -- words are at fault (2), or there was no memory (3)

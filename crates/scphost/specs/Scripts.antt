@@ -1,14 +1,13 @@
 -- Scripts of networks that commands run to their end without printing.
-use Rattle.std.specs.Prelude.{◌≡◌, ◌⊎◌, ◌<◌, ℕ, Bool, not, List, [], length, Option, Some, None, Result, Ok, Err, IfSome}
+use Rattle.std.specs.Prelude.{◌≡◌, ◌⊎◌, ◌<◌, ℕ, Bool, not, List, [], length, Option, Some, None, Ok, Err, IfSome}
 use Rattle.std.specs.Prelude.{filter, slice_get, if◌then◌else◌}
 use Rattle.std.specs.List.{enumerate_from}
 use Rattle.scripts.specs.Script.{AreLines, Bytes, is_no_record}
 use Rattle.scripts.specs.Runs.{Refusing, Runs, Telling}
 use Rattle.scripts.specs.declared.run.Stop.{Stop}
 use Rattle.scripts.specs.declared.run.Stop.TheVariants as stop
-use Rattle.protocol.specs.Hosts.{History}
-use Rattle.runs.specs.Hosting.{Hosting, unhosted}
-use Rattle.runs.specs.Unprinted.{IsFinishedUnprinted, Unprinted, RefusesUnprinted, TellsUnprinted, origin_in}
+use Rattle.runs.specs.Hosting.{unhosted}
+use Rattle.runs.specs.Unprinted.{IsFinishedUnprinted, Unprinted, RefusesUnprinted, TellsUnprinted}
 use Rattle.runs.specs.Plans.{Plan, unplanned}
 use Rattle.runs.specs.Putting.{IsCompletePlan, Puts, RefusesToPut}
 use Rattle.runs.specs.Submitting.{IsComplete, RefusesToSubmit, Submits, Submitting, unsubmitted}

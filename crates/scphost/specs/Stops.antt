@@ -1,5 +1,5 @@
 -- The exit status of each way to end.
-use Rattle.std.specs.Prelude.{◌≡◌, ◌⊎◌, ◌==◌, ℕ, Bool, [], ◌∷◌, IsTrue, Result, MatchResult, if◌then◌else◌}
+use Rattle.std.specs.Prelude.{◌≡◌, ◌==◌, ℕ, Bool, false, [], ◌∷◌, IsTrue, Result, Ok, Err, MatchResult, if◌then◌else◌}
 use Rattle.std.specs.List.{list_any}
 use Rattle.scripts.specs.declared.run.Stop.{Stop}
 use Rattle.scripts.specs.declared.run.Stop.TheVariants as stop
@@ -16,10 +16,15 @@ status_of stop.CannotWrite = 4
 abbrev pub IsStatus : ℕ → Type 0
 IsStatus status = IsTrue (list_any (λ known. known == status) (0 ∷ 1 ∷ 2 ∷ 3 ∷ 4 ∷ []))
 
--- the status of an answer that was written, or not: 1 where two scripts differ
-abbrev pub IsStatusOfAnswer : Bool → ℕ → Type 0
-IsStatusOfAnswer differs status = (status ≡ (if differs then 1 else 0)) ⊎ (status ≡ 4)
+-- how a call ended: whether what it compared differs, or what stopped it
+abbrev pub End : Type 0
+End = Result Bool Stop
 
--- the status of a run
-abbrev pub IsStatusOf : Result (Unit {0}) Stop → ℕ → Type 0
-IsStatusOf ran status = MatchResult ran (λ _. status ≡ 0) (λ stop. status ≡ status_of stop)
+-- the exit status: 1 for a difference
+abbrev pub status_of_end : End → ℕ
+status_of_end (Ok differs) = if differs then 1 else 0
+status_of_end (Err stop) = status_of stop
+
+-- a call ended as the run of its lines did, which compares nothing
+abbrev pub IsEndOf : Result (Unit {0}) Stop → End → Type 0
+IsEndOf ran end = MatchResult ran (λ _. end ≡ Ok false) (λ stop. end ≡ Err stop)

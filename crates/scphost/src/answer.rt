@@ -4,7 +4,7 @@ ghost use Rattle.std.specs.Prelude.{OnOk, string_bytes};
 ghost use Rattle.std.specs.Io.KnownBytes.{Appends};
 
 use crate::outputs::Outputs;
-use crate::perform::{DIFFERS, DONE, print_stop};
+use crate::perform::print_stop;
 use scripts::Stop;
 use std::io;
 use std::io::Write;
@@ -21,14 +21,14 @@ pub struct Answer {
 impl Answer {
     ghost use Rattle.scphost.specs.Printing.{IsPrinted};
 
-    /// Prints the answer, and gives the exit status.
-    pub fn print<W: Write, E: Write>(&self, outputs: &mut Outputs<W, E>) -> u8
+    /// Prints the answer, and says whether two scripts differ.
+    pub fn print<W: Write, E: Write>(&self, outputs: &mut Outputs<W, E>) -> Result<bool, Stop>
         ensures { IsPrinted self.now (W.contents outputs.old.out) (W.contents outputs.new.out) result }
     {
         if write_text(&self.text, &mut outputs.out).is_err() {
             return print_stop(Stop::CannotWrite, "", &mut outputs.err);
         }
-        if self.differs { DIFFERS } else { DONE }
+        Ok(self.differs)
     }
 }
 

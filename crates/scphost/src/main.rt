@@ -15,7 +15,7 @@ mod tests;
 
 use command_line::{Call, Usage, read_call};
 use outputs::Outputs;
-use perform::{perform, perform_stream, print_stop, print_usage};
+use perform::{exit_status, perform, perform_stream, print_stop, print_usage};
 use scripts::Stop;
 use std::io::{BufWriter, ErrorKind, Input, Read, Write};
 use std::process::ExitCode;
@@ -30,7 +30,7 @@ fn main(rt: HostRuntime) -> ExitCode {
     let mut err = rt.stderr();
     let status = match BufWriter::new(rt.alloc(), rt.stdout()) {
         Ok(out) => run_command_line(&rt, Outputs { out, err }),
-        Err(_) => print_stop(Stop::NoMemory, "", &mut err),
+        Err(_) => exit_status(print_stop(Stop::NoMemory, "", &mut err)),
     };
     ExitCode::from(status)
 }
@@ -44,7 +44,7 @@ fn run_command_line<
 >(rt: &R, outputs: Outputs<BufWriter<W>, E>) -> u8 {
     let mut outputs = outputs;
     let status = match read_command_line(rt) {
-        Ok(call) => open_and_perform(rt, &call, &mut outputs),
+        Ok(call) => exit_status(open_and_perform(rt, &call, &mut outputs)),
         Err(usage) => print_usage(&usage, &mut outputs),
     };
     let Outputs { out, err: _ } = outputs;
@@ -70,7 +70,7 @@ fn open_and_perform<
     R: Files + Input + AllocGlobal + Threads + Wait + Sync + Send + Copy + Drop,
     W: Write,
     E: Write,
->(rt: &R, call: &Call, outputs: &mut Outputs<W, E>) -> u8 {
+>(rt: &R, call: &Call, outputs: &mut Outputs<W, E>) -> Result<bool, Stop> {
     match call {
         Call::Table { file }
         | Call::Run { script: file, .. }
@@ -86,7 +86,7 @@ fn perform_one<
     R: Files + Input + AllocGlobal + Threads + Wait + Sync + Send + Copy + Drop,
     W: Write,
     E: Write,
->(rt: &R, call: &Call, file: &str, outputs: &mut Outputs<W, E>) -> u8 {
+>(rt: &R, call: &Call, file: &str, outputs: &mut Outputs<W, E>) -> Result<bool, Stop> {
     if file == "-" {
         return perform_stream(rt, call, &mut rt.reader(), outputs);
     }
@@ -101,7 +101,7 @@ fn perform_two<
     R: Files + Input + AllocGlobal + Threads + Wait + Sync + Send + Copy + Drop,
     W: Write,
     E: Write,
->(rt: &R, call: &Call, one: &str, other: &str, outputs: &mut Outputs<W, E>) -> u8 {
+>(rt: &R, call: &Call, one: &str, other: &str, outputs: &mut Outputs<W, E>) -> Result<bool, Stop> {
     if one == "-" {
         return perform_with_second(rt, call, &mut rt.reader(), other, outputs);
     }
@@ -122,7 +122,13 @@ fn perform_with_second<
     F: Read,
     W: Write,
     E: Write,
->(rt: &R, call: &Call, first: &mut F, other: &str, outputs: &mut Outputs<W, E>) -> u8 {
+>(
+    rt: &R,
+    call: &Call,
+    first: &mut F,
+    other: &str,
+    outputs: &mut Outputs<W, E>,
+) -> Result<bool, Stop> {
     match fs::open(rt, other) {
         Ok(mut second) => perform(rt, call, first, &mut second, outputs),
         Err(_) => print_stop(Stop::CannotRead, other, &mut outputs.err),

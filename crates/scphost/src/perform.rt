@@ -1,11 +1,11 @@
-//! Carrying out a call: its files are run, and the status is answered.
+//! Carrying out a call: its files are run, and how it ended is answered.
 
-ghost use Rattle.std.specs.Prelude.{◌≡◌, IfSome, None, false};
+ghost use Rattle.std.specs.Prelude.{◌≡◌, Err, IfSome, None, false};
 ghost use Rattle.runs.specs.Hosting.{unhosted};
 ghost use Rattle.runs.specs.Running.{RefusesLine, Tells};
 ghost use Rattle.scphost.specs.Printing.{HasAnswered, HasAnsweredUsage, HasRunLines, IsCompared, IsCrowd, IsPerformed, IsPerformedAsItComes, IsPooled, IsReported};
 ghost use Rattle.scphost.specs.Scripts.{StopsPlan, StopsStories, StopsStory, StopsSubmissions};
-ghost use Rattle.scphost.specs.Stops.{IsStatus, IsStatusOf, status_of};
+ghost use Rattle.scphost.specs.Stops.{IsEndOf, IsStatus, status_of_end};
 
 use crate::answer::write_text;
 use crate::comparing::{Side, Sides, answer_compare};
@@ -41,11 +41,9 @@ pub const NO_MEMORY: u8 = 3;
 pub const NO_WRITE: u8 = 4;
 
 /// Carries out a call on the files that it names, in their order, of which the second is empty
-/// where it names one, and answers the exit status.
+/// where it names one, and answers how it ended: whether what it compared differs, or what stopped it.
 ///
-/// What the call prints goes to `outputs.out`, and one line on what ended it early to `outputs.err`: status 2 for
-/// a file that cannot be read, is too long or has a bad line, 3 for want of memory, 4 for a write
-/// to `out` that failed; status 1 is the answer of a comparison that finds a difference. Of `table` and
+/// What the call prints goes to `outputs.out`, and one line on what ended it early to `outputs.err`. Of `table` and
 /// `run` what lines before a bad one printed is written by then; `closure`, `compare` and `crowd` print
 /// nothing before all files have been run to their ends, the first one before the second is read, and `run`
 /// with workers runs no event before all lines have been read. A write to `err` that fails changes nothing.
@@ -55,9 +53,14 @@ pub fn perform<
     T: Read,
     W: Write,
     E: Write,
->(rt: &A, call: &Call, first: &mut R, second: &mut T, outputs: &mut Outputs<W, E>) -> u8
-    ensures status { IsStatus result }
-    ensures performed { IsPerformed call.now (R.remaining first.old) (T.remaining second.old) (W.contents outputs.old.out) (W.contents outputs.new.out) result }
+>(
+    rt: &A,
+    call: &Call,
+    first: &mut R,
+    second: &mut T,
+    outputs: &mut Outputs<W, E>,
+) -> Result<bool, Stop>
+    ensures { IsPerformed call.now (R.remaining first.old) (T.remaining second.old) (W.contents outputs.old.out) (W.contents outputs.new.out) result }
 {
     let alloc = rt.alloc();
     match call {
@@ -139,8 +142,13 @@ fn perform_run<
     R: Read,
     W: Write,
     E: Write,
->(rt: &A, workers: Option<PoolSize>, file: &Word, script: &mut R, outputs: &mut Outputs<W, E>) -> u8
-    ensures status { IsStatus result }
+>(
+    rt: &A,
+    workers: Option<PoolSize>,
+    file: &Word,
+    script: &mut R,
+    outputs: &mut Outputs<W, E>,
+) -> Result<bool, Stop>
     ensures ran { workers ≡ None → HasRunLines Tells RefusesLine unhosted (R.remaining script.old) (W.contents outputs.old.out) (W.contents outputs.new.out) result }
     ensures pooled { IfSome workers (λ n. HasAnswered (IsPooled n (R.remaining script.old)) (StopsPlan (R.remaining script.old)) (W.contents outputs.old.out) (W.contents outputs.new.out) result) }
 {
@@ -161,7 +169,13 @@ fn perform_pool<
     R: Read,
     W: Write,
     E: Write,
->(rt: &A, workers: PoolSize, file: &Word, script: &mut R, outputs: &mut Outputs<W, E>) -> u8
+>(
+    rt: &A,
+    workers: PoolSize,
+    file: &Word,
+    script: &mut R,
+    outputs: &mut Outputs<W, E>,
+) -> Result<bool, Stop>
     ensures { HasAnswered (IsPooled workers (R.remaining script.old)) (StopsPlan (R.remaining script.old))
         (W.contents outputs.old.out) (W.contents outputs.new.out) result }
 {
@@ -177,7 +191,7 @@ fn perform_closure<R: Read, W: Write, E: Write>(
     request: &ClosureRequest<'_>,
     script: &mut R,
     outputs: &mut Outputs<W, E>,
-) -> u8
+) -> Result<bool, Stop>
     ensures { HasAnswered (IsReported request.now.format request.now.subject.now (R.remaining script.old))
         (StopsStory false (R.remaining script.old)) (W.contents outputs.old.out) (W.contents outputs.new.out) result }
 {
@@ -198,7 +212,7 @@ fn perform_compare<R: Read, T: Read, W: Write, E: Write>(
     first: &mut R,
     second: &mut T,
     outputs: &mut Outputs<W, E>,
-) -> u8
+) -> Result<bool, Stop>
     ensures { HasAnswered (IsCompared request.now.explain request.now.subject.now (R.remaining first.old) (T.remaining second.old))
         (StopsStories request.now.explain (R.remaining first.old) (T.remaining second.old))
         (W.contents outputs.old.out) (W.contents outputs.new.out) result }
@@ -234,7 +248,7 @@ fn perform_crowd<R: Read, T: Read, W: Write, E: Write>(
     first: &mut R,
     second: &mut T,
     outputs: &mut Outputs<W, E>,
-) -> u8
+) -> Result<bool, Stop>
     ensures { HasAnswered (IsCrowd request.now.subject.now (R.remaining first.old) (T.remaining second.old))
         (StopsSubmissions (R.remaining first.old) (T.remaining second.old))
         (W.contents outputs.old.out) (W.contents outputs.new.out) result }
@@ -259,7 +273,7 @@ fn perform_crowd<R: Read, T: Read, W: Write, E: Write>(
 }
 
 /// Carries out a call whose file is the standard input: each line is answered before the next one is
-/// waited for. Status and messages are those of [`perform`], but for a read that fails and for input
+/// waited for. How it ends, and messages, are those of [`perform`], but for a read that fails and for input
 /// that is too long: the lines before have been run, and what they printed is written. `closure`,
 /// `compare`, `crowd` and `run` with workers read it whole.
 pub fn perform_stream<
@@ -267,9 +281,8 @@ pub fn perform_stream<
     R: BufRead,
     W: Write,
     E: Write,
->(rt: &A, call: &Call, input: &mut R, outputs: &mut Outputs<W, E>) -> u8
-    ensures status { IsStatus result }
-    ensures performed { IsPerformedAsItComes call.now (R.remaining input.old) (W.contents outputs.old.out) (W.contents outputs.new.out) result }
+>(rt: &A, call: &Call, input: &mut R, outputs: &mut Outputs<W, E>) -> Result<bool, Stop>
+    ensures { IsPerformedAsItComes call.now (R.remaining input.old) (W.contents outputs.old.out) (W.contents outputs.new.out) result }
 {
     let alloc = rt.alloc();
     match call {
@@ -303,29 +316,29 @@ pub fn print_usage<W: Write, E: Write>(usage: &Usage, outputs: &mut Outputs<W, E
     match usage {
         Usage::Help(text) => match write_text(text, out) {
             Ok(()) => DONE,
-            Err(_) => print_stop(Stop::CannotWrite, "", err),
+            Err(_) => exit_status(print_stop(Stop::CannotWrite, "", err)),
         },
         Usage::Bad(text) => {
             let _ = write!(err, "{text}");
             FAULT
         }
-        Usage::NoMemory => print_stop(Stop::NoMemory, "", err),
+        Usage::NoMemory => exit_status(print_stop(Stop::NoMemory, "", err)),
     }
 }
 
-/// Says on `err` why a run of the named file ended early, where it did, and gives the exit status.
-fn print_end<E: Write>(ran: Result<(), Stop>, file: &str, err: &mut E) -> u8
-    ensures { IsStatusOf ran result }
+/// Says on `err` why a run of the named file ended early, where it did. Nothing was compared.
+fn print_end<E: Write>(ran: Result<(), Stop>, file: &str, err: &mut E) -> Result<bool, Stop>
+    ensures { IsEndOf ran result }
 {
     match ran {
-        Ok(()) => DONE,
+        Ok(()) => Ok(false),
         Err(stop) => print_stop(stop, file, err),
     }
 }
 
-/// Says on `err` why the run of the named file ended, and gives the exit status.
-pub fn print_stop<E: Write>(stop: Stop, file: &str, err: &mut E) -> u8
-    ensures { result ≡ status_of stop }
+/// Says on `err` why the run of the named file stopped, and answers that.
+pub fn print_stop<E: Write>(stop: Stop, file: &str, err: &mut E) -> Result<bool, Stop>
+    ensures { result ≡ Err stop }
 {
     let _ = match stop {
         Stop::CannotRead => writeln!(err, "cannot read {file}"),
@@ -334,9 +347,20 @@ pub fn print_stop<E: Write>(stop: Stop, file: &str, err: &mut E) -> u8
         Stop::NoMemory => writeln!(err, "no memory"),
         Stop::CannotWrite => writeln!(err, "cannot write"),
     };
-    match stop {
-        Stop::CannotRead | Stop::TooLong | Stop::BadLine(_) => FAULT,
-        Stop::NoMemory => NO_MEMORY,
-        Stop::CannotWrite => NO_WRITE,
+    Err(stop)
+}
+
+/// The exit status of a call that ended so: 2 for a file that cannot be read, is too long or has a bad line, 3 for want
+/// of memory, 4 for a write that failed; 1 for a comparison that finds a difference.
+pub fn exit_status(end: Result<bool, Stop>) -> u8
+    ensures status { result ≡ status_of_end end }
+    ensures known { IsStatus result }
+{
+    match end {
+        Ok(false) => DONE,
+        Ok(true) => DIFFERS,
+        Err(Stop::CannotRead | Stop::TooLong | Stop::BadLine(_)) => FAULT,
+        Err(Stop::NoMemory) => NO_MEMORY,
+        Err(Stop::CannotWrite) => NO_WRITE,
     }
 }

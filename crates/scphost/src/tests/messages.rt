@@ -2,7 +2,7 @@
 //! are said by contracts.
 
 use crate::outputs::Outputs;
-use crate::perform::{perform, perform_stream, print_stop, print_usage};
+use crate::perform::{exit_status, perform, perform_stream, print_stop, print_usage};
 use command_line::{Call, PoolSize, Usage, Word};
 use scripts::Stop;
 use std::alloc::Global;
@@ -21,7 +21,9 @@ fn kept(alloc: Global) -> Outputs<Vec<u8>, Vec<u8>> {
 /// A run of `rows.txt` that stopped so is told of by these bytes, and ends with this status.
 fn tells<A: Abort>(rt: &A, alloc: Global, stop: Stop, wanted: &[u8], status: u8) {
     let mut err = Vec::new(alloc);
-    assert_eq!(rt; print_stop(stop, "rows.txt", &mut err), status);
+    let end = print_stop(stop, "rows.txt", &mut err);
+    assert!(rt; end == Err(stop));
+    assert_eq!(rt; exit_status(end), status);
     assert!(rt; err.as_slice() == wanted);
 }
 
@@ -60,7 +62,7 @@ fn names_the_bad_line_of_a_file(rt: HostRuntime) -> Result<(), Fail> {
     let mut file = b"self A 1 1[A]\nreach\nno line\nreach\n".as_slice();
     let mut outputs = kept(rt.alloc());
     let answered = perform(&rt, &call, &mut file, &mut io::empty(), &mut outputs);
-    assert_eq!(rt; answered, 2);
+    assert!(rt; answered == Err(Stop::BadLine(3)));
     let Outputs { out, err } = outputs;
     assert!(rt; err.as_slice() == b"bad script line 3\n".as_slice());
     assert!(rt; out.as_slice() == b"A\n".as_slice());
@@ -77,7 +79,7 @@ fn a_pool_reads_the_standard_input_whole(rt: HostRuntime) -> Result<(), Fail> {
     let mut input =
         b"net 1 events 9 bytes 0 slots 1\nnode 1 A 1[A]\nopen 1 1\nntimer 1 1 A 7\n".as_slice();
     let mut outputs = kept(rt.alloc());
-    assert_eq!(rt; perform_stream(&rt, &call, &mut input, &mut outputs), 0);
+    assert!(rt; perform_stream(&rt, &call, &mut input, &mut outputs) == Ok(false));
     let printed = b"journal 1 2\napplied 1 refused 0 unrun 0\n".as_slice();
     assert!(rt; outputs.out.as_slice() == printed && outputs.err.is_empty());
     Ok(())
