@@ -10,7 +10,7 @@ use Rattle.runs.specs.Hosting.{unhosted}
 use Rattle.runs.specs.Running
 use Rattle.scphost.specs.Printing.{HasAnswered, HasRunLines, IsCompared, IsCrowd, IsPerformed, IsPooled, IsPrinted, IsReported}
 use Rattle.scphost.specs.Reporting.{IsReport}
-use Rattle.scphost.specs.Scripts.{IsSubmittedBy, IsTold, StopsPlan, StopsStories, StopsStory, StopsSubmissions, Story}
+use Rattle.scphost.specs.Scripts.{IsSubmittedBy, IsStoryOf, StopsPlan, StopsStories, StopsStory, StopsSubmissions, Story}
 use Rattle.scphost.specs.Stops.{End}
 use Rattle.scphost.specs.declared.answer.Answer.{Answer}
 use Rattle.command_line.specs.declared.call.Call.TheVariants.{Run}
@@ -18,12 +18,12 @@ use Rattle.command_line.specs.declared.subject.Format.{Format}
 use Rattle.types.specs.declared.subject.Subject.{Subject}
 
 -- an answer is printed
-pub has-reported : (format : Format) (subject : Subject) (file old new : Option Bytes) (end : End) (story : Story) (a : Answer) → IsTold false file story
+pub has-reported : (format : Format) (subject : Subject) (file old new : Option Bytes) (end : End) (story : Story) (a : Answer) → IsStoryOf false file story
     → IsReport format subject story.run.hosting.logs a → IsPrinted a old new end → HasAnswered (IsReported format subject file) (StopsStory false file) old new end
 has-reported format subject file old new end story a told right printed = inl (a, (story, told, right), printed)
 
 pub has-compared : (explain : Bool) (subject : Subject) (one other old new : Option Bytes) (end : End) (first second : Story) (a : Answer)
-    → IsTold explain one first → IsTold explain other second
+    → IsStoryOf explain one first → IsStoryOf explain other second
     → IsComparison first.run.hosting.logs second.run.hosting.logs subject.net subject.slot subject.node explain a → IsPrinted a old new end
     → HasAnswered (IsCompared explain subject one other) (StopsStories explain one other) old new end
 has-compared explain subject one other old new end first second a told also right printed = inl (a, (first, second, told, also, right), printed)

@@ -15,7 +15,7 @@ use Rattle.pooled.specs.Pooling.{IsPoolText}
 use Rattle.scphost.specs.Comparisons.{IsComparison}
 use Rattle.scphost.specs.Crowding.{TellsCrowd}
 use Rattle.scphost.specs.Reporting.{IsReport}
-use Rattle.scphost.specs.Scripts.{IsPlannedBy, IsSubmittedBy, IsTold, Story, longest_script}
+use Rattle.scphost.specs.Scripts.{IsPlannedBy, IsSubmittedBy, IsStoryOf, Story, longest_script}
 use Rattle.scphost.specs.Scripts.{StopsPlan, StopsStories, StopsStory, StopsSubmissions}
 use Rattle.scphost.specs.Stops.{End, IsEndOf}
 use Rattle.scphost.specs.declared.answer.Answer.{Answer}
@@ -43,11 +43,11 @@ HasAnswered P Why old new end = ((a : Answer) × P a × IsPrinted a old new end)
 -- the answer is the report of a node after a script
 abbrev pub IsReported : Format → Subject → Option Bytes → Answer → Type 0
 IsReported format subject script a =
-    (story : Story) × IsTold false script story × IsReport format subject story.run.hosting.logs a
+    (story : Story) × IsStoryOf false script story × IsReport format subject story.run.hosting.logs a
 
 -- the answer compares what becomes of the networks of two scripts, in this order
 abbrev pub IsCompared : Bool → Subject → Option Bytes → Option Bytes → Answer → Type 0
-IsCompared explain subject one other a = (first second : Story) × IsTold explain one first × IsTold explain other second
+IsCompared explain subject one other a = (first second : Story) × IsStoryOf explain one first × IsStoryOf explain other second
     × IsComparison first.run.hosting.logs second.run.hosting.logs subject.net subject.slot subject.node explain a
 
 -- the answer compares what two scripts submit, in this order

@@ -65,8 +65,8 @@ pub record HasEnded (start : Unprinted) (text : Bytes) (end : Unprinted) : Type 
   pub finished : IsFinishedUnprinted last end
 
 -- a file is the script, which is run to its end
-abbrev pub IsTold : Bool → Option Bytes → Story → Type 0
-IsTold traced file story = IsTextOf file story.text × HasEnded (start_of traced) story.text story.run
+abbrev pub IsStoryOf : Bool → Option Bytes → Story → Type 0
+IsStoryOf traced file story = IsTextOf file story.text × HasEnded (start_of traced) story.text story.run
 
 -- a run of the networks of a file stopped so
 abbrev pub StopsStory : Bool → Option Bytes → Stop → Type 0
@@ -75,7 +75,7 @@ StopsStory traced = HasStopped TellsUnprinted RefusesUnprinted (start_of traced)
 -- that of one of two files stopped so; the second one is run where the first one came to its end
 abbrev pub StopsStories : Bool → Option Bytes → Option Bytes → Stop → Type 0
 StopsStories traced one other why =
-    StopsStory traced one why ⊎ ((first : Story) × IsTold traced one first × StopsStory traced other why)
+    StopsStory traced one why ⊎ ((first : Story) × IsStoryOf traced one first × StopsStory traced other why)
 
 -- the line with a number, counted from 0, among those of a text that are run: neither empty lines nor comments are
 abbrev pub IsLineOf : Bytes → ℕ → Option (ℕ × Bytes) → Type 0

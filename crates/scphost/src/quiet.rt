@@ -2,7 +2,7 @@
 
 ghost use Rattle.std.specs.Prelude.{◌≡◌, ◌≤◌, IfErr, IfOk, Some, length, option_map};
 ghost use Rattle.runs.specs.Unprinted.{origin_in};
-ghost use Rattle.scphost.specs.Scripts.{HasEnded, IsLineAt, IsLineOf, IsTold, StopsStory, start_of};
+ghost use Rattle.scphost.specs.Scripts.{HasEnded, IsLineAt, IsLineOf, IsStoryOf, StopsStory, start_of};
 ghost use Rattle.scripts.specs.Script.{is_no_record as no_record};
 
 use runs::UnprintedRun;
@@ -45,7 +45,7 @@ impl FinishedScript {
         script: &mut R,
         traced: bool,
     ) -> Result<FinishedScript, Stop>
-        ensures told { IfOk result (IsTold traced (R.remaining script.old)) }
+        ensures story { IfOk result (IsStoryOf traced (R.remaining script.old)) }
         ensures stopped { IfErr result (StopsStory traced (R.remaining script.old)) }
     {
         let text = read_whole(alloc, script)?;
