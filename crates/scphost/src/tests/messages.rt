@@ -11,7 +11,7 @@ use std::process::Abort;
 use std::test::Fail;
 
 /// Outputs that are kept in memory.
-fn kept(alloc: Global) -> Outputs<Vec<u8>, Vec<u8>> {
+fn outputs_in_memory(alloc: Global) -> Outputs<Vec<u8>, Vec<u8>> {
     Outputs {
         out: Vec::new(alloc),
         err: Vec::new(alloc),
@@ -46,7 +46,7 @@ fn answers_words_that_are_no_call(rt: HostRuntime) -> Result<(), Fail> {
         (&bad, 2, b"", b"bad usage\n"),
         (&Usage::NoMemory, 3, b"", b"no memory\n"),
     ] {
-        let mut outputs = kept(rt.alloc());
+        let mut outputs = outputs_in_memory(rt.alloc());
         assert_eq!(rt; print_usage(usage, &mut outputs), status);
         let Outputs { out, err } = outputs;
         assert!(rt; out.as_slice() == printed && err.as_slice() == wanted);
@@ -60,7 +60,7 @@ fn names_the_bad_line_of_a_file(rt: HostRuntime) -> Result<(), Fail> {
         file: Word::new(rt.alloc(), "rows.txt")?,
     };
     let mut file = b"self A 1 1[A]\nreach\nno line\nreach\n".as_slice();
-    let mut outputs = kept(rt.alloc());
+    let mut outputs = outputs_in_memory(rt.alloc());
     let answered = perform(&rt, &call, &mut file, &mut io::empty(), &mut outputs);
     assert!(rt; answered == Err(Stop::BadLine(3)));
     let Outputs { out, err } = outputs;
@@ -78,7 +78,7 @@ fn a_pool_reads_the_standard_input_whole(rt: HostRuntime) -> Result<(), Fail> {
     };
     let mut input =
         b"net 1 events 9 bytes 0 slots 1\nnode 1 A 1[A]\nopen 1 1\nntimer 1 1 A 7\n".as_slice();
-    let mut outputs = kept(rt.alloc());
+    let mut outputs = outputs_in_memory(rt.alloc());
     assert!(rt; perform_stream(&rt, &call, &mut input, &mut outputs) == Ok(false));
     let printed = b"journal 1 2\napplied 1 refused 0 unrun 0\n".as_slice();
     assert!(rt; outputs.out.as_slice() == printed && outputs.err.is_empty());
