@@ -10,7 +10,8 @@ use Rattle.crowds.specs.Crowding.{IsCrowdHere}
 use Rattle.crowds.specs.Replies.{reply_of}
 use Rattle.crowds.specs.declared.reply.Reply.{Reply as Replied}
 use Rattle.crowds.specs.declared.verdict.Crowd.{Crowd}
-use Rattle.crowds.specs.declared.verdict.Crowd.TheVariants.{CastDiffers, RosterDiffers, OutsideRoster, InputsDiffer, Same}
+use Rattle.crowds.specs.declared.verdict.Crowd.TheVariants.{CastDiffers, RosterDiffers, OutsideRoster}
+use Rattle.crowds.specs.declared.verdict.Crowd.TheVariants.{InputsDiffer, Same}
 use Rattle.runs.specs.Replies.{behind_space, refusal_text}
 use Rattle.command_line.specs.Words.{Text}
 use Rattle.scphost.specs.declared.answer.Answer.{Answer}

@@ -47,7 +47,8 @@ IsReported format subject script a =
 
 -- the answer compares what becomes of the networks of two scripts, in this order
 abbrev pub IsCompared : Bool → Subject → Option Bytes → Option Bytes → Answer → Type 0
-IsCompared explain subject one other a = (first second : Story) × IsStoryOf explain one first × IsStoryOf explain other second
+IsCompared explain subject one other a = (first second : Story) × IsStoryOf explain one first
+    × IsStoryOf explain other second
     × IsComparison first.run.hosting.logs second.run.hosting.logs subject.net subject.slot subject.node explain a
 
 -- the answer compares what two scripts submit, in this order

@@ -37,8 +37,8 @@ pub record IsFirstBadLine {S : Type 0} (tells : Telling S) (refuses : Refusing S
   pub are_lines : AreLines text lines
   pub ran : Runs tells refuses start (enumerate_from 1 lines) printed (Err (stop.BadLine n)) end
 
--- what is known of a file whose run stopped so: it is too long, or this line is the first that is bad. Reads, writes and
--- memory may fail whatever it holds.
+-- what is known of a file whose run stopped so: it is too long, or this line is the first that is bad. Reads, writes
+-- and memory may fail whatever it holds.
 abbrev pub HasStopped : {S : Type 0} → Telling S → Refusing S → S → Option Bytes → Stop → Type 0
 HasStopped tells refuses start file stop.TooLong = IfSome file (λ left. longest_script < length left)
 HasStopped tells refuses start file (stop.BadLine n) =
