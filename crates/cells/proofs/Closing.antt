@@ -6,7 +6,7 @@ use Rattle.protocol.specs.Hosts.{Config, Entry}
 use Rattle.hoststep.specs.Logs.{Log}
 use Rattle.cells.specs.Receipts.{extract_of, extracts_of}
 use Rattle.cells.specs.Views.{CellStateSight, Knowledge}
-use Rattle.cells.specs.Rule.{IsTaken, IsKnownAtEnd, shown, AllBelow}
+use Rattle.cells.specs.Rule.{IsTaken, IsKnownAtEnd, with_note, AllBelow}
 use Rattle.cells.specs.Sights.{SeatSight}
 use Rattle.cells.specs.Sounds.{IsSound, AllStand, AllRight}
 use Rattle.cells.specs.Closing.{Keeps, AllSeats, HasNumber, ended_sight, Gathered, IsOneHistory}
@@ -17,7 +17,7 @@ use Rattle.std.proofs.lemmas.List.Elements.{All-map, All-more, All-weaker}
 use Rattle.std.proofs.lemmas.Option.{get_or_from_slice_get, slice_get-map, slice_get_within}
 use Rattle.std.proofs.lemmas.List.Edits.{map_over_more}
 
-pub keeps_shown : (b v w n : Knowledge) → Keeps b v → w ≡ shown v n → Keeps b w
+pub keeps_shown : (b v w n : Knowledge) → Keeps b v → w ≡ with_note v n → Keeps b w
 keeps_shown b v w n k is = subst (Keeps b) (sym is) (record { holding = k.holding; live = k.live; known = k.known; opens = k.opens; config = k.config; all = k.all; owners = k.owners; over = k.over; stopper = k.stopper })
 
 pub told_by : (b v w : Knowledge) → Keeps b v → IsKnownAtEnd v.config v.all v.owners v.over v.stopper w → IsKnownAtEnd b.config b.all b.owners b.over b.stopper w

@@ -13,7 +13,7 @@ use Rattle.protocol.specs.Hosts.{Config, Entry}
 use Rattle.cells.specs.declared.refusal.CellRefusal.{CellRefusal}
 use Rattle.cells.specs.Receipts.{AppliedEvent, Extract, entry_of, extract, extract_of, extracts_from, extracts_of}
 use Rattle.cells.specs.Views.{Denial, CellStateSight, Knowledge, nobody}
-use Rattle.cells.specs.Rule.{opener, opened, one_more, seat_of, fresh, ended, note_of, closer_of, shown, cell_state_at, AllBelow, History, World, Claims, Has, Fits, AllFit, IsOpen, Holds, IsEmpty, taken, IsTaken, Agrees, added, denial, denied, looked, stopped, HasCellState}
+use Rattle.cells.specs.Rule.{opener, after_opening, one_more, seat_of, fresh, after_end, note_of, closer_of, with_note, cell_state_at, AllBelow, History, World, Claims, Has, Fits, AllFit, IsOpen, Holds, IsEmpty, after_taking, IsTaken, Agrees, after_application, denial, after_denial, after_look, after_stop, HasCellState}
 
 off : {A : Type 0} → false ≡ true → A
 off e = absurd (true≢false (sym e))
@@ -94,12 +94,12 @@ pushed_as id v w next d cell_state is named h = subst (λ (y : CellStateSight ×
 abbrev first_world : Config → ℕ → World
 first_world config seats = record { past = record { config = config; seats = seats; entries = []; owners = []; over = false; stopper = 0; made = 0; ended = λ _. false }; home = λ _. 0; free = true; holder = 0; opener = 0 }
 
-pub opens : (id : ℕ) (v : Knowledge) (config : Config) (seats : ℕ) → v.opening ≡ true → Pushes Holds 1 id v (cell_state_at config seats [] false) (λ w. w ≡ opened config seats)
+pub opens : (id : ℕ) (v : Knowledge) (config : Config) (seats : ℕ) → v.opening ≡ true → Pushes Holds 1 id v (cell_state_at config seats [] false) (λ w. w ≡ after_opening config seats)
 opens id v config seats opening items views room h at =
     ⊎_elim
     (λ (o : (items ≡ []) × (views ≡ opener ∷ [])).
     let is = only v views id o.1 at in
-    let w : Knowledge = opened config seats in (
+    let w : Knowledge = after_opening config seats in (
       w,
       inr (
         first_world config seats,
@@ -118,8 +118,8 @@ opens id v config seats opening items views room h at =
     (λ (w : (g : World) × IsOpen g items views). off (sym (w.1.fit id v at).opening ∙ opening))
     h
   where
-    one : (u : Knowledge) (j : ℕ) → get_elem? (opened config seats ∷ []) j ≡ some u → Fits (first_world config seats) j u
-    one u zero e = subst (Fits (first_world config seats) 0) (some-injective (opened config seats) u e) (record {
+    one : (u : Knowledge) (j : ℕ) → get_elem? (after_opening config seats ∷ []) j ≡ some u → Fits (first_world config seats) j u
+    one u zero e = subst (Fits (first_world config seats) 0) (some-injective (after_opening config seats) u e) (record {
       opening = refl;
       opens = λ _. (refl, refl);
       known = λ _. (refl, refl);
@@ -155,7 +155,7 @@ takes id v known away x items views h at =
     let is : x ≡ cell_state_at g.past.config g.past.seats g.past.entries g.past.over = cc in
     let none : items ≡ [] = cc in
     let f = o.fit id v at in
-    let w : Knowledge = taken v x.log.entries x.stopped g.past.owners g.past.stopper in
+    let w : Knowledge = after_taking v x.log.entries x.stopped g.past.owners g.past.stopper in
     let all : x.log.entries ≡ g.past.entries = ap (λ (d : CellStateSight). d.log.entries) is in
     let over : x.stopped ≡ g.past.over = ap (λ (d : CellStateSight). d.stopped) is in
     let g' : World = record g { free = false; holder = id } in (
@@ -310,7 +310,7 @@ gives id v x seen stop receipts denials stops entries owners over stopper s fits
       refl,
     )
 
-pub adds : (id : ℕ) (v : Knowledge) (r : AppliedEvent) → HasCellState v → extract_of r ≡ extract v.config v.all (entry_of r) → Pushes Holds 1 id v (cell_state_at v.config v.seats (v.all ++ entry_of r ∷ []) v.over) (λ w. w ≡ added v r)
+pub adds : (id : ℕ) (v : Knowledge) (r : AppliedEvent) → HasCellState v → extract_of r ≡ extract v.config v.all (entry_of r) → Pushes Holds 1 id v (cell_state_at v.config v.seats (v.all ++ entry_of r ∷ []) v.over) (λ w. w ≡ after_application v r)
 adds id v r s is =
     let e : Entry = entry_of r in
     gives id v (cell_state_at v.config v.seats (v.all ++ e ∷ []) v.over) (v.all ++ e ∷ []) v.over (v.receipts ++ r ∷ []) v.denials v.stops
@@ -349,15 +349,15 @@ sees id v denials s =
       others = λ u apart k. k;
     })
 
-pub denies : (id : ℕ) (v : Knowledge) (event : Event) (refusal : CellRefusal) → HasCellState v → Pushes Holds 1 id v (cell_state_at v.config v.seats v.all v.over) (λ w. w ≡ denied v event refusal)
+pub denies : (id : ℕ) (v : Knowledge) (event : Event) (refusal : CellRefusal) → HasCellState v → Pushes Holds 1 id v (cell_state_at v.config v.seats v.all v.over) (λ w. w ≡ after_denial v event refusal)
 denies id v event refusal s = sees id v (v.denials ++ denial event refusal (length v.all) ∷ []) s
 
 -- nothing was done
-pub looks : (id : ℕ) (v : Knowledge) → HasCellState v → Pushes Holds 1 id v (cell_state_at v.config v.seats v.all v.over) (λ w. w ≡ looked v)
+pub looks : (id : ℕ) (v : Knowledge) → HasCellState v → Pushes Holds 1 id v (cell_state_at v.config v.seats v.all v.over) (λ w. w ≡ after_look v)
 looks id v s = sees id v v.denials s
 
 -- the stop mark is set
-pub stops : (id : ℕ) (v : Knowledge) → HasCellState v → Pushes Holds 1 id v (cell_state_at v.config v.seats v.all true) (λ w. w ≡ stopped v)
+pub stops : (id : ℕ) (v : Knowledge) → HasCellState v → Pushes Holds 1 id v (cell_state_at v.config v.seats v.all true) (λ w. w ≡ after_stop v)
 stops id v s =
     gives id v (cell_state_at v.config v.seats v.all true) v.all true v.receipts v.denials (suc v.stops)
     (λ past. past.entries) (λ past. past.owners) (λ past. true) (λ past. if past.over then past.stopper else v.number) s
@@ -471,7 +471,7 @@ sits id v opens known live claims holding room items views h at =
     )
 
 -- a seat ends, and a note of it is made
-pub ends : (id : ℕ) (v : Knowledge) → v.live ≡ true → v.claims ≡ false → v.holding ≡ false → v.opens ≡ false → v.known ≡ true → Forks Holds id v (ended v) (note_of v)
+pub ends : (id : ℕ) (v : Knowledge) → v.live ≡ true → v.claims ≡ false → v.holding ≡ false → v.opens ≡ false → v.known ≡ true → Forks Holds id v (after_end v) (note_of v)
 ends id v live claims holding opens known items views h at =
     let world = past_opening items views id v h at known in
     let g : World = world.0 in
@@ -499,13 +499,13 @@ ends id v live claims holding opens known items views h at =
     } in
     inr (
       g',
-      open_seated g gone items views (set views id (ended v) ++ note_of v ∷ []) o
-          (all_forked (Fits g') views id (ended v) (note_of v)
+      open_seated g gone items views (set views id (after_end v) ++ note_of v ∷ []) o
+          (all_forked (Fits g') views id (after_end v) (note_of v)
           (record {
             opening = f.opening;
             opens = f.opens;
             known = f.known;
-            live = λ l. ((f.live l).0, record { made = c.made; seen = c.seen; stopped = c.stopped; receipts = c.receipts; stops = c.stops; ended = mine (ended v) refl refl });
+            live = λ l. ((f.live l).0, record { made = c.made; seen = c.seen; stopped = c.stopped; receipts = c.receipts; stops = c.stops; ended = mine (after_end v) refl refl });
             claims = λ l. off (sym claims ∙ l);
             holding = λ l. off (sym holding ∙ l);
           })
@@ -542,13 +542,13 @@ closes id v known items views h at =
     )
 
 -- the closer takes a note in
-pub shows : (id : ℕ) (v : Knowledge) (other : ℕ) (n : Knowledge) → v.known ≡ true → v.live ≡ false → v.opens ≡ false → n.claims ≡ true → Merges Holds id v other n (shown v n) nobody
+pub shows : (id : ℕ) (v : Knowledge) (other : ℕ) (n : Knowledge) → v.known ≡ true → v.live ≡ false → v.opens ≡ false → n.claims ≡ true → Merges Holds id v other n (with_note v n) nobody
 shows id v other n known live opens claims items views h at apart there =
     let world = past_opening items views id v h at known in
     let g : World = world.0 in
     let o : IsOpen g items views = world.1 in
     let f = o.fit id v at in
-    let w : Knowledge = shown v n in
+    let w : Knowledge = with_note v n in
     let was : get_elem? views other ≡ some n = ⊎_elim (λ (t : (other ≡ id) × (w ≡ n)). absurd (apart t.0)) (λ (t : (other ≢ id) × (get_elem? views other ≡ some n)). t.1) (at_set views id other w n there) in
     let k = (o.fit other n was).claims claims in
     let with_note : AllFit g (set views id w) = all_set (Fits g) views id w

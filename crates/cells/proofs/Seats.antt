@@ -15,7 +15,7 @@ use Rattle.protocol.specs.Hosts.{Config, Entry}
 use Rattle.cells.specs.declared.refusal.CellRefusal.{CellRefusal}
 use Rattle.cells.specs.Receipts.{AppliedEvent, Extract, entry_of, extract, extract_of, receipt}
 use Rattle.cells.specs.Views.{Denial, CellStateSight, Knowledge}
-use Rattle.cells.specs.Rule.{denial, IsTaken, added, denied, looked, stopped, fresh}
+use Rattle.cells.specs.Rule.{denial, IsTaken, after_application, after_denial, after_look, after_stop, fresh}
 use Rattle.cells.specs.Sights.{SeatSight}
 use Rattle.cells.specs.Sounds.{Stands, IsRight, IsWhy, refused_by, AllStand, AllRight, IsRising, IsSound, IsFree, IsSeat}
 use Rattle.cells.specs.Cells.{AllFresh, IsSeatOf}
@@ -75,7 +75,7 @@ sound_seen v x w over stops f s t up =
     }
 
 -- a refusal
-sound_denied : (v : Knowledge) (x : CellStateSight) (w : Knowledge) (event : Event) (refusal : CellRefusal) → IsFree v → IsSound v → IsTaken v x w → IsWhy x.log.config x.log.entries x.stopped event refusal → IsSound (denied w event refusal)
+sound_denied : (v : Knowledge) (x : CellStateSight) (w : Knowledge) (event : Event) (refusal : CellRefusal) → IsFree v → IsSound v → IsTaken v x w → IsWhy x.log.config x.log.entries x.stopped event refusal → IsSound (after_denial w event refusal)
 sound_denied v x w event refusal f s t why =
     let all : w.all ≡ x.log.entries = ap (λ (u : Knowledge). u.all) t.now in
     let over : w.over ≡ x.stopped = ap (λ (u : Knowledge). u.over) t.now in
@@ -86,7 +86,7 @@ sound_denied v x w event refusal f s t why =
     record { stand = before.stand; rising = before.rising; right = all_more (IsRight w.config w.all w.over) w.denials (denial event refusal (length w.all)) before.right one }
 
 -- an application
-sound_added : (v : Knowledge) (x : CellStateSight) (w : Knowledge) (r : AppliedEvent) → IsFree v → IsSound v → IsTaken v x w → extract_of r ≡ extract w.config w.all (entry_of r) → IsSound (added w r)
+sound_added : (v : Knowledge) (x : CellStateSight) (w : Knowledge) (r : AppliedEvent) → IsFree v → IsSound v → IsTaken v x w → extract_of r ≡ extract w.config w.all (entry_of r) → IsSound (after_application w r)
 sound_added v x w r f s t made =
     let e : Entry = entry_of r in
     let number : r.number ≡ length w.all = ap (λ (y : Extract). y.number) made in
@@ -127,15 +127,15 @@ receipts_there : (p q : Pass CellStateSight Knowledge) (n : ℕ) (rs : List Appl
 receipts_there p q n rs x s t = ap (λ (y : Knowledge). y.receipts) t.now ∙ s.receipts
 
 pub seat_denied : (p q r : Pass CellStateSight Knowledge) (n : ℕ) (rs now : List AppliedEvent) (x : CellStateSight) (event : Event) (refusal : CellRefusal) → IsSeat p n rs → IsTaken (view p) x (view q) → q.me.1 ≡ p.me.1 → r.me.1 ≡ q.me.1
-    → view r ≡ denied (view q) event refusal → now ≡ rs → IsWhy x.log.config x.log.entries x.stopped event refusal → IsSeat r n now
+    → view r ≡ after_denial (view q) event refusal → now ≡ rs → IsWhy x.log.config x.log.entries x.stopped event refusal → IsSeat r n now
 seat_denied p q r n rs now x event refusal s t one two is same why =
-    seat_back p q r n rs now x (denied (view q) event refusal) s t one two is (refl, refl, refl, refl, refl, refl) (receipts_there p q n rs x s t ∙ sym same)
+    seat_back p q r n rs now x (after_denial (view q) event refusal) s t one two is (refl, refl, refl, refl, refl, refl) (receipts_there p q n rs x s t ∙ sym same)
     (sound_denied (view p) x (view q) event refusal s.free s.sound t why)
 
 pub seat_added : (p q r : Pass CellStateSight Knowledge) (n : ℕ) (rs now : List AppliedEvent) (x : CellStateSight) (a : AppliedEvent) → IsSeat p n rs → IsTaken (view p) x (view q) → q.me.1 ≡ p.me.1 → r.me.1 ≡ q.me.1
-    → view r ≡ added (view q) a → now ≡ rs ++ a ∷ [] → extract_of a ≡ extract (view q).config (view q).all (entry_of a) → IsSeat r n now
+    → view r ≡ after_application (view q) a → now ≡ rs ++ a ∷ [] → extract_of a ≡ extract (view q).config (view q).all (entry_of a) → IsSeat r n now
 seat_added p q r n rs now x a s t one two is same made =
-    seat_back p q r n rs now x (added (view q) a) s t one two is (refl, refl, refl, refl, refl, refl)
+    seat_back p q r n rs now x (after_application (view q) a) s t one two is (refl, refl, refl, refl, refl, refl)
     (ap (λ (l : List AppliedEvent). l ++ a ∷ []) (receipts_there p q n rs x s t) ∙ sym same) (sound_added (view p) x (view q) a s.free s.sound t made)
 
 -- a receipt that was made at the cell state
@@ -146,21 +146,21 @@ made_at v x w event outs a t is =
     ap extract_of is ∙ (λ i. extract (config i) (all i) (entry_of (sym is i)))
 
 -- what was seen before is a beginning of what is seen after an application
-pub seen_added : (v : Knowledge) (x : CellStateSight) (w u : Knowledge) (r : AppliedEvent) → IsFree v → IsTaken v x w → u ≡ added w r → IsPrefix v.seen u.seen
+pub seen_added : (v : Knowledge) (x : CellStateSight) (w u : Knowledge) (r : AppliedEvent) → IsFree v → IsTaken v x w → u ≡ after_application w r → IsPrefix v.seen u.seen
 seen_added v x w u r f t is = let p = t.seen f.live in
     (p.0 ++ entry_of r ∷ [], sym (append_assoc v.seen p.0 (entry_of r ∷ [])) ∙ ap (λ (l : List Entry). l ++ entry_of r ∷ []) p.1 ∙ sym (ap (λ (y : Knowledge). y.seen) is))
 
 pub seat_stopped : (p q r : Pass CellStateSight Knowledge) (n : ℕ) (rs : List AppliedEvent) (x : CellStateSight) → IsSeat p n rs → IsTaken (view p) x (view q) → q.me.1 ≡ p.me.1 → r.me.1 ≡ q.me.1
-    → view r ≡ stopped (view q) → IsSeat r n rs
+    → view r ≡ after_stop (view q) → IsSeat r n rs
 seat_stopped p q r n rs x s t one two is =
-    seat_back p q r n rs rs x (stopped (view q)) s t one two is (refl, refl, refl, refl, refl, refl) (receipts_there p q n rs x s t)
+    seat_back p q r n rs rs x (after_stop (view q)) s t one two is (refl, refl, refl, refl, refl, refl) (receipts_there p q n rs x s t)
     (sound_seen (view p) x (view q) true (suc (view q).stops) s.free s.sound t (λ _. refl))
 
 -- one that looked
 pub seat_looked : (p q r : Pass CellStateSight Knowledge) (n : ℕ) (rs : List AppliedEvent) (x : CellStateSight) → IsSeat p n rs → IsTaken (view p) x (view q) → q.me.1 ≡ p.me.1 → r.me.1 ≡ q.me.1
-    → view r ≡ looked (view q) → IsSeat r n rs
+    → view r ≡ after_look (view q) → IsSeat r n rs
 seat_looked p q r n rs x s t one two is =
-    seat_back p q r n rs rs x (looked (view q)) s t one two is (refl, refl, refl, refl, refl, refl) (receipts_there p q n rs x s t)
+    seat_back p q r n rs rs x (after_look (view q)) s t one two is (refl, refl, refl, refl, refl, refl) (receipts_there p q n rs x s t)
     (sound_seen (view p) x (view q) (view q).over (view q).stops s.free s.sound t (t.stopped s.free.live))
 
 -- a seat that was made just now

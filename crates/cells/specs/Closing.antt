@@ -5,7 +5,7 @@ use mathlib.Core.List.{IsPrefix}
 use Rattle.protocol.specs.Hosts.{Config}
 use Rattle.hoststep.specs.Logs.{Log}
 use Rattle.cells.specs.Receipts.{extract_of, extracts_of}
-use Rattle.cells.specs.Rule.{IsKnownAtEnd, AllBelow, ended}
+use Rattle.cells.specs.Rule.{IsKnownAtEnd, AllBelow, after_end}
 use Rattle.cells.specs.Sights.{SeatSight}
 use Rattle.cells.specs.Sounds.{IsSound, AllStand, AllRight}
 use Rattle.cells.specs.Views.{CellStateSight, Knowledge}

@@ -15,8 +15,8 @@ abbrev pub opener : Knowledge
 opener = record nobody { opening = true }
 
 -- once the cell state is there, it makes the seats
-abbrev pub opened : Config → ℕ → Knowledge
-opened config seats = record nobody { opens = true; known = true; config = config; seats = seats }
+abbrev pub after_opening : Config → ℕ → Knowledge
+after_opening config seats = record nobody { opens = true; known = true; config = config; seats = seats }
 
 abbrev pub one_more : Knowledge → Knowledge
 one_more v = record v { made = suc v.made }
@@ -27,8 +27,8 @@ fresh config seats number = record nobody { known = true; live = true; config = 
 abbrev pub seat_of : Knowledge → Knowledge
 seat_of v = fresh v.config v.seats v.made
 
-abbrev pub ended : Knowledge → Knowledge
-ended v = record v { closed = true }
+abbrev pub after_end : Knowledge → Knowledge
+after_end v = record v { closed = true }
 
 abbrev pub note_of : Knowledge → Knowledge
 note_of v = record v { live = false; claims = true; closed = true }
@@ -37,8 +37,8 @@ abbrev pub closer_of : Knowledge → Knowledge
 closer_of v = record nobody { known = true; config = v.config; seats = v.seats }
 
 -- the closer with a note
-abbrev pub shown : Knowledge → Knowledge → Knowledge
-shown v w = record v {
+abbrev pub with_note : Knowledge → Knowledge → Knowledge
+with_note v w = record v {
   claims = w.claims;
   closed = w.closed;
   number = w.number;
@@ -121,14 +121,14 @@ abbrev pub IsEmpty : List CellStateSight → Type 0
 IsEmpty items = items ≡ []
 
 -- what the one who took the cell state knows from now on
-abbrev pub taken : Knowledge → List Entry → Bool → List ℕ → ℕ → Knowledge
-taken v all over owners stopper =
+abbrev pub after_taking : Knowledge → List Entry → Bool → List ℕ → ℕ → Knowledge
+after_taking v all over owners stopper =
     record v { holding = true; all = all; over = over; owners = owners; stopper = stopper }
 
 pub record IsTaken (v : Knowledge) (x : CellStateSight) (w : Knowledge) : Type 0 where
   pub config : x.log.config ≡ v.config
   pub seats : x.seats ≡ v.seats
-  pub now : w ≡ taken v x.log.entries x.stopped w.owners w.stopper
+  pub now : w ≡ after_taking v x.log.entries x.stopped w.owners w.stopper
   pub paired : length w.owners ≡ length w.all
   pub owned : AllBelow v.seats w.owners
   pub stopper : w.over ≡ true → w.stopper < v.seats
@@ -148,15 +148,15 @@ abbrev pub Agrees : Knowledge → Type 0
 Agrees v = IsKnownAtEnd v.config v.all v.owners v.over v.stopper v
 
 -- the view after an application, a refusal, a look and a stop
-abbrev pub added : Knowledge → AppliedEvent → Knowledge
-added v r =
+abbrev pub after_application : Knowledge → AppliedEvent → Knowledge
+after_application v r =
     record v { holding = false; seen = v.all ++ entry_of r ∷ []; stopped = v.over; receipts = v.receipts ++ r ∷ [] }
 
 abbrev pub denial : Event → CellRefusal → ℕ → Denial
 denial event refusal n = record { event = event; refusal = refusal; length = n }
 
-abbrev pub denied : Knowledge → Event → CellRefusal → Knowledge
-denied v event refusal = record v {
+abbrev pub after_denial : Knowledge → Event → CellRefusal → Knowledge
+after_denial v event refusal = record v {
   holding = false;
   seen = v.all;
   stopped = v.over;
@@ -164,11 +164,11 @@ denied v event refusal = record v {
 }
 
 -- nothing is done, and all is seen
-abbrev pub looked : Knowledge → Knowledge
-looked v = record v { holding = false; seen = v.all; stopped = v.over }
+abbrev pub after_look : Knowledge → Knowledge
+after_look v = record v { holding = false; seen = v.all; stopped = v.over }
 
-abbrev pub stopped : Knowledge → Knowledge
-stopped v = record v { holding = false; seen = v.all; stopped = true; stops = suc v.stops }
+abbrev pub after_stop : Knowledge → Knowledge
+after_stop v = record v { holding = false; seen = v.all; stopped = true; stops = suc v.stops }
 
 -- a seat with the cell state
 pub record HasCellState (v : Knowledge) : Type 0 where

@@ -4,7 +4,7 @@ ghost use Rattle.std.specs.Prelude.{◌≡◌, ◌⊎◌, ◌<◌, true, false, 
 ghost use Rattle.crossbeam_queue.specs.Fifo.{Pushes, Pops, Forks};
 ghost use Rattle.crossbeam_queue.specs.Passes.{view, IsSamePass, IsPassOf, ruled_capacity};
 ghost use Rattle.cells.specs.Receipts.{entry_of, extract, extract_of};
-ghost use Rattle.cells.specs.Rule.{Holds, IsTaken, Agrees, opener, opened, one_more, seat_of, ended, note_of, closer_of, shown, added, denied, looked, stopped, HasCellState, cell_state_at};
+ghost use Rattle.cells.specs.Rule.{Holds, IsTaken, Agrees, opener, after_opening, one_more, seat_of, after_end, note_of, closer_of, with_note, after_application, after_denial, after_look, after_stop, HasCellState, cell_state_at};
 
 use crate::cell_state::{CellState, Refused};
 use crate::receipt::Receipt;
@@ -77,9 +77,9 @@ pub(crate) fn add<N: Next, S: Shelf, H: Wait + Drop, R: Wait>(
     requires sits { HasCellState (view pass.old) }
     requires cell_state { cell_state ≡ cell_state_at (view pass.old).config (view pass.old).seats ((view pass.old).all ++ entry_of made.now.value ∷ []) (view pass.old).over }
     requires made { extract_of made.now.value ≡ extract (view pass.old).config (view pass.old).all (entry_of made.now.value) }
-    requires next { N.next ≡ added (view pass.old) made.now.value }
+    requires next { N.next ≡ after_application (view pass.old) made.now.value }
     ensures queue { IsSamePass pass.old pass.new }
-    ensures view { view pass.new ≡ added (view pass.old) made.now.value }
+    ensures view { view pass.new ≡ after_application (view pass.old) made.now.value }
 {
     give::<N, S, H, R>(rt, lock, pass, cell_state);
 }
@@ -95,9 +95,9 @@ pub(crate) fn deny<N: Next, S: Shelf, H: Wait + Drop, R: Wait>(
     requires queue { IsPassOf lock.now pass.old × (ruled_capacity lock.now ≡ 1) }
     requires sits { HasCellState (view pass.old) }
     requires cell_state { cell_state ≡ cell_state_at (view pass.old).config (view pass.old).seats (view pass.old).all (view pass.old).over }
-    requires next { N.next ≡ denied (view pass.old) refused.now.asked.value refused.now.refusal }
+    requires next { N.next ≡ after_denial (view pass.old) refused.now.asked.value refused.now.refusal }
     ensures queue { IsSamePass pass.old pass.new }
-    ensures view { view pass.new ≡ denied (view pass.old) refused.now.asked.value refused.now.refusal }
+    ensures view { view pass.new ≡ after_denial (view pass.old) refused.now.asked.value refused.now.refusal }
 {
     give::<N, S, H, R>(rt, lock, pass, cell_state);
 }
@@ -112,9 +112,9 @@ pub(crate) fn leave<N: Next, S: Shelf, H: Wait + Drop, R: Wait>(
     requires queue { IsPassOf lock.now pass.old × (ruled_capacity lock.now ≡ 1) }
     requires sits { HasCellState (view pass.old) }
     requires cell_state { cell_state ≡ cell_state_at (view pass.old).config (view pass.old).seats (view pass.old).all (view pass.old).over }
-    requires next { N.next ≡ looked (view pass.old) }
+    requires next { N.next ≡ after_look (view pass.old) }
     ensures queue { IsSamePass pass.old pass.new }
-    ensures view { view pass.new ≡ looked (view pass.old) }
+    ensures view { view pass.new ≡ after_look (view pass.old) }
 {
     give::<N, S, H, R>(rt, lock, pass, cell_state);
 }
@@ -129,9 +129,9 @@ pub(crate) fn mark<N: Next, S: Shelf, H: Wait + Drop, R: Wait>(
     requires queue { IsPassOf lock.now pass.old × (ruled_capacity lock.now ≡ 1) }
     requires sits { HasCellState (view pass.old) }
     requires cell_state { cell_state ≡ cell_state_at (view pass.old).config (view pass.old).seats (view pass.old).all true }
-    requires next { N.next ≡ stopped (view pass.old) }
+    requires next { N.next ≡ after_stop (view pass.old) }
     ensures queue { IsSamePass pass.old pass.new }
-    ensures view { view pass.new ≡ stopped (view pass.old) }
+    ensures view { view pass.new ≡ after_stop (view pass.old) }
 {
     give::<N, S, H, R>(rt, lock, pass, cell_state);
 }
@@ -146,9 +146,9 @@ pub(crate) fn put_first<N: Next, S: Shelf, H: Wait + Drop, R: Wait>(
     requires queue { IsPassOf lock.now pass.old × (ruled_capacity lock.now ≡ 1) }
     requires opening { (view pass.old).opening ≡ true }
     requires cell_state { cell_state ≡ cell_state_at cell_state.log.config cell_state.seats [] false }
-    requires next { N.next ≡ opened cell_state.log.config cell_state.seats }
+    requires next { N.next ≡ after_opening cell_state.log.config cell_state.seats }
     ensures queue { IsSamePass pass.old pass.new }
-    ensures view { view pass.new ≡ opened cell_state.log.config cell_state.seats }
+    ensures view { view pass.new ≡ after_opening cell_state.log.config cell_state.seats }
 {
     give::<N, S, H, R>(rt, lock, pass, cell_state);
 }
@@ -175,7 +175,7 @@ pub(crate) fn end<S: Shelf, H: Wait + Drop>(
     requires queue { IsPassOf lock.now pass.old }
     requires seat { ((view pass.old).live ≡ true) × ((view pass.old).claims ≡ false) × ((view pass.old).holding ≡ false) × ((view pass.old).opens ≡ false) × ((view pass.old).known ≡ true) }
     ensures queue { IsSamePass pass.old pass.new × IsPassOf lock.now result }
-    ensures views { (view pass.new ≡ ended (view pass.old)) × (view result ≡ note_of (view pass.old)) }
+    ensures views { (view pass.new ≡ after_end (view pass.old)) × (view result ≡ note_of (view pass.old)) }
 {
     lock.another::<Ends>(pass)
 }
@@ -203,7 +203,7 @@ pub(crate) fn compare<S: Shelf, H: Wait + Drop>(
     requires closer { ((view closer.old).holding ≡ true) × ((view closer.old).live ≡ false) × ((view closer.old).known ≡ true) × ((view closer.old).opens ≡ false) }
     requires note { ((view note).claims ≡ true) × ((view note).closed ≡ true) }
     ensures queue { IsSamePass closer.old closer.new }
-    ensures view { view closer.new ≡ shown (view closer.old) (view note) }
+    ensures view { view closer.new ≡ with_note (view closer.old) (view note) }
     ensures agrees { Agrees (view closer.new) }
 {
     lock.absorb::<Shows>(closer, note);

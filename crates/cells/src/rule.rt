@@ -93,9 +93,9 @@ impl Split<PassKnowledge> for Sits {
 pub struct Ends;
 
 impl Split<PassKnowledge> for Ends {
-    ghost use Rattle.cells.specs.Rule.{ended, note_of};
+    ghost use Rattle.cells.specs.Rule.{after_end, note_of};
 
-    ghost left = { ended };
+    ghost left = { after_end };
 
     ghost right = { note_of };
 }
@@ -115,10 +115,10 @@ impl Split<PassKnowledge> for Closes {
 pub struct Shows;
 
 impl Join<PassKnowledge> for Shows {
-    ghost use Rattle.cells.specs.Rule.{shown};
+    ghost use Rattle.cells.specs.Rule.{with_note};
     ghost use Rattle.cells.specs.Views.{nobody};
 
-    ghost both = { shown };
+    ghost both = { with_note };
 
     ghost spent = { nobody };
 }

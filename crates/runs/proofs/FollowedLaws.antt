@@ -27,7 +27,7 @@ use Rattle.hoststep.proofs.Histories.{has-number}
 use Rattle.hoststep.proofs.Growing.{run-grows}
 use Rattle.runs.specs.Outlines.{Outlined, IsConfigOf, IsRevised, Waiting, fresh, waiting_at, waiting_without}
 use Rattle.runs.specs.Emissions.{OpenSlot, OpenSlots, at_number, changed_at, handed_on}
-use Rattle.runs.specs.Followed.{Followed, also_followed, followed_with, turn_of, turned, with_handed}
+use Rattle.runs.specs.Followed.{Followed, also_followed, followed_with, turn_of, after_turn, with_handed}
 use Rattle.runs.specs.Hosting.{Hosting, IsApplied, IsBegun, logs_joined, noted_answer, unhosted}
 use Rattle.runs.specs.Joining.{NetworkIsNamedAt}
 use Rattle.runs.specs.Naming.{Named, is_in, named_with}
@@ -143,11 +143,11 @@ answer-follows logs now f kept g e (Ok os) (Some l) at h k s =
     let new : Log = extended l (step_of e) os in
     let named : new.config.number ≡ g = has-number logs g l at in
     let there : is_some (log_at logs new.config.number) ≡ true = ap (λ n. is_some (log_at logs n)) named ∙ ap (λ (o : Option Log). is_some o) at in
-    changed-follows logs now f kept g l new (turned (turn_of e) os) at
+    changed-follows logs now f kept g l new (after_turn (turn_of e) os) at
     (λ j. ap (λ (xs : List Log). log_at xs j) h.1 ∙ (log-set logs new j there ∙ ap (λ n. if n == j then Some new else log_at logs j) named))
-    (λ j. ap (λ (xs : Followed). at_number xs j) k ∙ at-changed g (turned (turn_of e) os) j f)
+    (λ j. ap (λ (xs : Followed). at_number xs j) k ∙ at-changed g (after_turn (turn_of e) os) j f)
     (λ run. run-grows l.config l.entries (record { event = step_of e; outs = os }) run h.0)
-    (λ m sm. subst (λ t. AreSlotsBy l.config new.entries (turned t os m)) (sym (turn-is e)) (slots-next l.config l.entries m (step_of e) os sm h.0.0 h.0.1)) s
+    (λ m sm. subst (λ t. AreSlotsBy l.config new.entries (after_turn t os m)) (sym (turn-is e)) (slots-next l.config l.entries m (step_of e) os sm h.0.0 h.0.1)) s
 
 -- no network comes or goes
 record SameNumbers (logs now : List Log) : Type 0 where

@@ -11,7 +11,7 @@ use Rattle.hoststep.specs.Worlds.{items_of}
 use Rattle.network.specs.declared.plan.Emission.{Emission}
 use Rattle.runs.specs.declared.followed.Turn.TheVariants.{Within}
 use Rattle.runs.specs.Emissions.{OpenSlot, OpenSlots, at_number, changed_at, first_emitted, given_out, given_out_by, handed_on, noted_outs, waits}
-use Rattle.runs.specs.Followed.{Followed, handed_at, handed_in, noted, open_slot, waiting, with_handed}
+use Rattle.runs.specs.Followed.{Followed, handed_at, handed_in, followed_after, open_slot, waiting, with_handed}
 use Rattle.runs.specs.Hosting.{Hosting, noted_answer}
 use Rattle.runs.specs.Settling.{HandedOnIsCounted, HeardWaitsOn, IsHanded, IsHeardBy, hearing}
 use Rattle.runs.specs.Settling.IsHeardBy.{by_all, by_one, refused}
@@ -63,7 +63,7 @@ module _ (g slot n : ℕ) (e : Emission) where
   changed-in change changes None w = w
   changed-in change changes (Some m) w = changes m w
 
-  noted-behind : (outs : List Out) (f : Followed) → IsIn (at_number f g) → IsIn (at_number (noted g Within outs f) g)
+  noted-behind : (outs : List Out) (f : Followed) → IsIn (at_number f g) → IsIn (at_number (followed_after g Within outs f) g)
   noted-behind outs f w =
       subst IsIn (sym (at-changed g (noted_outs outs) g f ∙ ap (λ b. if b then option_map (noted_outs outs) (at_number f g) else at_number f g) (equal-self g)))
       (changed-in (noted_outs outs) (slots-behind outs) (at_number f g) w)

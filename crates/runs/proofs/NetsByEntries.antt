@@ -23,7 +23,7 @@ use Rattle.hoststep.proofs.SlicesThen.{open-numbers}
 use Rattle.runs.specs.declared.followed.Turn.{Turn}
 use Rattle.runs.specs.declared.followed.Turn.TheVariants as turn
 use Rattle.runs.specs.Emissions.{OpenSlot, OpenSlots, at_number, changed_at, first_emitted, given_out, given_out_by, just_opened, noted_outs, with_slot, without_slot}
-use Rattle.runs.specs.Followed.{turned}
+use Rattle.runs.specs.Followed.{after_turn}
 use Rattle.runs.specs.ByJournals.{AreSlotsBy, IsSlotBy, values_at}
 use Rattle.runs.proofs.NumberedRows.{at-changed, at-inserted, at-removed, equal-flip, once-changed, once-inserted, once-removed, or-swapped}
 use Rattle.runs.proofs.SlotsByEntries.{AreFrom, slot-next, slot-still, sent-elsewhere, values-by, values-at}
@@ -332,10 +332,10 @@ turn_in (Closes i) = turn.Closes i
 turn_in _ = turn.Within
 
 pub slots-next : (config : Config) (entries : List Entry) (m : OpenSlots) (e : Step) (os : List Out) → AreSlotsBy config entries m → refusal_of config entries e ≡ None → os ≡ outs_given config entries e
-    → AreSlotsBy config (entries ++ record { event = e; outs = os } ∷ []) (turned (turn_in e) os m)
+    → AreSlotsBy config (entries ++ record { event = e; outs = os } ∷ []) (after_turn (turn_in e) os m)
 slots-next config entries m e os s free given = by e free (subst (IsGivenAt (slot_and_node_of e)) (sym given) (effect-given (state_of config entries) e (run-in-place (new_net config) entries tt)))
   where
-    by : (x : Step) → refusal_of config entries x ≡ None → IsGivenAt (slot_and_node_of x) os → AreSlotsBy config (entries ++ record { event = x; outs = os } ∷ []) (turned (turn_in x) os m)
+    by : (x : Step) → refusal_of config entries x ≡ None → IsGivenAt (slot_and_node_of x) os → AreSlotsBy config (entries ++ record { event = x; outs = os } ∷ []) (after_turn (turn_in x) os m)
     by (Opens j) f g = opens-next config entries m s os j f g
     by (Closes j) f g = closes-next config entries m s os j f g
     by (Proposes j u x) f g = within-next config entries m s os (Proposes j u x) f (λ i. refl) refl (slot_and_node_of (Proposes j u x)) refl g

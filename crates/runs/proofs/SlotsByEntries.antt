@@ -21,7 +21,7 @@ use Rattle.hoststep.specs.Deciding.{ExternalizedValue, decided_at, decisions_by,
 use Rattle.hoststep.proofs.DecisionLists.{decisions_by-append}
 use Rattle.network.specs.declared.plan.Emission.{Emission}
 use Rattle.runs.specs.declared.emissions.Speaker.{Speaker}
-use Rattle.runs.specs.Emissions.{OpenSlot, count_of, emitted, given_out, next_number, numbered, speaker_at, with_decision, with_emission, with_speaker}
+use Rattle.runs.specs.Emissions.{OpenSlot, count_of, with_next_emission, given_out, next_number, emission_of_number, speaker_at, with_decision, with_emission, with_speaker}
 use Rattle.runs.specs.ByJournals.{IsSlotBy, count_among, numbered_behind, sent_at, speaker_of, values_at}
 use Rattle.runs.proofs.NumberedRows.{equal-flip, equal-self}
 
@@ -108,15 +108,15 @@ pub record Says (names : List ℕ) (es : List Sent) (d : ℕ → Option (List �
   pub handed : o.handed ≤ length o.emissions
 
 module _ (names : List ℕ) (single : all_differ names ≡ true) (u : ℕ) (hosted : list_any (λ v. v == u) names ≡ true) where
-  says-emission : (es : List Sent) (d : ℕ → Option (List ℕ)) (o : OpenSlot) (e : Sent) → e.sender ≡ u → Says names es d o → Says names (es ++ e ∷ []) d (emitted e.sender (kind_of e.body) o)
+  says-emission : (es : List Sent) (d : ℕ → Option (List ℕ)) (o : OpenSlot) (e : Sent) → e.sender ≡ u → Says names es d o → Says names (es ++ e ∷ []) d (with_next_emission e.sender (kind_of e.body) o)
   says-emission es d o e by s =
       let k : Kind = kind_of e.body in
       let among : list_any (λ v. v == e.sender) names ≡ true = subst (λ w. list_any (λ v. v == w) names ≡ true) (sym by) hosted in
       let found : speaker_at o.speakers e.sender ≡ Some (speaker_of es d e.sender) = ap (λ (ss : List Speaker). speaker_at ss e.sender) s.speakers ∙ found-among e.sender (speaker_of es d) (λ v. refl) names among in
       let next : next_number o.speakers e.sender k ≡ Some (count_among e.sender k es + 1) = ap (option_map (λ x. count_of k x + 1)) found ∙ ap (λ n. Some (n + 1)) (count-is k es d e.sender) in
-      let more : o.emissions ++ numbered e.sender k (next_number o.speakers e.sender k) ≡ numbered_behind [] (es ++ e ∷ []) =
-      ap₂ (λ (xs : List Emission) (n : Option ℕ). xs ++ numbered e.sender k n) s.emissions next ∙ sym (numbered-more [] es e) in
-      let longer = length-append o.emissions (numbered e.sender k (next_number o.speakers e.sender k)) in
+      let more : o.emissions ++ emission_of_number e.sender k (next_number o.speakers e.sender k) ≡ numbered_behind [] (es ++ e ∷ []) =
+      ap₂ (λ (xs : List Emission) (n : Option ℕ). xs ++ emission_of_number e.sender k n) s.emissions next ∙ sym (numbered-more [] es e) in
+      let longer = length-append o.emissions (emission_of_number e.sender k (next_number o.speakers e.sender k)) in
       let held = s.handed in
       record {
         speakers = ap (with_speaker e.sender (with_emission k)) s.speakers
@@ -161,8 +161,8 @@ module _ (names : List ℕ) (single : all_differ names ≡ true) (u : ℕ) (host
   says-outs (ArmNomination r ∷ outs) es d o by s = says-outs outs es d o by s
   says-outs (ArmBallot n ∷ outs) es d o by s = says-outs outs es d o by s
   says-outs (Emit e ∷ outs) es d o by s =
-      subst (λ (xs : List Sent). Says names xs (decided_then (values_in outs) d) (fold (given_out u) (emitted e.sender (kind_of e.body) o) outs)) (append_assoc es (e ∷ []) (emissions outs))
-      (says-outs outs (es ++ e ∷ []) d (emitted e.sender (kind_of e.body) o) by.1 (says-emission es d o e by.0 s))
+      subst (λ (xs : List Sent). Says names xs (decided_then (values_in outs) d) (fold (given_out u) (with_next_emission e.sender (kind_of e.body) o) outs)) (append_assoc es (e ∷ []) (emissions outs))
+      (says-outs outs (es ++ e ∷ []) d (with_next_emission e.sender (kind_of e.body) o) by.1 (says-emission es d o e by.0 s))
   says-outs (Externalized x ∷ outs) es d o by s =
       subst (λ (f : ℕ → Option (List ℕ)). Says names (es ++ emissions outs) f (fold (given_out u) (record o { speakers = with_speaker u (with_decision x) o.speakers }) outs)) (decided-more d x (values_in outs))
       (says-outs outs es (decided_then (x ∷ []) d) (record o { speakers = with_speaker u (with_decision x) o.speakers }) by (says-decision es d o x s))

@@ -89,20 +89,20 @@ abbrev pub next_number : List Speaker → ℕ → Kind → Option ℕ
 next_number ss u k = option_map (λ s. count_of k s + 1) (speaker_at ss u)
 
 -- an emission of a node by its number, if it has one
-abbrev pub numbered : ℕ → Kind → Option ℕ → List Emission
-numbered u k None = []
-numbered u k (Some n) = record { from = u; kind = k; number = n } ∷ []
+abbrev pub emission_of_number : ℕ → Kind → Option ℕ → List Emission
+emission_of_number u k None = []
+emission_of_number u k (Some n) = record { from = u; kind = k; number = n } ∷ []
 
 -- a node has emitted: the emission, by its number, stands behind the others
-abbrev pub emitted : ℕ → Kind → OpenSlot → OpenSlot
-emitted u k o = record o {
+abbrev pub with_next_emission : ℕ → Kind → OpenSlot → OpenSlot
+with_next_emission u k o = record o {
   speakers = with_speaker u (with_emission k) o.speakers;
-  emissions = o.emissions ++ numbered u k (next_number o.speakers u k);
+  emissions = o.emissions ++ emission_of_number u k (next_number o.speakers u k);
 }
 
 -- an event of a node has given this out
 abbrev pub given_out : ℕ → OpenSlot → Out → OpenSlot
-given_out u o (Emit e) = emitted e.sender (kind_of e.body) o
+given_out u o (Emit e) = with_next_emission e.sender (kind_of e.body) o
 given_out u o (Externalized v) = record o { speakers = with_speaker u (with_decision v) o.speakers }
 given_out u o (ArmNomination round) = o
 given_out u o (ArmBallot counter) = o

@@ -56,11 +56,11 @@ turn_of (event.CloseSlot slot) = Closes slot
 turn_of _ = Within
 
 -- the slots of a network where an event has been applied that gave this out
-abbrev pub turned : Turn → List Out → OpenSlots → OpenSlots
-turned (Opens slot) outs m = with_slot slot m
-turned (Closes slot) outs m = without_slot slot m
-turned Within outs m = noted_outs outs m
+abbrev pub after_turn : Turn → List Out → OpenSlots → OpenSlots
+after_turn (Opens slot) outs m = with_slot slot m
+after_turn (Closes slot) outs m = without_slot slot m
+after_turn Within outs m = noted_outs outs m
 
 -- an event of the network of a number has been applied
-abbrev pub noted : ℕ → Turn → List Out → Followed → Followed
-noted g turn outs f = changed_at f g (turned turn outs)
+abbrev pub followed_after : ℕ → Turn → List Out → Followed → Followed
+followed_after g turn outs f = changed_at f g (after_turn turn outs)

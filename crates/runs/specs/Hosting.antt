@@ -8,7 +8,7 @@ use Rattle.types.specs.declared.event.Refusal.{Refusal}
 use Rattle.hoststep.specs.Logs.{Log}
 use Rattle.hoststep.specs.Worlds.{IsAnswered, items_of, log_at, logs_with}
 use Rattle.runs.specs.Outlines.{Waiting, waiting_at}
-use Rattle.runs.specs.Followed.{Followed, also_followed, noted, turn_of}
+use Rattle.runs.specs.Followed.{Followed, also_followed, followed_after, turn_of}
 use Rattle.runs.specs.Joining.{HaveJoined, NetworkIsNamed, Joins}
 use Rattle.runs.specs.Naming.{Named, named_with, unnamed}
 use Rattle.runs.specs.Replies.{IsReply}
@@ -55,7 +55,7 @@ DeclaresNothing old new = (new.waiting ≡ old.waiting) × (new.named ≡ old.na
 -- an event of the network of a number has been answered: what is kept of its slots follows what it gave out, and a
 -- refusal changes nothing
 abbrev pub noted_answer : ℕ → Event → Result (List Out) Refusal → Followed → Followed
-noted_answer g e (Ok outs) f = noted g (turn_of e) outs f
+noted_answer g e (Ok outs) f = followed_after g (turn_of e) outs f
 noted_answer g e (Err r) f = f
 
 -- an event is put to the network of a number, and answered

@@ -89,38 +89,38 @@ saying_in from i statement =
 
 -- ---- the event that the fields after the number of the network ask for, on a line of each kind
 
-abbrev pub opened : List Bytes → Option Event
-opened (i ∷ []) = option_map (λ slot. OpenSlot slot) (slot_in i)
-opened fields = None
+abbrev pub opening_in : List Bytes → Option Event
+opening_in (i ∷ []) = option_map (λ slot. OpenSlot slot) (slot_in i)
+opening_in fields = None
 
-abbrev pub closed : List Bytes → Option Event
-closed (i ∷ []) = option_map (λ slot. CloseSlot slot) (slot_in i)
-closed fields = None
+abbrev pub closing_in : List Bytes → Option Event
+closing_in (i ∷ []) = option_map (λ slot. CloseSlot slot) (slot_in i)
+closing_in fields = None
 
 -- of a slot, a node and a value
-abbrev pub proposed : List Bytes → Option Event
-proposed fields =
+abbrev pub proposal_in : List Bytes → Option Event
+proposal_in fields =
     option_and_then (λ w. option_and_then (λ at. option_map (λ x. Propose at.0 at.1 x) (word_proposal w.2)) (slot_and_node_in w.0 w.1)) (three fields)
 
 -- of a node and bytes
-abbrev pub delivered : List Bytes → Option Event
-delivered (name ∷ digits ∷ []) =
+abbrev pub delivery_in : List Bytes → Option Event
+delivery_in (name ∷ digits ∷ []) =
     option_and_then (λ u. option_map (λ bytes. Deliver u bytes) (octets_in digits)) (word_name name)
-delivered fields = None
+delivery_in fields = None
 
 -- of a slot, a node and an emission
-abbrev pub heard : List Bytes → Option Event
-heard fields =
+abbrev pub hearing_in : List Bytes → Option Event
+hearing_in fields =
     option_and_then (λ w. option_and_then (λ at. option_map (λ x. Hear at.0 at.1 x.0 x.1 x.2) (emission_in w.2 w.3 w.4)) (slot_and_node_in w.0 w.1)) (five fields)
 
 -- of a slot, a node and a round
-abbrev pub nomination_timed : List Bytes → Option Event
-nomination_timed fields =
+abbrev pub nomination_timer_in : List Bytes → Option Event
+nomination_timer_in fields =
     option_and_then (λ w. option_and_then (λ at. option_map (λ r. NominationTimer at.0 at.1 r) (word_counter w.2)) (slot_and_node_in w.0 w.1)) (three fields)
 
 -- of a slot, a node and a counter
-abbrev pub ballot_timed : List Bytes → Option Event
-ballot_timed fields =
+abbrev pub ballot_timer_in : List Bytes → Option Event
+ballot_timer_in fields =
     option_and_then (λ w. option_and_then (λ at. option_map (λ n. BallotTimer at.0 at.1 n) (word_counter w.2)) (slot_and_node_in w.0 w.1)) (three fields)
 
 -- at this slot and node, if any, the slices that the word spells
@@ -162,12 +162,12 @@ IsRead {X} asks None = (x : X) → ¬ asks x
 
 -- a line of a kind, by its fields after the number of the network, asks for this event, or for none
 abbrev pub IsAsked : EventVerb → List Bytes → Option Event → Type 0
-IsAsked ask.Open fields asked = asked ≡ opened fields
-IsAsked ask.Close fields asked = asked ≡ closed fields
-IsAsked ask.Propose fields asked = asked ≡ proposed fields
-IsAsked ask.Deliver fields asked = asked ≡ delivered fields
+IsAsked ask.Open fields asked = asked ≡ opening_in fields
+IsAsked ask.Close fields asked = asked ≡ closing_in fields
+IsAsked ask.Propose fields asked = asked ≡ proposal_in fields
+IsAsked ask.Deliver fields asked = asked ≡ delivery_in fields
 IsAsked ask.Say fields asked = IsRead (AsksSay fields) asked
-IsAsked ask.Hear fields asked = asked ≡ heard fields
-IsAsked ask.NominationTimer fields asked = asked ≡ nomination_timed fields
-IsAsked ask.BallotTimer fields asked = asked ≡ ballot_timed fields
+IsAsked ask.Hear fields asked = asked ≡ hearing_in fields
+IsAsked ask.NominationTimer fields asked = asked ≡ nomination_timer_in fields
+IsAsked ask.BallotTimer fields asked = asked ≡ ballot_timer_in fields
 IsAsked ask.Reslice fields asked = IsRead (AsksReslice fields) asked

@@ -22,10 +22,10 @@ use Rattle.runs.specs.Lines.{IsAsked, IsRead, slot_in, verb_in}
 -- ---- declarations
 
 -- a number behind its word, and the fields that follow
-abbrev pub counted : Bytes → List Bytes → Option (ℕ × List Bytes)
-counted name (word ∷ number ∷ more) =
+abbrev pub number_behind : Bytes → List Bytes → Option (ℕ × List Bytes)
+number_behind name (word ∷ number ∷ more) =
     if pointwise nat_eq word name then option_map (λ n. (n, more)) (word_number (2 ^ 64) number) else None
-counted name fields = None
+number_behind name fields = None
 
 abbrev pub budgets_of : ℕ → ℕ → ℕ × List Bytes → Option Budgets
 budgets_of events bytes (slots, []) = Some (record { events = events; bytes = bytes; slots = slots })
@@ -34,7 +34,7 @@ budgets_of events bytes (slots, field ∷ more) = None
 -- the numbers of budgets, each behind its word
 abbrev pub budgets_in : List Bytes → Option Budgets
 budgets_in fields =
-    option_and_then (λ events. option_and_then (λ bytes. option_and_then (λ slots. budgets_of events.0 bytes.0 slots) (counted (codes "slots") bytes.1)) (counted (codes "bytes") events.1)) (counted (codes "events") fields)
+    option_and_then (λ events. option_and_then (λ bytes. option_and_then (λ slots. budgets_of events.0 bytes.0 slots) (number_behind (codes "slots") bytes.1)) (number_behind (codes "bytes") events.1)) (number_behind (codes "events") fields)
 
 -- the numbers are budgets that a network can have
 abbrev pub AreAllowed : Option Budgets → Request → Type 0
@@ -55,7 +55,7 @@ AsksNode fields r = ⊥
 abbrev pub shares_in : List Bytes → Option (Shares × List Bytes)
 shares_in fields =
     option_and_then (λ own. option_and_then (λ pair. option_and_then (λ bytes. option_map (λ opens. (record { own = own.0; pair = pair.0; bytes = bytes.0; opens = opens.0 }, opens.1))
-    (counted (codes "opens") bytes.1)) (counted (codes "bytes") pair.1)) (counted (codes "pair") own.1)) (counted (codes "own") fields)
+    (number_behind (codes "opens") bytes.1)) (number_behind (codes "bytes") pair.1)) (number_behind (codes "pair") own.1)) (number_behind (codes "own") fields)
 
 -- the names that a list with a comma (44) between each and the next spells
 abbrev pub names_in : Bytes → Option (List ℕ)
@@ -79,16 +79,16 @@ AsksRoster fields r = IsReserved (shares_in fields) r
 -- ---- requests
 
 -- the only field is the slot
-abbrev pub settled : List Bytes → Option Request
-settled (i ∷ []) = option_map (λ slot. Settle slot) (slot_in i)
-settled fields = None
+abbrev pub settling_in : List Bytes → Option Request
+settling_in (i ∷ []) = option_map (λ slot. Settle slot) (slot_in i)
+settling_in fields = None
 
 -- a line of this kind, by its fields after the number of the network, asks for this, or for nothing
 abbrev pub IsRequest : Verb → List Bytes → Option Request → Type 0
 IsRequest verb.Net fields asked = IsRead (AreAllowed (budgets_in fields)) asked
 IsRequest verb.Node fields asked = IsRead (AsksNode fields) asked
 IsRequest verb.Roster fields asked = IsRead (AsksRoster fields) asked
-IsRequest verb.Settle fields asked = asked ≡ settled fields
+IsRequest verb.Settle fields asked = asked ≡ settling_in fields
 IsRequest (verb.Event v) fields asked =
     (event : Option Event) × IsAsked v fields event × (asked ≡ option_map (λ e. Apply e) event)
 

@@ -37,14 +37,14 @@ entries_in None = 0
 entries_in (Some l) = length l.entries
 
 -- a trace with a line more, which names the network of a number
-abbrev pub traced : ℕ → List Log → Option Trace → Option Trace
-traced g logs None = None
-traced g logs (Some t) = Some (t ++ (g, entries_in (log_at logs g)) ∷ [])
+abbrev pub trace_after : ℕ → List Log → Option Trace → Option Trace
+trace_after g logs None = None
+trace_after g logs (Some t) = Some (t ++ (g, entries_in (log_at logs g)) ∷ [])
 
 -- what a line tells where nothing is printed
 abbrev pub TellsUnprinted : Unprinted → List Bytes → Option Bytes → Unprinted → Type 0
 TellsUnprinted old fields printed new = (g : ℕ) × (printed ≡ None) × IsRunBy g fields old.hosting new.hosting
-    × (new.trace ≡ traced g new.hosting.logs old.trace)
+    × (new.trace ≡ trace_after g new.hosting.logs old.trace)
 
 -- the line is bad
 abbrev pub RefusesUnprinted : Unprinted → List Bytes → Type 0

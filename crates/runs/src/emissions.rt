@@ -3,8 +3,8 @@
 ghost use Rattle.std.specs.Prelude.{◌+◌, ◌==◌, ◌<◌, ◌≡◌, ◌^◌, ◌++◌, [], IfOk, IfSome, OnOk, fold, length, map, option_map, string_bytes};
 ghost use Rattle.std.specs.List.{position_from};
 ghost use Rattle.configuration.specs.Configs.{names_of};
-ghost use Rattle.runs.specs.Emissions.{at_number, changed_at, count_of, emitted, first_emitted, given_out, handed_on, just_opened, next_number, noted_outs, silent, waits, with_decision, with_emission, with_slot, with_speaker, without_slot};
-ghost use Rattle.runs.specs.Followed.{turned};
+ghost use Rattle.runs.specs.Emissions.{at_number, changed_at, count_of, with_next_emission, first_emitted, given_out, handed_on, just_opened, next_number, noted_outs, silent, waits, with_decision, with_emission, with_slot, with_speaker, without_slot};
+ghost use Rattle.runs.specs.Followed.{after_turn};
 ghost use Rattle.runs.specs.SettledLines.{text_of_decided, text_of_speaker, text_of_speakers};
 
 use crate::followed::Turn;
@@ -105,7 +105,7 @@ impl OpenSlot {
 
     /// A node has emitted.
     fn note_emission(&mut self, from: NodeId, kind: Kind) -> Result<(), AllocError>
-        ensures { OnOk result (self.new ≡ emitted from kind self.old) }
+        ensures { OnOk result (self.new ≡ with_next_emission from kind self.old) }
     {
         match count_in(&mut self.speakers, &from, kind)? {
             Some(number) => {
@@ -239,7 +239,7 @@ impl OpenSlots {
 
     /// An event that was applied has opened a slot, closed one, or has given this out within one.
     pub fn turn(&mut self, turn: Turn, outs: &[Out]) -> Result<(), AllocError>
-        ensures { OnOk result (self.new ≡ turned turn outs.now self.old) }
+        ensures { OnOk result (self.new ≡ after_turn turn outs.now self.old) }
     {
         match turn {
             Turn::Opens(slot) => self.open(slot),

@@ -1,7 +1,7 @@
 //! Events as lines write them, after the number of the network. Fields that have not this form ask for none.
 
 ghost use Rattle.std.specs.Prelude.{◌≡◌, IfOk, IfSome, map, option_map};
-ghost use Rattle.runs.specs.Lines.{AreSaid, AsksReslice, AsksSay, IsAsked, IsRead, ballot_timed, closed, delivered, emission_in, five, heard, kind_in, nomination_timed, opened, slot_and_node_in, proposed, saying_in, slot_in, three, word_proposal};
+ghost use Rattle.runs.specs.Lines.{AreSaid, AsksReslice, AsksSay, IsAsked, IsRead, ballot_timer_in, closing_in, delivery_in, emission_in, five, hearing_in, kind_in, nomination_timer_in, opening_in, slot_and_node_in, proposal_in, saying_in, slot_in, three, word_proposal};
 
 use crate::verbs::{EventVerb, is_word};
 use codec::encode;
@@ -34,7 +34,7 @@ pub(crate) fn event_of(
 
 /// `I`: the slot is opened.
 fn open(fields: &[&[u8]]) -> Option<Event>
-    ensures { result ≡ opened (map (λ field. field.now) fields.now) }
+    ensures { result ≡ opening_in (map (λ field. field.now) fields.now) }
 {
     let [slot] = fields else {
         return None;
@@ -47,7 +47,7 @@ fn open(fields: &[&[u8]]) -> Option<Event>
 
 /// `I`: the slot is closed.
 fn close(fields: &[&[u8]]) -> Option<Event>
-    ensures { result ≡ closed (map (λ field. field.now) fields.now) }
+    ensures { result ≡ closing_in (map (λ field. field.now) fields.now) }
 {
     let [slot] = fields else {
         return None;
@@ -61,7 +61,7 @@ fn close(fields: &[&[u8]]) -> Option<Event>
 /// `I NAME VALUE`: the node is to propose the bytes of the value, whose number the network tests where they
 /// are written as digits.
 fn propose(alloc: Global, fields: &[&[u8]]) -> Result<Option<Event>, AllocError>
-    ensures { IfOk result (λ o. o ≡ proposed (map (λ field. field.now) fields.now)) }
+    ensures { IfOk result (λ o. o ≡ proposal_in (map (λ field. field.now) fields.now)) }
 {
     let Some((slot, node, value)) = three_of(fields) else {
         return Ok(None);
@@ -94,7 +94,7 @@ fn proposal_of(alloc: Global, word: &[u8]) -> Result<Option<Vec<u8>>, AllocError
 
 /// `NAME HEX`: the bytes reach the node.
 fn deliver(alloc: Global, fields: &[&[u8]]) -> Result<Option<Event>, AllocError>
-    ensures { IfOk result (λ o. o ≡ delivered (map (λ field. field.now) fields.now)) }
+    ensures { IfOk result (λ o. o ≡ delivery_in (map (λ field. field.now) fields.now)) }
 {
     let [node, bytes] = fields else {
         return Ok(None);
@@ -174,7 +174,7 @@ fn saying_of(
 
 /// `I NAME FROM nom K` or `I NAME FROM bal K`: the node hears an emission.
 fn hear(fields: &[&[u8]]) -> Option<Event>
-    ensures { result ≡ heard (map (λ field. field.now) fields.now) }
+    ensures { result ≡ hearing_in (map (λ field. field.now) fields.now) }
 {
     let Some((slot, node, from, kind, number)) = five_of(fields) else {
         return None;
@@ -223,7 +223,7 @@ fn kind_of(word: &[u8]) -> Option<Kind>
 
 /// `I NAME R`: the node's nomination timer of this round fires.
 fn nomination_timer(fields: &[&[u8]]) -> Option<Event>
-    ensures { result ≡ nomination_timed (map (λ field. field.now) fields.now) }
+    ensures { result ≡ nomination_timer_in (map (λ field. field.now) fields.now) }
 {
     let Some((slot, node, round)) = three_of(fields) else {
         return None;
@@ -239,7 +239,7 @@ fn nomination_timer(fields: &[&[u8]]) -> Option<Event>
 
 /// `I NAME C`: the node's ballot timer for this counter fires.
 fn ballot_timer(fields: &[&[u8]]) -> Option<Event>
-    ensures { result ≡ ballot_timed (map (λ field. field.now) fields.now) }
+    ensures { result ≡ ballot_timer_in (map (λ field. field.now) fields.now) }
 {
     let Some((slot, node, counter)) = three_of(fields) else {
         return None;

@@ -2,7 +2,7 @@
 
 ghost use Rattle.std.specs.Prelude.{◌≡◌, ◌<◌, ◌^◌, [], IfOk, IfSome, OnOk, is_some, option_map, string_bytes};
 ghost use Rattle.runs.specs.Emissions.{at_number};
-ghost use Rattle.runs.specs.Followed.{followed_with, handed_at, names_at, noted, open_slot, turn_of, waiting, with_handed};
+ghost use Rattle.runs.specs.Followed.{followed_with, handed_at, names_at, followed_after, open_slot, turn_of, waiting, with_handed};
 ghost use Rattle.runs.specs.SettledLines.{settled_text};
 
 use crate::emissions::{OpenSlot, OpenSlots};
@@ -89,7 +89,7 @@ impl Followed {
 
     /// Keeps what settling needs of an event that was applied.
     pub fn note(&mut self, number: u32, turn: Turn, outs: &[Out]) -> Result<(), AllocError>
-        ensures { OnOk result (self.new ≡ noted number turn outs.now self.old) }
+        ensures { OnOk result (self.new ≡ followed_after number turn outs.now self.old) }
     {
         match self.running.get_mut(&number) {
             Some(slots) => slots.turn(turn, outs),

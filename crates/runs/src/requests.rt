@@ -2,7 +2,7 @@
 
 ghost use Rattle.std.specs.Prelude.{◌≡◌, Err, IfOk, None, Some, map, option_map};
 ghost use Rattle.runs.specs.Lines.{IsRead};
-ghost use Rattle.runs.specs.Requests.{AreAllowed, AsksNode, AsksRoster, IsRequest, IsRequested, budgets_in, counted, names_in, only_names, settled, shares_in};
+ghost use Rattle.runs.specs.Requests.{AreAllowed, AsksNode, AsksRoster, IsRequest, IsRequested, budgets_in, number_behind, names_in, only_names, settling_in, shares_in};
 
 use crate::events::event_of;
 use crate::verbs::{Verb, is_word, verb_of};
@@ -111,7 +111,7 @@ fn numbers_of(fields: &[&[u8]]) -> Option<(u64, u64, u64)>
 
 /// The number behind a word, and the fields that follow.
 fn behind_word<'a, 'b>(fields: &'a [&'b [u8]], word: &[u8]) -> Option<(u64, &'a [&'b [u8]])>
-    ensures { option_map (λ r. (r.0, map (λ field. field.now) r.1.now)) result ≡ counted word.now (map (λ field. field.now) fields.now) }
+    ensures { option_map (λ r. (r.0, map (λ field. field.now) r.1.now)) result ≡ number_behind word.now (map (λ field. field.now) fields.now) }
 {
     let [first, number, rest @ ..] = fields else {
         return None;
@@ -210,7 +210,7 @@ fn names_of(alloc: Global, list: &[u8]) -> Result<Option<Vec<NodeId>>, AllocErro
 
 /// The only field is a slot.
 fn settle_at(fields: &[&[u8]]) -> Option<Request>
-    ensures { result ≡ settled (map (λ field. field.now) fields.now) }
+    ensures { result ≡ settling_in (map (λ field. field.now) fields.now) }
 {
     let [slot] = fields else {
         return None;

@@ -2,7 +2,7 @@
 
 ghost use Rattle.std.specs.Prelude.{◌≡◌, [], None, OnOk, Some};
 ghost use Rattle.runs.specs.Hosting.{unhosted};
-ghost use Rattle.runs.specs.Unprinted.{IsFinishedUnprinted, origin_in, traced};
+ghost use Rattle.runs.specs.Unprinted.{IsFinishedUnprinted, origin_in, trace_after};
 
 use crate::host_run::HostRun;
 use crate::trace::Trace;
@@ -83,7 +83,7 @@ impl UnprintedRun {
     /// Keeps that a line has been run that names a network.
     fn note(&mut self, net: u32) -> Result<(), AllocError>
         ensures hosting { self.new.hosting ≡ self.old.hosting }
-        ensures trace { OnOk result (self.new.trace ≡ traced net self.old.hosting.logs self.old.trace) }
+        ensures trace { OnOk result (self.new.trace ≡ trace_after net self.old.hosting.logs self.old.trace) }
     {
         let entries = match self.run.world().journal(net) {
             Some(journal) => journal.len(),

@@ -8,7 +8,7 @@ ghost use Rattle.cells.specs.declared.refusal.CellRefusal.TheVariants.{Closed};
 ghost use Rattle.cells.specs.Cells.{AllFresh, IsApplied, IsDenial, IsSameButSeen, IsSeatOf, IsStopped};
 ghost use Rattle.cells.specs.Closing.{AllSeats, HasNumber, ended_sight, Gathered, IsOneHistory};
 ghost use Rattle.cells.specs.Publishing.{IsToldBut, decisions_known};
-ghost use Rattle.cells.specs.Rule.{closer_of, note_of, shown, IsKnownAtEnd};
+ghost use Rattle.cells.specs.Rule.{closer_of, note_of, with_note, IsKnownAtEnd};
 ghost use Rattle.cells.specs.Sounds.{IsSound, IsWhy};
 
 use super::Cell;
@@ -90,7 +90,7 @@ fn end_seat<S: Shelf, H: Wait + Drop>(
     ensures seat { seat.new ≡ ended_sight seat.old }
     ensures sound { IsSound seat.new.me }
     ensures queue { IsSamePass keeper.old keeper.new }
-    ensures keeper { view keeper.new ≡ shown (view keeper.old) (note_of seat.old.me) }
+    ensures keeper { view keeper.new ≡ with_note (view keeper.old) (note_of seat.old.me) }
     ensures told { IsKnownAtEnd (view keeper.old).config (view keeper.old).all (view keeper.old).owners (view keeper.old).over (view keeper.old).stopper seat.new.me }
 {
     let note = end(lock, &mut seat.pass);

@@ -1,7 +1,7 @@
 use Rattle.cells.proofs.Seats.{fresh_seats, seat_fresh, seats_more}
 use Rattle.std.proofs.Common.{ap, ◌∙◌, sym, subst, arith, ℕ, ◌≡◌, ◌+◌, suc, List, rules}
 use Rattle.cells.specs.Receipts.{AppliedEvent}
-use Rattle.cells.specs.Rule.{seat_of, one_more, opened}
+use Rattle.cells.specs.Rule.{seat_of, one_more, after_opening}
 use Rattle.cells.specs.Sights.{sight_of}
 use Rattle.cells.specs.Sounds.{IsSeat}
 use Rattle.cells.specs.Cells.{AllFresh}
@@ -20,7 +20,7 @@ loop-number-preserved g c =
     let n = c.loop-number.number in
     let one : suc n ≡ n + 1 = omega arith in (
       (q.0.0 ∙ i.0.0, q.0.2 ∙ i.0.1),
-      v.0 ∙ ap one_more i.1 ∙ ap (λ (k : ℕ). record (opened c.args.config c.args.users.seats) { made = k }) one,
+      v.0 ∙ ap one_more i.1 ∙ ap (λ (k : ℕ). record (after_opening c.args.config c.args.users.seats) { made = k }) one,
       c.push_reserved.ensures.len ∙ ap (λ (k : ℕ). k + 1) i.2,
       search rules,
       search rules,
