@@ -23,7 +23,7 @@ receipts_in (s ∷ ss) = length s.me.receipts + receipts_in ss
 
 -- the seat has ended, and is as it was
 abbrev pub ended_sight : SeatSight → SeatSight
-ended_sight s = record s { me = ended s.me }
+ended_sight s = record s { me = after_end s.me }
 
 -- the cell state, and what is known of each seat by it
 pub record Gathered (c : Config) (n : ℕ) (d : CellStateSight) (seats : List SeatSight) : Type 0 where
