@@ -3,7 +3,7 @@ use Rattle.std.proofs.Common.{◌≡◌, List, [], ◌∷◌, ◌++◌, filter, 
 use Rattle.types.specs.declared.ballot.Ballot.{Ballot}
 use Rattle.types.specs.declared.statement.Statement.{Statement}
 use Rattle.protocol.specs.Candidates.{has_positive_counter}
-use Rattle.fedvote.specs.Searching.{next_under, bettered}
+use Rattle.fedvote.specs.Searching.{next_under, better_under}
 use Rattle.fedvote.proofs.Bettering.{bettered_append}
 
 -- what all statements give, and the last one
@@ -21,5 +21,5 @@ flat_map-last f (s ∷ ss) t = ap (λ zs. f s ++ zs) (flat_map-last f ss t) ∙ 
 
 -- the next candidate of the rows and of one statement more
 pub next_with : (f : Statement → List Ballot) (bound : Option Ballot) (ss : List Statement) (t : Statement)
-    → bettered (next_under bound (filter has_positive_counter (flat_map f ss))) bound (f t) ≡ next_under bound (filter has_positive_counter (flat_map f (ss ++ t ∷ [])))
+    → better_under (next_under bound (filter has_positive_counter (flat_map f ss))) bound (f t) ≡ next_under bound (filter has_positive_counter (flat_map f (ss ++ t ∷ [])))
 next_with f bound ss t = bettered_append None bound (flat_map f ss) (f t) ∙ ap (λ xs. next_under bound (filter has_positive_counter xs)) (sym (flat_map-last f ss t))

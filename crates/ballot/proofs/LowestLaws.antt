@@ -3,7 +3,7 @@ use Rattle.std.proofs.Common.{◌≡◌, ℕ, ◌≤◌, Bool, true, false, List
 use Rattle.std.proofs.lemmas.Bool.{cases_Bool, true≢false}
 use Rattle.types.specs.declared.ballot.Ballot.{Ballot}
 use Rattle.types.specs.Votes.{same_value}
-use Rattle.protocol.specs.States.{below, ballot_at}
+use Rattle.protocol.specs.States.{below, ballot_with}
 use Rattle.protocol.specs.Candidates.{lowest}
 use Rattle.protocol.specs.Extremes.{IsIn, IsLowest}
 use Rattle.protocol.proofs.Ballots.Order.{below-counter, not_below-counter, one_ballot}
@@ -27,7 +27,7 @@ lowest_is_alone test x low ts m n a b = let h = not_over test x low ts m n a b i
 module _ (listed : List Ballot) (holds : Ballot → Bool) (end : Ballot) where
   -- the end's value passes at this counter
   abbrev pub at_counter : ℕ → Bool
-  at_counter n = holds (ballot_at n end.value)
+  at_counter n = holds (ballot_with n end.value)
 
   -- the least counter that passes of the end's own and of the candidates that are not below the bound
   pub record IsLeast (bound : Ballot) (least : ℕ) : Type 0 where
@@ -50,7 +50,7 @@ module _ (listed : List Ballot) (holds : Ballot → Bool) (end : Ballot) where
 
   -- a candidate of the value passes just where the value does at its counter
   at_its_counter : (t : Ballot) → same_value t.value end.value ≡ true → at_counter t.counter ≡ holds t
-  at_its_counter t v = ap (λ x. holds (ballot_at t.counter x)) (sym (same_value-true t.value end.value v))
+  at_its_counter t v = ap (λ x. holds (ballot_with t.counter x)) (sym (same_value-true t.value end.value v))
 
   pub least_passes : (bound t : Ballot) (least : ℕ) → IsLeast bound least → next_under (Some bound) listed ≡ Some t → same_value t.value end.value ≡ true → holds t ≡ true → IsLeast t t.counter
   least_passes bound t least is e v h =

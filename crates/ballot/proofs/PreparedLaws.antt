@@ -8,7 +8,7 @@ use Rattle.types.specs.declared.state.Votes.{Votes}
 use Rattle.std.specs.Option.{option_or}
 use Rattle.drafts.specs.Drafted.{Drafted, after}
 use Rattle.protocol.specs.Views.{Seen}
-use Rattle.protocol.specs.Candidates.{greatest, named}
+use Rattle.protocol.specs.Candidates.{greatest, named_ballots}
 use Rattle.protocol.specs.Balloting.{aborted_by, accept_prepared, is_accepted, may_be_prepared}
 use Rattle.protocol.specs.Passes.{on_ballot, with_ballot}
 use Rattle.protocol.specs.States.{Under, below}
@@ -37,7 +37,7 @@ aborted-self (Some b) a = ap (λ t. if t then a else max a (if less b.value b.va
 
 -- the highest of those that were accepted and those that are
 abbrev highest : Seen → Ballot → Votes → Option Ballot
-highest seen b w = greatest w.prepared (filter (λ t. may_be_prepared w.phase b.value t && is_accepted seen w t) (named seen w))
+highest seen b w = greatest w.prepared (filter (λ t. may_be_prepared w.phase b.value t && is_accepted seen w t) (named_ballots seen w))
 
 pub accepted-same : (seen : Seen) (b : Ballot) (w : Votes) → w.ballot ≡ Some b → w.prepared ≡ highest seen b w → w ≡ on_ballot (accept_prepared seen) w
 unfolding accept_prepared

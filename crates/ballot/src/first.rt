@@ -4,7 +4,7 @@
 
 ghost use Rattle.std.specs.Prelude.{◌≡◌, IfOk, None, OnOk, filter};
 ghost use Rattle.drafts.specs.Drafted.{after};
-ghost use Rattle.protocol.specs.Candidates.{combine, greatest, named};
+ghost use Rattle.protocol.specs.Candidates.{combine, greatest, named_ballots};
 ghost use Rattle.protocol.specs.Balloting.{is_accepted, start, with_first_ballot};
 
 use crate::checks::{PrepareAt, Stage};
@@ -57,7 +57,7 @@ fn greatest_with_prepare_accepted<S: Sight>(
     sight: &S,
     votes: &Votes,
 ) -> Result<Option<Ballot>, AllocError>
-    ensures { IfOk result (λ o. o ≡ greatest None (filter (is_accepted (S.seen sight.now) votes.now) (named (S.seen sight.now) votes.now))) }
+    ensures { IfOk result (λ o. o ≡ greatest None (filter (is_accepted (S.seen sight.now) votes.now) (named_ballots (S.seen sight.now) votes.now))) }
 {
     let own = own_position(votes)?;
     let candidates = MentionedBallots { sight, own: &own };

@@ -1,7 +1,7 @@
 //! The least counter of an interval.
 
 ghost use Rattle.std.specs.Prelude.{◌≡◌, IfOk};
-ghost use Rattle.protocol.specs.States.{ballot_at};
+ghost use Rattle.protocol.specs.States.{ballot_with};
 ghost use Rattle.protocol.specs.Candidates.{lowest};
 
 use crate::search::{Candidates, Check};
@@ -19,7 +19,7 @@ pub(crate) fn lowest_of<'a, C: Candidates, T: Check>(
     test: &T,
     end: &'a Ballot,
 ) -> Result<u32, AllocError>
-    ensures { IfOk result (λ n. n ≡ lowest (λ k. T.holds test.now (ballot_at k end.now.value)) end.now.value end.now.counter (C.listed candidates.now mention)) }
+    ensures { IfOk result (λ n. n ≡ lowest (λ k. T.holds test.now (ballot_with k end.now.value)) end.now.value end.now.counter (C.listed candidates.now mention)) }
 {
     let mut least = end.counter;
     let mut bound = LentBallot::of(end);

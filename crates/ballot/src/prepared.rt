@@ -6,9 +6,9 @@ ghost use Rattle.std.specs.Ordering.{is_lt};
 ghost use Rattle.types.specs.Orders.{bytes_cmp};
 ghost use Rattle.types.specs.Votes.{same_value};
 ghost use Rattle.drafts.specs.Drafted.{after};
-ghost use Rattle.protocol.specs.Candidates.{greatest, named};
+ghost use Rattle.protocol.specs.Candidates.{greatest, named_ballots};
 ghost use Rattle.protocol.specs.States.{Under, below};
-ghost use Rattle.protocol.specs.Balloting.{aborted_by, accept_prepared, chosen, cleared, confirm_prepared, follow_confirmed_prepared, is_aborted, is_accepted, is_confirmed, is_overtaken, may_be_prepared, raise_confirmed_prepared, set_commit};
+ghost use Rattle.protocol.specs.Balloting.{aborted_by, accept_prepared, or_confirmed_ballot, unless_aborted, confirm_prepared, follow_confirmed_prepared, is_aborted, is_accepted, is_confirmed, is_overtaken, may_be_prepared, raise_confirmed_prepared, set_commit};
 ghost use Rattle.protocol.specs.Passes.{in_prepare, on_ballot};
 
 use crate::checks::{MayBePrepared, PrepareAt, Stage};
@@ -51,7 +51,7 @@ fn higher_prepared<'a, S: Sight>(
     votes: &'a Votes,
     ballot: &'a Ballot,
 ) -> Result<Option<Ballot>, AllocError>
-    ensures { IfOk result (λ o. option_or o votes.now.prepared ≡ greatest votes.now.prepared (filter (λ t. may_be_prepared votes.now.phase ballot.now.value t && is_accepted (S.seen sight.now) votes.now t) (named (S.seen sight.now) votes.now))) }
+    ensures { IfOk result (λ o. option_or o votes.now.prepared ≡ greatest votes.now.prepared (filter (λ t. may_be_prepared votes.now.phase ballot.now.value t && is_accepted (S.seen sight.now) votes.now t) (named_ballots (S.seen sight.now) votes.now))) }
 {
     let own = own_position(votes)?;
     let candidates = MentionedBallots { sight, own: &own };
@@ -154,7 +154,7 @@ fn higher_confirmed<'a, S: Sight>(
     sight: &'a S,
     votes: &'a Votes,
 ) -> Result<Option<Ballot>, AllocError>
-    ensures { IfOk result (λ o. option_or o votes.now.confirmed_prepared ≡ greatest votes.now.confirmed_prepared (filter (is_confirmed (S.seen sight.now) votes.now) (named (S.seen sight.now) votes.now))) }
+    ensures { IfOk result (λ o. option_or o votes.now.confirmed_prepared ≡ greatest votes.now.confirmed_prepared (filter (is_confirmed (S.seen sight.now) votes.now) (named_ballots (S.seen sight.now) votes.now))) }
 {
     let own = own_position(votes)?;
     let candidates = MentionedBallots { sight, own: &own };
@@ -212,7 +212,7 @@ fn set_commit(draft: &mut Draft<'_>) -> Result<(), AllocError>
 
 /// Whether there is a ballot whose commit is voted for, and it is not aborted.
 fn keeps_commit(votes: &Votes) -> bool
-    ensures { result ≡ is_some (cleared votes.now votes.now.commit) }
+    ensures { result ≡ is_some (unless_aborted votes.now votes.now.commit) }
 {
     match &votes.commit {
         None => false,
@@ -223,7 +223,7 @@ fn keeps_commit(votes: &Votes) -> bool
 /// The ballot whose commit is to be voted for where there is none: the node's, once it is confirmed as
 /// prepared and is not aborted.
 fn ballot_to_commit(votes: &Votes) -> Result<Option<Ballot>, AllocError>
-    ensures { IfOk result (λ o. o ≡ chosen votes.now votes.now.ballot None) }
+    ensures { IfOk result (λ o. o ≡ or_confirmed_ballot votes.now votes.now.ballot None) }
 {
     match &votes.ballot {
         None => Ok(None),

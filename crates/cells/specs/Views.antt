@@ -45,7 +45,7 @@ pub record Knowledge : Type 0 where
   pub stopper : ℕ
 
 abbrev pub no_config : Config
-no_config = record { number = 0; hosts = []; budgets = record { events = 0; bytes = 0; slots = 0 }; roster = None }
+no_config = record { number = 0; nodes = []; budgets = record { events = 0; bytes = 0; slots = 0 }; roster = None }
 
 abbrev pub nobody : Knowledge
 nobody = record {

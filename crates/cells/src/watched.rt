@@ -4,7 +4,7 @@ ghost use Rattle.std.specs.Prelude.{◌≡◌, ◌+◌, ◌++◌, ◌<◌, ◌�
 ghost use mathlib.Core.List.{IsPrefix};
 ghost use Rattle.network.specs.Decoding.{step_of};
 ghost use Rattle.hoststep.specs.Deciding.{decisions_at, decisions_from};
-ghost use Rattle.hoststep.specs.Logs.{IsEntered, IsRecorded, IsRefused, extended};
+ghost use Rattle.hoststep.specs.Logs.{IsEntered, IsRecorded, IsRefused, with_entry};
 ghost use Rattle.cells.specs.Publishing.{IsPublished, IsToldBut, decisions_known};
 
 use configuration::NetConfig;
@@ -147,7 +147,7 @@ impl<S: Shelf, H: Wait + Drop> WatchedJournal<S, H> {
     /// One event, as by [`Journal::apply_recorded`].
     pub(crate) fn apply_recorded(&mut self, event: Event) -> Result<Recorded, Refusal>
         ensures ok { IfOk result (λ r. IsEntered self.old (step_of event) r.outs.items) }
-        ensures entered { IfOk result (λ r. self.new ≡ extended self.old (step_of event) r.outs.items) }
+        ensures entered { IfOk result (λ r. self.new ≡ with_entry self.old (step_of event) r.outs.items) }
         ensures recorded { IfOk result (IsRecorded self.old event) }
         ensures err { IfErr result (IsRefused self.old (step_of event)) }
         ensures same { OnErr result (self.new ≡ self.old) }

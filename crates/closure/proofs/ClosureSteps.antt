@@ -11,7 +11,7 @@ use Rattle.protocol.specs.Networks.{HostedNode, Step, slices_of}
 use Rattle.protocol.specs.Networks.Reading.{Read, Fault}
 use Rattle.protocol.specs.Networks.Step.{Opens, Closes, Proposes, Delivers, Hears, NominationTimerFires, BallotTimerFires, Reslices}
 use Rattle.protocol.specs.Hosts.{Entry}
-use Rattle.protocol.specs.Isolation.{host_rule, announcement_rules, closure}
+use Rattle.protocol.specs.Isolation.{node_rule, announcement_rules, closure}
 use Rattle.protocol.proofs.Sets.Finite.{among_head, among_tail}
 use Rattle.protocol.proofs.Sets.Contained.{contains_head, contains_tail, contained_cases}
 use Rattle.protocol.proofs.Sets.Derived.{least_is}
@@ -74,9 +74,9 @@ place_taken (x ∷ xs) (suc k) u h = elim (or_cases (x == u) (among (take k xs) 
 ]
 
 -- ---- hosted nodes
-host_found : (hosts : List HostedNode) (w : ℕ) (q : Slices) → slices_of hosts w ≡ Some q → (h : HostedNode) × Contains hosts h × (h.name ≡ w) × (h.slices ≡ q)
-host_found [] w q e = cc
-host_found (h ∷ hs) w q e = go (h.name == w) refl e (host_found hs w q)
+node_found : (nodes : List HostedNode) (w : ℕ) (q : Slices) → slices_of nodes w ≡ Some q → (h : HostedNode) × Contains nodes h × (h.name ≡ w) × (h.slices ≡ q)
+node_found [] w q e = cc
+node_found (h ∷ hs) w q e = go (h.name == w) refl e (node_found hs w q)
   where
     go : (b : Bool) → (h.name == w) ≡ b → (if b then Some h.slices else slices_of hs w) ≡ Some q
         → (slices_of hs w ≡ Some q → (g : HostedNode) × Contains hs g × (g.name ≡ w) × (g.slices ≡ q)) → (g : HostedNode) × Contains (h ∷ hs) g × (g.name ≡ w) × (g.slices ≡ q)
@@ -84,14 +84,14 @@ host_found (h ∷ hs) w q e = go (h.name == w) refl e (host_found hs w q)
     go false n s f = let r = f s in (r.0, contains_tail r.0 h hs r.1, r.2, r.3)
 
 -- where names ascend, each hosted node is found by its name
-abbrev host_names : List HostedNode → List ℕ
-host_names hosts = map (λ h. h.name) hosts
+abbrev node_names : List HostedNode → List ℕ
+node_names nodes = map (λ h. h.name) nodes
 
-found_host : (hosts : List HostedNode) (g : HostedNode) → IsAscending (host_names hosts) → Contains hosts g → slices_of hosts g.name ≡ Some g.slices
-found_host [] g up c = absurd (let l = c.1 in omega arith)
-found_host (h ∷ hs) g up c = elim (contained_cases g h hs c) [
+found_node : (nodes : List HostedNode) (g : HostedNode) → IsAscending (node_names nodes) → Contains nodes g → slices_of nodes g.name ≡ Some g.slices
+found_node [] g up c = absurd (let l = c.1 in omega arith)
+found_node (h ∷ hs) g up c = elim (contained_cases g h hs c) [
   | inl e ↦ subst (λ (x : HostedNode). slices_of (h ∷ hs) x.name ≡ Some x.slices) e (here (h.name == h.name) (eq-eqb h.name h.name refl))
-  | inr k ↦ there (h.name == g.name) refl k (found_host hs g (λ i j d l m. up (suc i) (suc j) d (omega arith) (omega arith)) k)
+  | inr k ↦ there (h.name == g.name) refl k (found_node hs g (λ i j d l m. up (suc i) (suc j) d (omega arith) (omega arith)) k)
 ]
   where
     here : (b : Bool) → b ≡ true → (if b then Some h.slices else slices_of hs h.name) ≡ Some h.slices
@@ -209,9 +209,9 @@ entry_at run n a e = go (slice_get run n) refl e
     go None p q = cc
     go (Some x) p q = (x, p, q)
 
-module _ (hosts : List HostedNode) (i : ℕ) (run : List Entry) where
+module _ (nodes : List HostedNode) (i : ℕ) (run : List Entry) where
   abbrev pub rules : List Rule
-  rules = map host_rule hosts ++ flat_map (λ x. announcement_rules i x.event) run
+  rules = map node_rule nodes ++ flat_map (λ x. announcement_rules i x.event) run
 
   -- all names that are given by any rule
   abbrev pub all_given : List ℕ
@@ -224,12 +224,12 @@ module _ (hosts : List HostedNode) (i : ℕ) (run : List Entry) where
     pub sources : (x : ℕ) → IsTrue (among rule.sources x) → (x ≡ w) ⊎ IsTrue (set x)
     pub gives : IsTrue (among rule.gives u)
 
-  ruled : (set : Names) (w u : ℕ) → IsNamedBy hosts i run set w u → IsRuled set w u
+  ruled : (set : Names) (w u : ℕ) → IsNamedBy nodes i run set w u → IsRuled set w u
   ruled set w u (configured q e g) =
-      let h = host_found hosts w q e in
+      let h = node_found nodes w q e in
       record {
-        rule = host_rule h.0;
-        known = contained_left (host_rule h.0) (map host_rule hosts) (flat_map (λ x. announcement_rules i x.event) run) (mapped_to host_rule hosts h.0 h.1);
+        rule = node_rule h.0;
+        known = contained_left (node_rule h.0) (map node_rule nodes) (flat_map (λ x. announcement_rules i x.event) run) (mapped_to node_rule nodes h.0 h.1);
         sources = λ x m. elim (or_cases (h.0.name == x) false m) [ inl k ↦ inl (sym (eqb-true h.0.name x k) ∙ h.2) | inr k ↦ absurd (false≢true k) ];
         gives = subst (λ (s : Slices). IsTrue (among (names s) u)) (sym h.3) g;
       }
@@ -238,7 +238,7 @@ module _ (hosts : List HostedNode) (i : ℕ) (run : List Entry) where
       let has = announced_rule i x.0.event a x.2 s in
       record {
         rule = has.rule;
-        known = contained_right has.rule (map host_rule hosts) (flat_map (λ y. announcement_rules i y.event) run)
+        known = contained_right has.rule (map node_rule nodes) (flat_map (λ y. announcement_rules i y.event) run)
             (contained_flat (λ y. announcement_rules i y.event) run n x.0 has.rule x.1 has.there);
         sources = λ y m. elim (has.is.sources y m) [
           | inl k ↦ inr (subst (λ z. IsTrue (set z)) k r)
@@ -248,7 +248,7 @@ module _ (hosts : List HostedNode) (i : ℕ) (run : List Entry) where
       }
 
   -- ---- each member of a chained list is derived
-  module _ (v : ℕ) (list : MemberList) (chained : IsChained hosts i v run list) where
+  module _ (v : ℕ) (list : MemberList) (chained : IsChained nodes i v run list) where
     name_at : (k u : ℕ) → slice_get (names_of list) k ≡ Some u → (m : ℕ × ℕ) × (slice_get list k ≡ Some m) × (m.0 ≡ u)
     name_at k u e = go list k e
       where
@@ -282,11 +282,11 @@ module _ (hosts : List HostedNode) (i : ℕ) (run : List Entry) where
     all_derived u h = let p = place_among (names_of list) u h in derived_below (suc p.0) p.0 u (omega arith) p.1
 
   -- ---- where all is settled, the list is closed
-  all_closed : (v : ℕ) (list : MemberList) → IsAscending (host_names hosts) → IsChained hosts i v run list → AllNamesAreMembers hosts i run (names_of list) (names_of list) → IsClosed rules v (among (names_of list))
+  all_closed : (v : ℕ) (list : MemberList) → IsAscending (node_names nodes) → IsChained nodes i v run list → AllNamesAreMembers nodes i run (names_of list) (names_of list) → IsClosed rules v (among (names_of list))
   all_closed v list up chained settled = record {
     start = first_in list chained.first;
-    each = λ r c within u g. elim (contained_either r (map host_rule hosts) (flat_map (λ x. announcement_rules i x.event) run) c) [
-      | inl k ↦ by_host r k within u g
+    each = λ r c within u g. elim (contained_either r (map node_rule nodes) (flat_map (λ x. announcement_rules i x.event) run) c) [
+      | inl k ↦ by_node r k within u g
       | inr k ↦ by_announcement r k within u g
     ];
   }
@@ -295,12 +295,12 @@ module _ (hosts : List HostedNode) (i : ℕ) (run : List Entry) where
       first_in [] e = cc
       first_in (x ∷ xs) e = let same : x.0 ≡ v = cc in subst (λ w. among (names_of (x ∷ xs)) w ≡ true) same (among_head x.0 (names_of xs))
 
-      by_host : (r : Rule) → Contains (map host_rule hosts) r → AreWithin (among r.sources) (among (names_of list)) → (u : ℕ) → IsTrue (among r.gives u) → among (names_of list) u ≡ true
-      by_host r k within u g =
-          let h = mapped_from host_rule hosts r k in
+      by_node : (r : Rule) → Contains (map node_rule nodes) r → AreWithin (among r.sources) (among (names_of list)) → (u : ℕ) → IsTrue (among r.gives u) → among (names_of list) u ≡ true
+      by_node r k within u g =
+          let h = mapped_from node_rule nodes r k in
           let member : among (names_of list) h.0.name ≡ true = subst (λ (x : Rule). AreWithin (among x.sources) (among (names_of list))) (sym h.2) within h.0.name (among_head h.0.name []) in
           let place = place_among (names_of list) h.0.name member in
-          settled place.0 h.0.name place.1 u (configured h.0.slices (found_host hosts h.0 up h.1) (subst (λ (x : Rule). IsTrue (among x.gives u)) (sym h.2) g))
+          settled place.0 h.0.name place.1 u (configured h.0.slices (found_node nodes h.0 up h.1) (subst (λ (x : Rule). IsTrue (among x.gives u)) (sym h.2) g))
 
       by_announcement : (r : Rule) → Contains (flat_map (λ x. announcement_rules i x.event) run) r → AreWithin (among r.sources) (among (names_of list)) → (u : ℕ) → IsTrue (among r.gives u) → among (names_of list) u ≡ true
       by_announcement r k within u g =
@@ -314,7 +314,7 @@ module _ (hosts : List HostedNode) (i : ℕ) (run : List Entry) where
           settled place.0 a.sender place.1 u (learnt x.0 a at told_by.at refl receiver (subst (λ (ns : List ℕ). IsTrue (among ns u)) told_by.is.gives g))
 
   -- a chained list in which all is settled is the closure
-  pub is_closure : (v : ℕ) (list : MemberList) → IsAscending (host_names hosts) → IsChained hosts i v run list → AllNamesAreMembers hosts i run (names_of list) (names_of list) → IsDistinct (λ x y. x == y) (names_of list) → IsClosureList hosts i v run list
+  pub is_closure : (v : ℕ) (list : MemberList) → IsAscending (node_names nodes) → IsChained nodes i v run list → AllNamesAreMembers nodes i run (names_of list) (names_of list) → IsDistinct (λ x y. x == y) (names_of list) → IsClosureList nodes i v run list
   unfolding closure
   is_closure v list up chained settled once = record {
     chained = chained;

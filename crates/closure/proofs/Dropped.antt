@@ -9,7 +9,7 @@ use Rattle.types.specs.Statements.{Sent, kind_of}
 use Rattle.protocol.specs.Sets.{Names, among, also, within, AreWithin}
 use Rattle.protocol.specs.Satisfaction.{names}
 use Rattle.protocol.specs.Rows.{is_kind, is_row_of, row, with_row}
-use Rattle.protocol.specs.Reach.{reached, IsReach}
+use Rattle.protocol.specs.Reach.{reach_of, IsReach}
 use Rattle.protocol.proofs.Sets.Finite.{all_from, within-at}
 use Rattle.protocol.proofs.Sets.Contained.{contains_head, contains_tail}
 use Rattle.protocol.proofs.Reach.Chains.{reached-holds, reached-in}
@@ -34,9 +34,9 @@ there e (y ∷ ys) = go (is_row_of e.sender (kind_of e.body) y) (there e ys)
 -- ---- the reach
 -- A chain through a name that the envelope drops goes from the node's own slices instead: who was reached is.
 rows_held : (own : ℕ) (configured : Slices) (table : List Sent) (e : Sent) → DropsNone own configured table e
-    → (x : Sent) → Contains table x → IsTrue (reached own configured (with_row e table) x.sender) → AreWithin (among (names x.slices)) (reached own configured (with_row e table))
+    → (x : Sent) → Contains table x → IsTrue (reach_of own configured (with_row e table) x.sender) → AreWithin (among (names x.slices)) (reach_of own configured (with_row e table))
 rows_held own configured table e drops x c s =
-    let new = reached own configured (with_row e table) in
+    let new = reach_of own configured (with_row e table) in
     let kept = reached-holds own configured (with_row e table) in
     elim (went e x table c) [
       | inl replaced ↦ λ u h.
@@ -76,13 +76,13 @@ named_held table u w set holds s h = elim (or_cases (names_in_row (row table u K
 pub narrow_now : (own : ℕ) (configured : Slices) (table : List Sent) (us : List ℕ) (e : Sent) → DropsNone own configured table e → IsTrue (among us e.sender)
     → IsReach own configured table us → IsNarrow own configured (with_row e table) e.sender us
 narrow_now own configured table us e drops sender is =
-    let old = reached own configured table in
+    let old = reach_of own configured table in
     let was = reached-holds own configured table in
     let now = reached-holds own configured (with_row e table) in
     record {
       itself = is.exactly own ∙ was.itself;
       configuration = λ u h. is.exactly u ∙ was.configuration u h;
-      sound = λ u h. reached-in own configured table (reached own configured (with_row e table))
+      sound = λ u h. reached-in own configured table (reach_of own configured (with_row e table))
           (record { itself = now.itself; configuration = now.configuration; rows = rows_held own configured table e drops }) u (sym (is.exactly u) ∙ h);
       there = sender;
       rows = λ u h other w named. is.exactly w ∙ named_held table u w old was.rows (sym (is.exactly u) ∙ h)

@@ -27,23 +27,23 @@ of_flat f (x ∷ xs) n u h g = among_append (f x) (flat_map f xs) u ∙ elim (or
   | inr k ↦ or_right (among (f x) u) (among (flat_map f xs) u) (of_flat f xs n u k g)
 ]
 
-module _ (hosts : List HostedNode) (i : ℕ) (run : List Entry) (members : List ℕ) (w : ℕ) where
+module _ (nodes : List HostedNode) (i : ℕ) (run : List Entry) (members : List ℕ) (w : ℕ) where
   -- ---- what an announcement adds
   added_at : ℕ → List ℕ
   added_at n = added_names i members w (announced_at run n)
 
-  added_sound : (n u : ℕ) → among (added_at n) u ≡ true → IsNamedBy hosts i run (among members) w u
+  added_sound : (n u : ℕ) → among (added_at n) u ≡ true → IsNamedBy nodes i run (among members) w u
   unfolding added_at
   added_sound n u h = go (announced_at run n) refl h
     where
-      told : (a : AnnouncedSlices) (b : Bool) → announced_at run n ≡ Some a → (a.slot == i && (a.sender == w && among members a.receiver)) ≡ b → among (if b then names a.slices else []) u ≡ true → IsNamedBy hosts i run (among members) w u
+      told : (a : AnnouncedSlices) (b : Bool) → announced_at run n ≡ Some a → (a.slot == i && (a.sender == w && among members a.receiver)) ≡ b → among (if b then names a.slices else []) u ≡ true → IsNamedBy nodes i run (among members) w u
       told a false e q g = absurd (false≢true g)
       told a true e q g =
           let p = and_parts (a.slot == i) (a.sender == w && among members a.receiver) q in
           let r = and_parts (a.sender == w) (among members a.receiver) p.1 in
           learnt n a e (eqb-true a.slot i p.0) (eqb-true a.sender w r.0) r.1 g
 
-      go : (o : Option AnnouncedSlices) → announced_at run n ≡ o → among (added_names i members w o) u ≡ true → IsNamedBy hosts i run (among members) w u
+      go : (o : Option AnnouncedSlices) → announced_at run n ≡ o → among (added_names i members w o) u ≡ true → IsNamedBy nodes i run (among members) w u
       go None e g = absurd (false≢true g)
       go (Some a) e g = told a (a.slot == i && (a.sender == w && among members a.receiver)) e refl g
 
@@ -61,17 +61,17 @@ module _ (hosts : List HostedNode) (i : ℕ) (run : List Entry) (members : List 
   -- the names so far, where the announcements from a number on have been followed
   pub record IsGathered (next : Option ℕ) (found : List ℕ) : Type 0 where
     pub walked : IsWalked (sender_at i) run w (λ n. AreWithin (among (added_names i members w (announced_at run n))) (among found)) next
-    pub sound : (u : ℕ) → IsTrue (among found u) → IsNamedBy hosts i run (among members) w u
-    pub start : AreWithin (among (known_names (slices_of hosts w))) (among found)
+    pub sound : (u : ℕ) → IsTrue (among found u) → IsNamedBy nodes i run (among members) w u
+    pub start : AreWithin (among (known_names (slices_of nodes w))) (among found)
 
-  configured_names : (o : Option Slices) → slices_of hosts w ≡ o → (u : ℕ) → IsTrue (among (known_names o) u) → IsNamedBy hosts i run (among members) w u
+  configured_names : (o : Option Slices) → slices_of nodes w ≡ o → (u : ℕ) → IsTrue (among (known_names o) u) → IsNamedBy nodes i run (among members) w u
   configured_names None e u h = absurd (false≢true h)
   configured_names (Some q) e u h = configured q e h
 
-  pub gather_begins : (next : Option ℕ) (started : List ℕ) → next ≡ last_below (sender_at i) run w (length run) → started ≡ known_names (slices_of hosts w) → IsGathered next started
+  pub gather_begins : (next : Option ℕ) (started : List ℕ) → next ≡ last_below (sender_at i) run w (length run) → started ≡ known_names (slices_of nodes w) → IsGathered next started
   gather_begins next started e s = record {
     walked = walk_begins (sender_at i) run w (λ n. AreWithin (among (added_names i members w (announced_at run n))) (among started)) next refl e;
-    sound = λ u h. configured_names (slices_of hosts w) refl u (ap (λ (xs : List ℕ). among xs u) (sym s) ∙ h);
+    sound = λ u h. configured_names (slices_of nodes w) refl u (ap (λ (xs : List ℕ). among xs u) (sym s) ∙ h);
     start = λ u h. ap (λ (xs : List ℕ). among xs u) s ∙ h;
   }
 
@@ -91,11 +91,11 @@ module _ (hosts : List HostedNode) (i : ℕ) (run : List Entry) (members : List 
       held : AreWithin (among old) (among new)
       held u h = joined u ∙ or_left (among old u) (among (added_at number) u) h
 
-  pub gather_ends : (next : Option ℕ) (found : List ℕ) → next ≡ None → IsGathered next found → IsGiven hosts i run members w found
+  pub gather_ends : (next : Option ℕ) (found : List ℕ) → next ≡ None → IsGathered next found → IsGiven nodes i run members w found
   unfolding added_at
   gather_ends next found e way = record { sound = way.sound; complete = λ u h. inr (whole u h) }
     where
-      whole : (u : ℕ) → IsNamedBy hosts i run (among members) w u → IsTrue (among found u)
+      whole : (u : ℕ) → IsNamedBy nodes i run (among members) w u → IsTrue (among found u)
       whole u (configured q e g) = way.start u (ap (λ (o : Option Slices). among (known_names o) u) e ∙ g)
       whole u (learnt n a at t f r g) =
           let Done : ℕ → Type 0 = λ n. AreWithin (among (added_names i members w (announced_at run n))) (among found) in
@@ -103,8 +103,8 @@ module _ (hosts : List HostedNode) (i : ℕ) (run : List Entry) (members : List 
           (ap (λ (o : Option AnnouncedSlices). sender_at i o) at ∙ (sender_is i a t ∙ ap Some f)) u (added_there n a u at t f r g)
 
   -- ---- a later turn
-  pub given_by_ready : (ready : List (List ℕ)) (place : ℕ) (numbers found : List ℕ) → IsReady hosts i run members ready → place < length ready → slice_get members place ≡ Some w → ready_at ready place ≡ numbers
-      → found ≡ all_added i run members w numbers → IsGiven hosts i run members w found
+  pub given_by_ready : (ready : List (List ℕ)) (place : ℕ) (numbers found : List ℕ) → IsReady nodes i run members ready → place < length ready → slice_get members place ≡ Some w → ready_at ready place ≡ numbers
+      → found ≡ all_added i run members w numbers → IsGiven nodes i run members w found
   unfolding added_at
   given_by_ready ready place numbers found is within there at e = record {
     sound = λ u h. let k = in_flat added_at numbers u (ap (λ (xs : List ℕ). among xs u) (sym e) ∙ h) in added_sound k.0 u k.1;
@@ -119,7 +119,7 @@ module _ (hosts : List HostedNode) (i : ℕ) (run : List Entry) (members : List 
   }
 
   -- the same names in another order are given too
-  pub given_sorted : (found sorted : List ℕ) → IsGiven hosts i run members w found → ((u : ℕ) → among sorted u ≡ among found u) → IsGiven hosts i run members w sorted
+  pub given_sorted : (found sorted : List ℕ) → IsGiven nodes i run members w found → ((u : ℕ) → among sorted u ≡ among found u) → IsGiven nodes i run members w sorted
   given_sorted found sorted is same = record {
     sound = λ u h. is.sound u (sym (same u) ∙ h);
     complete = λ u h. elim (is.complete u h) [ inl m ↦ inl m | inr k ↦ inr (same u ∙ k) ];

@@ -56,9 +56,9 @@ pub front_kept : (old mid new : MemberList) → take (length old) mid ≡ old �
 front_kept old mid new a b l = sym (take-take (length old) (length mid) new l) ∙ (ap (λ (xs : MemberList). take (length old) xs) b ∙ a)
 
 -- ---- who is named stays named where there are more members
-pub named_more : (hosts : List HostedNode) (i : ℕ) (run : List Entry) (one other : Names) (w u : ℕ) → AreWithin one other → IsNamedBy hosts i run one w u → IsNamedBy hosts i run other w u
-named_more hosts i run one other w u f (configured q e g) = configured q e g
-named_more hosts i run one other w u f (learnt n a e s t r g) = learnt n a e s t (f a.receiver r) g
+pub named_more : (nodes : List HostedNode) (i : ℕ) (run : List Entry) (one other : Names) (w u : ℕ) → AreWithin one other → IsNamedBy nodes i run one w u → IsNamedBy nodes i run other w u
+named_more nodes i run one other w u f (configured q e g) = configured q e g
+named_more nodes i run one other w u f (learnt n a e s t r g) = learnt n a e s t (f a.receiver r) g
 
 -- a list that another begins with is no longer than that
 length_of_front : (old more : MemberList) → take (length old) more ≡ old → length old ≤ length more
@@ -67,8 +67,8 @@ length_of_front (x ∷ xs) [] e = cc
 length_of_front (x ∷ xs) (y ∷ ys) e = let rest : take (length xs) ys ≡ xs = cc in let l = length_of_front xs ys rest in omega arith
 
 -- ---- one more member
-module _ (hosts : List HostedNode) (i : ℕ) (run : List Entry) where
-  module _ (v : ℕ) (list : MemberList) (x : ℕ × ℕ) (w : ℕ) (chained : IsChained hosts i v run list) (there : slice_get (names_of list) x.1 ≡ Some w) (named : IsNamedBy hosts i run (among (names_of list)) w x.0) where
+module _ (nodes : List HostedNode) (i : ℕ) (run : List Entry) where
+  module _ (v : ℕ) (list : MemberList) (x : ℕ × ℕ) (w : ℕ) (chained : IsChained nodes i v run list) (there : slice_get (names_of list) x.1 ≡ Some w) (named : IsNamedBy nodes i run (among (names_of list)) w x.0) where
     more : MemberList
     more = list ++ x ∷ []
 
@@ -87,33 +87,33 @@ module _ (hosts : List HostedNode) (i : ℕ) (run : List Entry) where
     in_list : x.1 < length list
     in_list = let l = slice_get_within (names_of list) x.1 w there in omega (arith, l, names_length list)
 
-    link_more : (k : ℕ) (m : ℕ × ℕ) → slice_get more (suc k) ≡ Some m → IsNamedBefore hosts i run more (suc k) m
+    link_more : (k : ℕ) (m : ℕ × ℕ) → slice_get more (suc k) ≡ Some m → IsNamedBefore nodes i run more (suc k) m
     unfolding more
     link_more k m e = elim (cases_lt (suc k) (length list)) [
       | inl l ↦ old l (chained.later k m (sym (get_appended list (x ∷ []) (suc k) l) ∙ e))
       | inr l ↦ new (omega (arith, l, slice_get_within (list ++ x ∷ []) (suc k) m e, length_push list x))
     ]
       where
-        old : suc k < length list → IsNamedBefore hosts i run list (suc k) m → IsNamedBefore hosts i run more (suc k) m
+        old : suc k < length list → IsNamedBefore nodes i run list (suc k) m → IsNamedBefore nodes i run more (suc k) m
         old l b = record {
           namer = b.namer;
           there = name_before m.1 (let q = b.before in omega arith) ∙ b.there;
           before = b.before;
-          named = subst (λ (xs : List ℕ). IsNamedBy hosts i run (among xs) b.namer m.0) (sym (front_of_names (suc k) (omega arith))) b.named;
+          named = subst (λ (xs : List ℕ). IsNamedBy nodes i run (among xs) b.namer m.0) (sym (front_of_names (suc k) (omega arith))) b.named;
         }
 
-        new : suc k ≡ length list → IsNamedBefore hosts i run more (suc k) m
+        new : suc k ≡ length list → IsNamedBefore nodes i run more (suc k) m
         new q =
             let same : x ≡ m = get_last list x m (suc k) q e in
             let all : take (suc k) (names_of more) ≡ names_of list = front_of_names (suc k) (omega arith) ∙ take_all (suc k) (names_of list) (omega (arith, q, names_length list)) in
-            subst (λ (y : ℕ × ℕ). IsNamedBefore hosts i run more (suc k) y) same (record {
+            subst (λ (y : ℕ × ℕ). IsNamedBefore nodes i run more (suc k) y) same (record {
               namer = w;
               there = name_before x.1 in_list ∙ there;
               before = let l = in_list in omega (arith, l, q);
-              named = subst (λ (xs : List ℕ). IsNamedBy hosts i run (among xs) w x.0) (sym all) named;
+              named = subst (λ (xs : List ℕ). IsNamedBy nodes i run (among xs) w x.0) (sym all) named;
             })
 
-    pub chained_more : IsChained hosts i v run (list ++ x ∷ [])
+    pub chained_more : IsChained nodes i v run (list ++ x ∷ [])
     unfolding more
     chained_more = record { first = get_appended list (x ∷ []) 0 (let l = in_list in omega arith) ∙ chained.first; later = link_more }
 
@@ -122,14 +122,14 @@ module _ (hosts : List HostedNode) (i : ℕ) (run : List Entry) where
   pub record IsJoining (given : List ℕ) (initial now : MemberList) (n : ℕ) : Type 0 where
     pub kept : take (length initial) now ≡ initial
     pub longer : length initial ≤ length now
-    pub chained : (v : ℕ) → IsChained hosts i v run initial → IsChained hosts i v run now
+    pub chained : (v : ℕ) → IsChained nodes i v run initial → IsChained nodes i v run now
     pub held : AreWithin (among (take n given)) (among (names_of now))
 
   pub joining_begins : (given : List ℕ) (list : MemberList) → IsJoining given list list 0
   joining_begins given list = record { kept = take_all (length list) list (omega arith); longer = omega arith; chained = λ v c. c; held = λ u h. absurd (false≢true h) }
 
   module _ (given : List ℕ) (initial now : MemberList) (place w n x : ℕ) (way : IsJoining given initial now n) (there : slice_get (names_of initial) place ≡ Some w)
-      (sound : IsGiven hosts i run (names_of initial) w given) (next : slice_get given n ≡ Some x) where
+      (sound : IsGiven nodes i run (names_of initial) w given) (next : slice_get given n ≡ Some x) where
     taken_more : take (n + 1) given ≡ take n given ++ x ∷ []
     taken_more = take_more given n x (slice_get_within given n x next) ∙ ap (λ y. take n given ++ y ∷ []) (get_or_from_slice_get given n x x next)
 
@@ -145,7 +145,7 @@ module _ (hosts : List HostedNode) (i : ℕ) (run : List Entry) where
       kept = take-append-le (length initial) now ((x, place) ∷ []) way.longer ∙ way.kept;
       longer = let l = way.longer in omega (arith, length_push now (x, place));
       chained = λ v c. chained_more v now (x, place) w (way.chained v c) name_there
-          (named_more hosts i run (among (names_of initial)) (among (names_of now)) w x (front_among initial now way.kept) (sound.sound x (among_at given n x next)));
+          (named_more nodes i run (among (names_of initial)) (among (names_of now)) w x (front_among initial now way.kept) (sound.sound x (among_at given n x next)));
       held = held_more (now ++ (x, place) ∷ []) (λ u h. ap (λ (xs : List ℕ). among xs u) names_now ∙ (among_append (names_of now) (x ∷ []) u ∙ or_left (among (names_of now) u) (among (x ∷ []) u) h))
           (ap (λ (xs : List ℕ). among xs x) names_now ∙ (among_append (names_of now) (x ∷ []) x ∙ or_right (among (names_of now) x) (among (x ∷ []) x) (among_head x [])));
     }
@@ -164,7 +164,7 @@ module _ (hosts : List HostedNode) (i : ℕ) (run : List Entry) where
   pub all_held : (given : List ℕ) (initial now : MemberList) → IsJoining given initial now (length given) → AreWithin (among given) (among (names_of now))
   all_held given initial now way u k = way.held u (ap (λ (xs : List ℕ). among xs u) (take_all (length given) given (omega arith)) ∙ k)
 
-  pub turn_settles : (given : List ℕ) (initial now : MemberList) (w : ℕ) → IsJoining given initial now (length given) → IsGiven hosts i run (names_of initial) w given → NamesAreMembers hosts i run (names_of now) (names_of initial) w
+  pub turn_settles : (given : List ℕ) (initial now : MemberList) (w : ℕ) → IsJoining given initial now (length given) → IsGiven nodes i run (names_of initial) w given → NamesAreMembers nodes i run (names_of now) (names_of initial) w
   turn_settles given initial now w way sound u h = elim (sound.complete u h) [
     | inl k ↦ front_among initial now way.kept u k
     | inr k ↦ all_held given initial now way u k
@@ -175,15 +175,15 @@ module _ (hosts : List HostedNode) (i : ℕ) (run : List Entry) where
   pub record IsSweeping (initial now : MemberList) (place : ℕ) : Type 0 where
     pub kept : take (length initial) now ≡ initial
     pub longer : length initial ≤ length now
-    pub chained : (v : ℕ) → IsChained hosts i v run initial → IsChained hosts i v run now
-    pub settled : (j w : ℕ) → j < place → slice_get (names_of now) j ≡ Some w → NamesAreMembers hosts i run (names_of now) (names_of initial) w
+    pub chained : (v : ℕ) → IsChained nodes i v run initial → IsChained nodes i v run now
+    pub settled : (j w : ℕ) → j < place → slice_get (names_of now) j ≡ Some w → NamesAreMembers nodes i run (names_of now) (names_of initial) w
 
   pub sweeping_begins : (list : MemberList) → IsSweeping list list 0
   sweeping_begins list = record { kept = take_all (length list) list (omega arith); longer = omega arith; chained = λ v c. c; settled = λ j w l. absurd (omega arith) }
 
-  pub sweeping_goes_on : (initial now new : MemberList) (place v : ℕ) → IsSweeping initial now place → place < length now → IsChained hosts i v run initial
-      → ((x : ℕ) → IsChained hosts i x run now → IsGrown hosts i x run now new)
-      → ((w : ℕ) → slice_get (names_of now) place ≡ Some w → NamesAreMembers hosts i run (names_of new) (names_of now) w)
+  pub sweeping_goes_on : (initial now new : MemberList) (place v : ℕ) → IsSweeping initial now place → place < length now → IsChained nodes i v run initial
+      → ((x : ℕ) → IsChained nodes i x run now → IsGrown nodes i x run now new)
+      → ((w : ℕ) → slice_get (names_of now) place ≡ Some w → NamesAreMembers nodes i run (names_of new) (names_of now) w)
       → IsSweeping initial new (place + 1)
   sweeping_goes_on initial now new place v way inside chain grown turn =
       let g = grown v (way.chained v chain) in
@@ -198,27 +198,27 @@ module _ (hosts : List HostedNode) (i : ℕ) (run : List Entry) where
             elim (cases_lt j place) [
               | inl before ↦ λ u h. front_among now new g.kept u (way.settled j w before was u h)
               | inr here ↦ λ u h. let same : j ≡ place = omega arith in
-                  turn w (subst (λ k. slice_get (names_of now) k ≡ Some w) same was) u (named_more hosts i run (among (names_of initial)) (among (names_of now)) w u (front_among initial now way.kept) h)
+                  turn w (subst (λ k. slice_get (names_of now) k ≡ Some w) same was) u (named_more nodes i run (among (names_of initial)) (among (names_of now)) w u (front_among initial now way.kept) h)
             ];
       }
 
-  pub sweep_settles : (initial now : MemberList) (place : ℕ) → IsSweeping initial now place → length now ≤ place → AllNamesAreMembers hosts i run (names_of now) (names_of initial)
+  pub sweep_settles : (initial now : MemberList) (place : ℕ) → IsSweeping initial now place → length now ≤ place → AllNamesAreMembers nodes i run (names_of now) (names_of initial)
   sweep_settles initial now place way over j w e = way.settled j w (let l = slice_get_within (names_of now) j w e in omega (arith, l, over, names_length now)) e
 
   -- after a sweep, what the members name of the old ones is there
-  pub settled_of_front : (old new : MemberList) → take (length old) new ≡ old → AllNamesAreMembers hosts i run (names_of new) (names_of old) → AllNamesAreMembers hosts i run (names_of new) (take (length old) (names_of new))
-  settled_of_front old new kept settled j w e u h = settled j w e u (subst (λ (xs : List ℕ). IsNamedBy hosts i run (among xs) w u) (front_names old new kept) h)
+  pub settled_of_front : (old new : MemberList) → take (length old) new ≡ old → AllNamesAreMembers nodes i run (names_of new) (names_of old) → AllNamesAreMembers nodes i run (names_of new) (take (length old) (names_of new))
+  settled_of_front old new kept settled j w e u h = settled j w e u (subst (λ (xs : List ℕ). IsNamedBy nodes i run (among xs) w u) (front_names old new kept) h)
 
   -- ---- how many members there can be
-  pub members_bound : (v : ℕ) (list : MemberList) → IsChained hosts i v run list → IsDistinct (λ x y. x == y) (names_of list) → length list ≤ suc (length (all_given hosts i run))
+  pub members_bound : (v : ℕ) (list : MemberList) → IsChained nodes i v run list → IsDistinct (λ x y. x == y) (names_of list) → length list ≤ suc (length (all_given nodes i run))
   members_bound v list chained once =
-      let all = v ∷ all_given hosts i run in
-      let closed : IsClosed (rules hosts i run) v (among all) = record {
-        start = among_head v (all_given hosts i run);
-        each = λ r c w u g. among_tail v u (all_given hosts i run) (given_by_rule (rules hosts i run) r u c g);
+      let all = v ∷ all_given nodes i run in
+      let closed : IsClosed (rules nodes i run) v (among all) = record {
+        start = among_head v (all_given nodes i run);
+        each = λ r c w u g. among_tail v u (all_given nodes i run) (given_by_rule (rules nodes i run) r u c g);
       } in
       let few : length (names_of list) ≤ length all = length-le_from_is_member nat_eq_equiv (names_of list) all once
-      (λ q h. member_is all q ∙ derived-in (rules hosts i run) v (among all) closed (all_derived hosts i run v list chained q (sym (member_is (names_of list) q) ∙ h))) in
+      (λ q h. member_is all q ∙ derived-in (rules nodes i run) v (among all) closed (all_derived nodes i run v list chained q (sym (member_is (names_of list) q) ∙ h))) in
       omega (arith, few, names_length list)
 
 pub one_name : (xs : List ℕ) (k u w : ℕ) → slice_get xs k ≡ Some u → slice_get xs k ≡ Some w → u ≡ w
@@ -229,22 +229,22 @@ one_name xs k u w e h = same (sym e ∙ h)
 
 -- ---- sweep after sweep
 -- a chained list in which all is settled of the members up to a place, where that is not 0
-pub record IsSwept (hosts : List HostedNode) (i v : ℕ) (run : List Entry) (list : MemberList) (known : ℕ) : Type 0 where
-  pub chained : IsChained hosts i v run list
+pub record IsSwept (nodes : List HostedNode) (i v : ℕ) (run : List Entry) (list : MemberList) (known : ℕ) : Type 0 where
+  pub chained : IsChained nodes i v run list
   pub within : known ≤ length list
-  pub settled : 0 < known → AllNamesAreMembers hosts i run (names_of list) (take known (names_of list))
+  pub settled : 0 < known → AllNamesAreMembers nodes i run (names_of list) (take known (names_of list))
 
-first_chained : (hosts : List HostedNode) (i v : ℕ) (run : List Entry) → IsChained hosts i v run ((v, 0) ∷ [])
-first_chained hosts i v run = record { first = refl; later = λ k m e. cc }
+first_chained : (nodes : List HostedNode) (i v : ℕ) (run : List Entry) → IsChained nodes i v run ((v, 0) ∷ [])
+first_chained nodes i v run = record { first = refl; later = λ k m e. cc }
 
-pub swept_at_first : (hosts : List HostedNode) (i v : ℕ) (run : List Entry) → IsSwept hosts i v run ((v, 0) ∷ []) 0
-swept_at_first hosts i v run = record { chained = first_chained hosts i v run; within = omega arith; settled = λ some. absurd (omega arith) }
+pub swept_at_first : (nodes : List HostedNode) (i v : ℕ) (run : List Entry) → IsSwept nodes i v run ((v, 0) ∷ []) 0
+swept_at_first nodes i v run = record { chained = first_chained nodes i v run; within = omega arith; settled = λ some. absurd (omega arith) }
 
-pub swept_again : (hosts : List HostedNode) (i v : ℕ) (run : List Entry) (old new : MemberList) → IsGrown hosts i v run old new → AllNamesAreMembers hosts i run (names_of new) (names_of old) → IsSwept hosts i v run new (length old)
-swept_again hosts i v run old new grown settled = record {
+pub swept_again : (nodes : List HostedNode) (i v : ℕ) (run : List Entry) (old new : MemberList) → IsGrown nodes i v run old new → AllNamesAreMembers nodes i run (names_of new) (names_of old) → IsSwept nodes i v run new (length old)
+swept_again nodes i v run old new grown settled = record {
   chained = grown.chained;
   within = length_of_front old new grown.kept;
-  settled = λ some. settled_of_front hosts i run old new grown.kept settled;
+  settled = λ some. settled_of_front nodes i run old new grown.kept settled;
 }
 
 -- there is a first member
@@ -253,8 +253,8 @@ some_member v [] e = cc
 some_member v (x ∷ xs) e = omega arith
 
 -- where a sweep added none, all is settled
-pub swept_whole : (hosts : List HostedNode) (i v : ℕ) (run : List Entry) (list : MemberList) (known : ℕ) → IsSwept hosts i v run list known → length list ≤ known → AllNamesAreMembers hosts i run (names_of list) (names_of list)
-swept_whole hosts i v run list known swept over =
+pub swept_whole : (nodes : List HostedNode) (i v : ℕ) (run : List Entry) (list : MemberList) (known : ℕ) → IsSwept nodes i v run list known → length list ≤ known → AllNamesAreMembers nodes i run (names_of list) (names_of list)
+swept_whole nodes i v run list known swept over =
     let all : take known (names_of list) ≡ names_of list = take_all known (names_of list) (omega (arith, over, names_length list)) in
     let some = some_member v list swept.chained.first in
-    subst (λ (xs : List ℕ). AllNamesAreMembers hosts i run (names_of list) xs) all (swept.settled (omega (arith, some, over)))
+    subst (λ (xs : List ℕ). AllNamesAreMembers nodes i run (names_of list) xs) all (swept.settled (omega (arith, some, over)))

@@ -5,7 +5,7 @@ use Rattle.std.proofs.lemmas.Option.{slice_get_past}
 use Rattle.std.proofs.lemmas.Bool.{or_left, or_right}
 use Rattle.protocol.specs.Sets.{among}
 use Rattle.protocol.proofs.Sets.Finite.{among_head}
-use Rattle.closure.specs.Turns.{AreMore, ready_at, turned, with_ready}
+use Rattle.closure.specs.Turns.{AreMore, ready_at, lists_after_turn, with_ready}
 use Rattle.closure.proofs.Noted.{among_append}
 
 -- ---- one more number
@@ -41,19 +41,19 @@ pub more_more : (one two three : List (List ℕ)) → AreMore one two → AreMor
 more_more one two three a b = record { counted = b.counted ∙ a.counted; kept = λ j n h. b.kept j n (a.kept j n h) }
 
 -- ---- a turn
-pub turned_within : (ready : List (List ℕ)) (place : ℕ) → place ≤ length ready → place < length (turned ready place)
+pub turned_within : (ready : List (List ℕ)) (place : ℕ) → place ≤ length ready → place < length (lists_after_turn ready place)
 turned_within [] place l = omega arith
 turned_within (x ∷ xs) zero l = omega arith
 turned_within (x ∷ xs) (suc place) l = let r = turned_within xs place (omega arith) in omega arith
 
-pub turned_bound : (ready : List (List ℕ)) (place n : ℕ) → length ready ≤ n → place ≤ length ready → place < n → length (turned ready place) ≤ n
+pub turned_bound : (ready : List (List ℕ)) (place n : ℕ) → length ready ≤ n → place ≤ length ready → place < n → length (lists_after_turn ready place) ≤ n
 turned_bound [] place n l k m = omega arith
 turned_bound (x ∷ xs) zero n l k m = l
 turned_bound (x ∷ xs) (suc place) zero l k m = absurd (omega arith)
 turned_bound (x ∷ xs) (suc place) (suc n) l k m = let r = turned_bound xs place n (omega arith) (omega arith) (omega arith) in omega arith
 
 -- another list that is there was there before
-pub turned_others : (ready : List (List ℕ)) (place j : ℕ) → place ≤ length ready → j < length (turned ready place) → (j ≡ place) ⊎ ((j < length ready) × (ready_at (turned ready place) j ≡ ready_at ready j))
+pub turned_others : (ready : List (List ℕ)) (place j : ℕ) → place ≤ length ready → j < length (lists_after_turn ready place) → (j ≡ place) ⊎ ((j < length ready) × (ready_at (lists_after_turn ready place) j ≡ ready_at ready j))
 turned_others [] place j k l = inl (omega arith)
 turned_others (x ∷ xs) zero zero k l = inl refl
 turned_others (x ∷ xs) zero (suc j) k l = inr (l, refl)
@@ -81,18 +81,18 @@ module _ {X : Type 0} (f : X → List ℕ) where
   pub put_past : (xs : List X) (ready : List (List ℕ)) (place n : ℕ) → map f xs ≡ ready → length xs ≤ place → ready ≡ with_ready ready place n
   put_past xs ready place n view l = sym (put_outside ready place n (omega (arith, l, ap length view, length-map xs f)))
 
-  pub turned_raw : (xs : List X) (ready : List (List ℕ)) (place : ℕ) (y : X) → map f xs ≡ ready → place < length xs → f y ≡ [] → map f (set xs place y) ≡ turned ready place
-  turned_raw xs ready place y view l e = go xs place l ∙ ap (λ (r : List (List ℕ)). turned r place) view
+  pub turned_raw : (xs : List X) (ready : List (List ℕ)) (place : ℕ) (y : X) → map f xs ≡ ready → place < length xs → f y ≡ [] → map f (set xs place y) ≡ lists_after_turn ready place
+  turned_raw xs ready place y view l e = go xs place l ∙ ap (λ (r : List (List ℕ)). lists_after_turn r place) view
     where
-      go : (zs : List X) (p : ℕ) → p < length zs → map f (set zs p y) ≡ turned (map f zs) p
+      go : (zs : List X) (p : ℕ) → p < length zs → map f (set zs p y) ≡ lists_after_turn (map f zs) p
       go [] p k = absurd (omega arith)
       go (z ∷ zs) zero k = ap (λ (w : List ℕ). w ∷ map f zs) e
       go (z ∷ zs) (suc p) k = ap (λ (ws : List (List ℕ)). f z ∷ ws) (go zs p (omega arith))
 
-  pub turned_first : (xs : List X) (ready : List (List ℕ)) (place : ℕ) (y : X) → map f xs ≡ ready → length xs ≤ place → f y ≡ [] → map f (xs ++ y ∷ []) ≡ turned ready place
-  turned_first xs ready place y view l e = go xs place l ∙ ap (λ (r : List (List ℕ)). turned r place) view
+  pub turned_first : (xs : List X) (ready : List (List ℕ)) (place : ℕ) (y : X) → map f xs ≡ ready → length xs ≤ place → f y ≡ [] → map f (xs ++ y ∷ []) ≡ lists_after_turn ready place
+  turned_first xs ready place y view l e = go xs place l ∙ ap (λ (r : List (List ℕ)). lists_after_turn r place) view
     where
-      go : (zs : List X) (p : ℕ) → length zs ≤ p → map f (zs ++ y ∷ []) ≡ turned (map f zs) p
+      go : (zs : List X) (p : ℕ) → length zs ≤ p → map f (zs ++ y ∷ []) ≡ lists_after_turn (map f zs) p
       go [] p k = ap (λ (w : List ℕ). w ∷ []) e
       go (z ∷ zs) zero k = absurd (omega arith)
       go (z ∷ zs) (suc p) k = ap (λ (ws : List (List ℕ)). f z ∷ ws) (go zs p (omega arith))

@@ -10,7 +10,7 @@ use Rattle.protocol.specs.Networks.{HostedNode}
 use Rattle.protocol.specs.Hosts.{Entry}
 use Rattle.closure.specs.Announcing.{AnnouncedSlices, announced_at, IsNamedBy, MemberList, names_of}
 use Rattle.closure.specs.Announcing.IsNamedBy.{configured, learnt}
-use Rattle.closure.specs.Turns.{PartyIndex, AreMore, AreWoken, IsDue, IsFor, IsGiven, IsIndex, IsJoined, AreCovered, IsReady, last_below, ready_at, receiver_at, turned, with_member, with_ready}
+use Rattle.closure.specs.Turns.{PartyIndex, AreMore, AreWoken, IsDue, IsFor, IsGiven, IsIndex, IsJoined, AreCovered, IsReady, last_below, ready_at, receiver_at, lists_after_turn, with_member, with_ready}
 use Rattle.closure.proofs.Noted.{among_append}
 use Rattle.closure.proofs.ClosureSteps.{among_at}
 use Rattle.closure.proofs.Growing.{get_appended, one_name}
@@ -106,19 +106,19 @@ longer_member old x place = go (among (names_of old) x) refl
     go false e = subst (λ (xs : List ℕ). IsLonger (names_of old) xs x) (sym (map_push (λ m. m.0) old (x, place))) (longer_push (names_of old) x e)
 
 -- ---- what is kept
-module _ (hosts : List HostedNode) (i : ℕ) (run : List Entry) where
-  pub ready_at_first : (v : ℕ) → IsReady hosts i run (v ∷ []) []
+module _ (nodes : List HostedNode) (i : ℕ) (run : List Entry) where
+  pub ready_at_first : (v : ℕ) → IsReady nodes i run (v ∷ []) []
   ready_at_first v = record { within = omega arith; covered = λ j w u l. absurd (omega arith) }
 
   -- a turn begins with what the member gives
-  pub kept_begins : (members : List ℕ) (ready : List (List ℕ)) (place w : ℕ) (given : List ℕ) → IsReady hosts i run members ready → slice_get members place ≡ Some w → place ≤ length ready
-      → IsGiven hosts i run members w given → AreCovered hosts i run members (turned ready place) place given
+  pub kept_begins : (members : List ℕ) (ready : List (List ℕ)) (place w : ℕ) (given : List ℕ) → IsReady nodes i run members ready → slice_get members place ≡ Some w → place ≤ length ready
+      → IsGiven nodes i run members w given → AreCovered nodes i run members (lists_after_turn ready place) place given
   kept_begins members ready place w given is there next gives = record {
     within = turned_bound ready place (length members) is.within next (slice_get_within members place w there);
     covered = λ j x u l at named. elim (turned_others ready place j next l) [
       | inl here ↦
           let same : w ≡ x = one_name members place w x there (subst (λ k. slice_get members k ≡ Some x) here at) in
-          elim (gives.complete u (subst (λ y. IsNamedBy hosts i run (among members) y u) (sym same) named)) [ inl m ↦ inl m | inr g ↦ inr (inr (here, g)) ]
+          elim (gives.complete u (subst (λ y. IsNamedBy nodes i run (among members) y u) (sym same) named)) [ inl m ↦ inl m | inr g ↦ inr (inr (here, g)) ]
       | inr other ↦ elim (is.covered j x u other.0 at named) [
         | inl m ↦ inl m
         | inr r ↦ elim r [
@@ -130,12 +130,12 @@ module _ (hosts : List HostedNode) (i : ℕ) (run : List Entry) where
   }
 
   -- and goes on with each name that joins
-  module _ (old new : MemberList) (before after : List (List ℕ)) (place : ℕ) (given : List ℕ) (x namer : ℕ) (kept : AreCovered hosts i run (names_of old) before place given) (joined : IsJoined i run old new before after x namer) where
+  module _ (old new : MemberList) (before after : List (List ℕ)) (place : ℕ) (given : List ℕ) (x namer : ℕ) (kept : AreCovered nodes i run (names_of old) before place given) (joined : IsJoined i run old new before after x namer) where
     longer : IsLonger (names_of old) (names_of new) x
     longer = subst (λ (list : MemberList). IsLonger (names_of old) (names_of list) x) (sym joined.members) (longer_member old x namer)
 
-    older : (j w u : ℕ) → j < length after → slice_get (names_of new) j ≡ Some w → IsNamedBy hosts i run (among (names_of new)) w u
-        → IsNamedBy hosts i run (among (names_of old)) w u ⊎ IsDue i run (among (names_of new)) (ready_at after j) w u
+    older : (j w u : ℕ) → j < length after → slice_get (names_of new) j ≡ Some w → IsNamedBy nodes i run (among (names_of new)) w u
+        → IsNamedBy nodes i run (among (names_of old)) w u ⊎ IsDue i run (among (names_of new)) (ready_at after j) w u
     unfolding longer
     older j w u l at (configured q e g) = inl (configured q e g)
     older j w u l at (learnt n a e s t r g) = elim (longer.either a.receiver r) [
@@ -152,7 +152,7 @@ module _ (hosts : List HostedNode) (i : ℕ) (run : List Entry) where
       })
     ]
 
-    pub kept_goes_on : AreCovered hosts i run (names_of new) after place given
+    pub kept_goes_on : AreCovered nodes i run (names_of new) after place given
     unfolding longer
     kept_goes_on = record {
       within = omega (arith, kept.within, joined.more.counted, longer.longer);
@@ -178,7 +178,7 @@ module _ (hosts : List HostedNode) (i : ℕ) (run : List Entry) where
     }
 
   -- where all that was given is there, no turn is underway
-  pub kept_ends : (members : List ℕ) (ready : List (List ℕ)) (place : ℕ) (given : List ℕ) → AreCovered hosts i run members ready place given → AreWithin (among given) (among members) → IsReady hosts i run members ready
+  pub kept_ends : (members : List ℕ) (ready : List (List ℕ)) (place : ℕ) (given : List ℕ) → AreCovered nodes i run members ready place given → AreWithin (among given) (among members) → IsReady nodes i run members ready
   kept_ends members ready place given kept all = record {
     within = kept.within;
     covered = λ j w u l at named. elim (kept.covered j w u l at named) [

@@ -12,7 +12,7 @@ use Rattle.protocol.specs.Satisfaction.{names}
 use Rattle.protocol.specs.Quorums.{NamesWithin}
 use Rattle.protocol.specs.Backing.{slices_by}
 use Rattle.protocol.specs.Rows.{has_single_rows}
-use Rattle.protocol.specs.Reach.{reached, rule_of, HoldsReach, IsReach}
+use Rattle.protocol.specs.Reach.{reach_of, rule_of, HoldsReach, IsReach}
 use Rattle.protocol.proofs.Sets.Finite.{among_head, among_tail, same_test}
 use Rattle.protocol.proofs.Sets.Least.{given_by_rule}
 use Rattle.protocol.proofs.Sets.Mapped.{mapped_to}
@@ -137,16 +137,16 @@ module _ (own : ℕ) (configured : Slices) (table : List Sent) (sender : ℕ) (k
         ];
   }
 
-  all_reached : AreWithin (in_either known found) (reached own configured table)
+  all_reached : AreWithin (in_either known found) (reach_of own configured table)
   all_reached u h = elim (or_cases (among known u) (among found u) h) [
     | inl k ↦ narrow.sound u k
-    | inr f ↦ led.least u f (reached own configured table) (reached-holds own configured table).rows (narrow.sound sender narrow.there)
+    | inr f ↦ led.least u f (reach_of own configured table) (reached-holds own configured table).rows (narrow.sound sender narrow.there)
   ]
 
   -- as one ascending list they are the reach
   pub reach_of_all : (all : List ℕ) → IsAscending all → ((u : ℕ) → among all u ≡ in_either known found u) → IsReach own configured table all
   reach_of_all all up is =
-      let exactly : (u : ℕ) → among all u ≡ reached own configured table u = λ u. is u ∙ same_test (in_either known found u) (reached own configured table u) (all_reached u) (reached-in own configured table (in_either known found) holds_all u) in
+      let exactly : (u : ℕ) → among all u ≡ reach_of own configured table u = λ u. is u ∙ same_test (in_either known found u) (reach_of own configured table u) (all_reached u) (reached-in own configured table (in_either known found) holds_all u) in
       record {
         ascending = up;
         exactly = exactly;

@@ -38,15 +38,15 @@ announced_at entries n = announced_in (slice_get entries n)
 
 -- the slices of a hosted node at a slot after a whole run
 abbrev pub slices_then : List HostedNode → ℕ → List Entry → ℕ → Option Slices
-slices_then hosts i run u = option_map (λ q. slices_at_end i u q run) (slices_of hosts u)
+slices_then nodes i run u = option_map (λ q. slices_at_end i u q run) (slices_of nodes u)
 
 -- A node w names u: by its configured slices where it is hosted, or by slices that it announces at the slot to one of
 -- the members: by a delivery, or as a member that is given new ones.
-pub data IsNamedBy (hosts : List HostedNode) (i : ℕ) (run : List Entry) (members : Names) (w u : ℕ) : Type 0 where
-  configured : (q : Slices) → slices_of hosts w ≡ Some q → IsTrue (among (names q) u)
-      → IsNamedBy hosts i run members w u
+pub data IsNamedBy (nodes : List HostedNode) (i : ℕ) (run : List Entry) (members : Names) (w u : ℕ) : Type 0 where
+  configured : (q : Slices) → slices_of nodes w ≡ Some q → IsTrue (among (names q) u)
+      → IsNamedBy nodes i run members w u
   learnt : (n : ℕ) (a : AnnouncedSlices) → announced_at run n ≡ Some a → a.slot ≡ i → a.sender ≡ w
-      → IsTrue (members a.receiver) → IsTrue (among (names a.slices) u) → IsNamedBy hosts i run members w u
+      → IsTrue (members a.receiver) → IsTrue (among (names a.slices) u) → IsNamedBy nodes i run members w u
 
 -- members in order, each with the place of the member that named it
 abbrev pub MemberList : Type 0
@@ -57,21 +57,21 @@ abbrev pub names_of : MemberList → List ℕ
 names_of list = map (λ m. m.0) list
 
 -- the member at a place is named by one before it, announcements counting to members before it
-pub record IsNamedBefore (hosts : List HostedNode) (i : ℕ) (run : List Entry) (list : MemberList) (place : ℕ)
+pub record IsNamedBefore (nodes : List HostedNode) (i : ℕ) (run : List Entry) (list : MemberList) (place : ℕ)
     (m : ℕ × ℕ) : Type 0 where
   pub namer : ℕ
   pub there : slice_get (names_of list) m.1 ≡ Some namer
   pub before : m.1 < place
-  pub named : IsNamedBy hosts i run (among (take place (names_of list))) namer m.0
+  pub named : IsNamedBy nodes i run (among (take place (names_of list))) namer m.0
 
 -- the first member is v, and each later one is named by an earlier one
-pub record IsChained (hosts : List HostedNode) (i v : ℕ) (run : List Entry) (list : MemberList) : Type 0 where
+pub record IsChained (nodes : List HostedNode) (i v : ℕ) (run : List Entry) (list : MemberList) : Type 0 where
   pub first : slice_get list 0 ≡ Some (v, 0)
-  pub later : (k : ℕ) (m : ℕ × ℕ) → slice_get list (suc k) ≡ Some m → IsNamedBefore hosts i run list (suc k) m
+  pub later : (k : ℕ) (m : ℕ × ℕ) → slice_get list (suc k) ≡ Some m → IsNamedBefore nodes i run list (suc k) m
 
 -- The closure of v as a list: v first, each member once, each later one with an earlier one that names it, and exactly
 -- its members.
-pub record IsClosureList (hosts : List HostedNode) (i v : ℕ) (run : List Entry) (list : MemberList) : Type 0 where
-  pub chained : IsChained hosts i v run list
+pub record IsClosureList (nodes : List HostedNode) (i v : ℕ) (run : List Entry) (list : MemberList) : Type 0 where
+  pub chained : IsChained nodes i v run list
   pub once : IsDistinct (λ x y. x == y) (names_of list)
-  pub exactly : (u : ℕ) → among (names_of list) u ≡ closure hosts i v run u
+  pub exactly : (u : ℕ) → among (names_of list) u ≡ closure nodes i v run u

@@ -5,7 +5,7 @@ use Rattle.types.specs.declared.kind.Kind.TheVariants.{Nomination}
 use Rattle.types.specs.Statements.{Sent}
 use Rattle.protocol.specs.Rows.{row}
 use Rattle.protocol.specs.Sets.{Names, among, also, AreApart, AreWithin, IsAscending}
-use Rattle.latest.specs.Places.{place_of}
+use Rattle.latest.specs.Places.{place_of_row}
 use Rattle.latest.specs.declared.rows.SenderRows.{SenderRows}
 use Rattle.closure.specs.declared.search.KnownNodes.{KnownNodes}
 use Rattle.closure.specs.declared.search.Search.{Search}
@@ -15,7 +15,7 @@ use Rattle.closure.specs.Sweeps.{Swept}
 abbrev pub ArePlacesBut : ℕ → List Sent → Kind → List ℕ → List (Option ℕ) → Type 0
 ArePlacesBut sender table kind nodes places =
     (i : ℕ) → i < length nodes → get_or nodes i 0 ≢ sender
-    → get_or places i None ≡ place_of table (get_or nodes i 0) kind
+    → get_or places i None ≡ place_of_row table (get_or nodes i 0) kind
 
 -- known nodes ascend, and their rows stand at these places, but for those of one of them
 pub record AreKnown (table : List Sent) (k : KnownNodes) : Type 0 where

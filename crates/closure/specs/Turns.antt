@@ -76,10 +76,10 @@ with_ready (x ∷ xs) zero n = (x ++ n ∷ []) ∷ xs
 with_ready (x ∷ xs) (suc place) n = x ∷ with_ready xs place n
 
 -- after a turn at a place no number is ready there; a first turn, at the next place, gives it a list
-abbrev pub turned : List (List ℕ) → ℕ → List (List ℕ)
-turned [] place = [] ∷ []
-turned (x ∷ xs) zero = [] ∷ xs
-turned (x ∷ xs) (suc place) = x ∷ turned xs place
+abbrev pub lists_after_turn : List (List ℕ) → ℕ → List (List ℕ)
+lists_after_turn [] place = [] ∷ []
+lists_after_turn (x ∷ xs) zero = [] ∷ xs
+lists_after_turn (x ∷ xs) (suc place) = x ∷ lists_after_turn xs place
 
 -- ---- turns
 -- the names of slices, if there are any
@@ -100,13 +100,13 @@ all_added i run members w numbers = flat_map (λ n. added_names i members w (ann
 
 -- all that w names, announcements counting to the receivers, is among the members
 abbrev pub NamesAreMembers : List HostedNode → ℕ → List Entry → List ℕ → List ℕ → ℕ → Type 0
-NamesAreMembers hosts i run members receivers w =
-    (u : ℕ) → IsNamedBy hosts i run (among receivers) w u → IsTrue (among members u)
+NamesAreMembers nodes i run members receivers w =
+    (u : ℕ) → IsNamedBy nodes i run (among receivers) w u → IsTrue (among members u)
 
 -- all that the members name is among them, announcements counting to the receivers
 abbrev pub AllNamesAreMembers : List HostedNode → ℕ → List Entry → List ℕ → List ℕ → Type 0
-AllNamesAreMembers hosts i run members receivers =
-    (j w : ℕ) → slice_get members j ≡ Some w → NamesAreMembers hosts i run members receivers w
+AllNamesAreMembers nodes i run members receivers =
+    (j w : ℕ) → slice_get members j ≡ Some w → NamesAreMembers nodes i run members receivers w
 
 -- one of the numbers is that of an announcement at the slot from w to a member, of slices that name u
 pub record IsDue (i : ℕ) (run : List Entry) (members : Names) (numbers : List ℕ) (w u : ℕ) : Type 0 where
@@ -121,23 +121,23 @@ pub record IsDue (i : ℕ) (run : List Entry) (members : Names) (numbers : List 
 
 -- Each member that had a turn has a list of numbers. All that such a member names is a member, or its list has the
 -- announcement of it, or it is one of the names that are given in a turn that is underway.
-pub record AreCovered (hosts : List HostedNode) (i : ℕ) (run : List Entry) (members : List ℕ) (ready : List (List ℕ))
+pub record AreCovered (nodes : List HostedNode) (i : ℕ) (run : List Entry) (members : List ℕ) (ready : List (List ℕ))
     (place : ℕ) (given : List ℕ) : Type 0 where
   pub within : length ready ≤ length members
   pub covered : (j w u : ℕ) → j < length ready → slice_get members j ≡ Some w
-      → IsNamedBy hosts i run (among members) w u
+      → IsNamedBy nodes i run (among members) w u
       → IsTrue (among members u)
       ⊎ (IsDue i run (among members) (ready_at ready j) w u ⊎ ((j ≡ place) × IsTrue (among given u)))
 
 -- and no turn is underway
 abbrev pub IsReady : List HostedNode → ℕ → List Entry → List ℕ → List (List ℕ) → Type 0
-IsReady hosts i run members ready = AreCovered hosts i run members ready 0 []
+IsReady nodes i run members ready = AreCovered nodes i run members ready 0 []
 
 -- the names that w gives in its turn: nothing but what it names, and all of that, save what is a member already
-pub record IsGiven (hosts : List HostedNode) (i : ℕ) (run : List Entry) (members : List ℕ) (w : ℕ) (given : List ℕ)
+pub record IsGiven (nodes : List HostedNode) (i : ℕ) (run : List Entry) (members : List ℕ) (w : ℕ) (given : List ℕ)
     : Type 0 where
-  pub sound : (u : ℕ) → IsTrue (among given u) → IsNamedBy hosts i run (among members) w u
-  pub complete : (u : ℕ) → IsNamedBy hosts i run (among members) w u → IsTrue (among members u) ⊎ IsTrue (among given u)
+  pub sound : (u : ℕ) → IsTrue (among given u) → IsNamedBy nodes i run (among members) w u
+  pub complete : (u : ℕ) → IsNamedBy nodes i run (among members) w u → IsTrue (among members u) ⊎ IsTrue (among given u)
 
 -- ---- members that join
 -- a name is added at the end, with the place of the member that names it, unless it is there
@@ -169,6 +169,6 @@ pub record IsJoined (i : ℕ) (run : List Entry) (old new : MemberList) (before 
   pub woken : IsFalse (among (names_of old) u) → AreWoken i run (names_of new) after u
 
 -- members that a turn or a sweep adds: the old ones stay in front, and the list is still chained
-pub record IsGrown (hosts : List HostedNode) (i v : ℕ) (run : List Entry) (old new : MemberList) : Type 0 where
+pub record IsGrown (nodes : List HostedNode) (i v : ℕ) (run : List Entry) (old new : MemberList) : Type 0 where
   pub kept : take (length old) new ≡ old
-  pub chained : IsChained hosts i v run new
+  pub chained : IsChained nodes i v run new

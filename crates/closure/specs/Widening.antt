@@ -3,7 +3,7 @@ use Rattle.std.specs.Prelude.{◌≢◌, ◌||◌, ℕ, List, IsTrue}
 use Rattle.std.specs.List.{Contains}
 use Rattle.types.specs.Trees.{Slices}
 use Rattle.types.specs.Statements.{Sent}
-use Rattle.protocol.specs.Reach.{reached}
+use Rattle.protocol.specs.Reach.{reach_of}
 use Rattle.protocol.specs.Satisfaction.{names}
 use Rattle.protocol.specs.Sets.{Names, among, AreApart, AreWithin, IsAscending}
 use Rattle.closure.specs.Sweeps.{names_in_rows_of}
@@ -13,7 +13,7 @@ use Rattle.closure.specs.Sweeps.{names_in_rows_of}
 pub record IsNarrow (own : ℕ) (configured : Slices) (table : List Sent) (sender : ℕ) (nodes : List ℕ) : Type 0 where
   pub itself : IsTrue (among nodes own)
   pub configuration : AreWithin (among (names configured)) (among nodes)
-  pub sound : AreWithin (among nodes) (reached own configured table)
+  pub sound : AreWithin (among nodes) (reach_of own configured table)
   pub there : IsTrue (among nodes sender)
   pub rows : (u : ℕ) → IsTrue (among nodes u) → u ≢ sender → AreWithin (names_in_rows_of table u) (among nodes)
 

@@ -28,20 +28,20 @@ pub struct Announcement<'a> {
 /// The ghost members are the hosted nodes and the entries of the definitions. No method takes memory.
 pub trait Announcements {
     /// The hosted nodes, as they are configured.
-    ghost hosts: { Self → List HostedNode };
+    ghost nodes: { Self → List HostedNode };
 
     /// The applied events, in order, with what they gave out.
     ghost entries: { Self → List Entry };
 
     /// The configured slices of a node, where it is hosted.
     fn slices(&self, node: &NodeId) -> Option<&Nested>
-        ensures value { option_map (λ q. q.now) result ≡ slices_of (hosts self.now) node.now }
-        ensures ascending { IsAscending (map (λ h. h.name) (hosts self.now)) };
+        ensures value { option_map (λ q. q.now) result ≡ slices_of (nodes self.now) node.now }
+        ensures ascending { IsAscending (map (λ h. h.name) (nodes self.now)) };
 
     /// The slices of a node at a slot after all entries, where it is hosted: those that it was given there
     /// last since the slot was opened, else the configured ones.
     fn slices_then(&self, node: &NodeId, slot: u64) -> Option<&Nested>
-        ensures { option_map (λ q. q.now) result ≡ slices_then (hosts self.now) slot (entries self.now) node.now };
+        ensures { option_map (λ q. q.now) result ≡ slices_then (nodes self.now) slot (entries self.now) node.now };
 
     /// How many entries there are.
     fn len(&self) -> usize

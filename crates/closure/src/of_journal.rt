@@ -29,7 +29,7 @@ pub fn closure<J: Announcements>(
     slot: u64,
     node: &NodeId,
 ) -> Result<ClosureList, AllocError>
-    ensures { IfOk result (λ c. IsClosureList (J.hosts journal.now) slot node.now (J.entries journal.now) c) }
+    ensures { IfOk result (λ c. IsClosureList (J.nodes journal.now) slot node.now (J.entries journal.now) c) }
 {
     hosted_ascend(journal, node);
     let deliveries = Deliveries::of(alloc, journal, slot)?;
@@ -43,7 +43,7 @@ pub fn closure<J: Announcements>(
 
 /// The names of a journal's hosted nodes ascend: whoever looks a node up has seen all its slices.
 fn hosted_ascend<J: Announcements>(journal: &J, node: &NodeId)
-    ensures { IsAscending (map (λ h. h.name) (J.hosts journal.now)) }
+    ensures { IsAscending (map (λ h. h.name) (J.nodes journal.now)) }
 {
     journal.slices(node);
 }

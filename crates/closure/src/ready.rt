@@ -1,7 +1,7 @@
 //! The announcements that became ready since the turns of their senders.
 
 ghost use Rattle.std.specs.Prelude.{◌≡◌, [], length, option_map, slice_get, IfOk, OnOk};
-ghost use Rattle.closure.specs.Turns.{turned, with_ready};
+ghost use Rattle.closure.specs.Turns.{lists_after_turn, with_ready};
 
 use std::alloc::{AllocError, Global};
 use std::marker::Model;
@@ -47,7 +47,7 @@ impl Ready {
     /// it has a list from then on, where it is the next place.
     pub fn take(&mut self, alloc: Global, place: usize) -> Result<Option<Vec<usize>>, AllocError>
         ensures numbers { IfOk result (λ o. option_map (λ v. v.items) o ≡ slice_get self.old place) }
-        ensures turned { OnOk result (self.new ≡ turned self.old place) }
+        ensures turned { OnOk result (self.new ≡ lists_after_turn self.old place) }
     {
         if place < self.places.len() {
             return Ok(Some(mem::replace(&mut self.places[place], Vec::new(alloc))));

@@ -4,7 +4,7 @@ ghost use Rattle.std.specs.Prelude.{◌≡◌, ◌++◌, ◌≤◌, ℕ, Some, l
 ghost use Rattle.protocol.specs.Networks.{slices_of};
 ghost use Rattle.protocol.specs.Sets.{among, IsAscending};
 ghost use Rattle.closure.specs.Announcing.{IsChained, IsClosureList, announced_at, names_of};
-ghost use Rattle.closure.specs.Turns.{AreIndexed, AreMore, AllNamesAreMembers, AreWoken, IsFor, IsGiven, IsGrown, IsJoined, IsReady, NamesAreMembers, added_names, all_added, known_names, turned};
+ghost use Rattle.closure.specs.Turns.{AreIndexed, AreMore, AllNamesAreMembers, AreWoken, IsFor, IsGiven, IsGrown, IsJoined, IsReady, NamesAreMembers, added_names, all_added, known_names, lists_after_turn};
 
 use crate::announcing::Announcements;
 use crate::closure_list::ClosureList;
@@ -32,8 +32,8 @@ impl<'a, J: Announcements> Turns<'a, J> {
     /// The closure of a node: sweeps through the members, of whom it is the first, until one adds none.
     pub fn closure_of(&self, alloc: Global, node: &NodeId) -> Result<ClosureList, AllocError>
         requires index { AreIndexed self.now.slot (J.entries self.now.journal.now) (length (J.entries self.now.journal.now)) self.now.deliveries.now }
-        requires hosts { IsAscending (map (λ h. h.name) (J.hosts self.now.journal.now)) }
-        ensures { IfOk result (λ c. IsClosureList (J.hosts self.now.journal.now) self.now.slot node.now (J.entries self.now.journal.now) c) }
+        requires nodes { IsAscending (map (λ h. h.name) (J.nodes self.now.journal.now)) }
+        ensures { IfOk result (λ c. IsClosureList (J.nodes self.now.journal.now) self.now.slot node.now (J.entries self.now.journal.now) c) }
     {
         let mut members = ClosureList::of(alloc, node)?;
         let mut ready = Ready::new(alloc);
@@ -53,11 +53,11 @@ impl<'a, J: Announcements> Turns<'a, J> {
         ready: &mut Ready,
     ) -> Result<(), AllocError>
         requires index { AreIndexed self.now.slot (J.entries self.now.journal.now) (length (J.entries self.now.journal.now)) self.now.deliveries.now }
-        requires chained { (v : ℕ) × IsChained (J.hosts self.now.journal.now) self.now.slot v (J.entries self.now.journal.now) members.old }
-        requires ready { IsReady (J.hosts self.now.journal.now) self.now.slot (J.entries self.now.journal.now) (names_of members.old) ready.old }
-        ensures grown { OnOk result ((v : ℕ) → IsChained (J.hosts self.now.journal.now) self.now.slot v (J.entries self.now.journal.now) members.old → IsGrown (J.hosts self.now.journal.now) self.now.slot v (J.entries self.now.journal.now) members.old members.new) }
-        ensures settled { OnOk result (AllNamesAreMembers (J.hosts self.now.journal.now) self.now.slot (J.entries self.now.journal.now) (names_of members.new) (names_of members.old)) }
-        ensures ready { OnOk result (IsReady (J.hosts self.now.journal.now) self.now.slot (J.entries self.now.journal.now) (names_of members.new) ready.new) }
+        requires chained { (v : ℕ) × IsChained (J.nodes self.now.journal.now) self.now.slot v (J.entries self.now.journal.now) members.old }
+        requires ready { IsReady (J.nodes self.now.journal.now) self.now.slot (J.entries self.now.journal.now) (names_of members.old) ready.old }
+        ensures grown { OnOk result ((v : ℕ) → IsChained (J.nodes self.now.journal.now) self.now.slot v (J.entries self.now.journal.now) members.old → IsGrown (J.nodes self.now.journal.now) self.now.slot v (J.entries self.now.journal.now) members.old members.new) }
+        ensures settled { OnOk result (AllNamesAreMembers (J.nodes self.now.journal.now) self.now.slot (J.entries self.now.journal.now) (names_of members.new) (names_of members.old)) }
+        ensures ready { OnOk result (IsReady (J.nodes self.now.journal.now) self.now.slot (J.entries self.now.journal.now) (names_of members.new) ready.new) }
     {
         let mut place = 0;
         while place < members.len() {
@@ -78,12 +78,12 @@ impl<'a, J: Announcements> Turns<'a, J> {
         place: usize,
     ) -> Result<(), AllocError>
         requires index { AreIndexed self.now.slot (J.entries self.now.journal.now) (length (J.entries self.now.journal.now)) self.now.deliveries.now }
-        requires ready { IsReady (J.hosts self.now.journal.now) self.now.slot (J.entries self.now.journal.now) (names_of members.old) ready.old }
+        requires ready { IsReady (J.nodes self.now.journal.now) self.now.slot (J.entries self.now.journal.now) (names_of members.old) ready.old }
         requires next { place ≤ length ready.old }
-        ensures grown { OnOk result ((v : ℕ) → IsChained (J.hosts self.now.journal.now) self.now.slot v (J.entries self.now.journal.now) members.old → IsGrown (J.hosts self.now.journal.now) self.now.slot v (J.entries self.now.journal.now) members.old members.new) }
-        ensures settled { OnOk result ((w : ℕ) → slice_get (names_of members.old) place ≡ Some w → NamesAreMembers (J.hosts self.now.journal.now) self.now.slot (J.entries self.now.journal.now) (names_of members.new) (names_of members.old) w) }
-        ensures ready { OnOk result (IsReady (J.hosts self.now.journal.now) self.now.slot (J.entries self.now.journal.now) (names_of members.new) ready.new) }
-        ensures counted { OnOk result ((w : ℕ) → slice_get (names_of members.old) place ≡ Some w → length ready.new ≡ length (turned ready.old place)) }
+        ensures grown { OnOk result ((v : ℕ) → IsChained (J.nodes self.now.journal.now) self.now.slot v (J.entries self.now.journal.now) members.old → IsGrown (J.nodes self.now.journal.now) self.now.slot v (J.entries self.now.journal.now) members.old members.new) }
+        ensures settled { OnOk result ((w : ℕ) → slice_get (names_of members.old) place ≡ Some w → NamesAreMembers (J.nodes self.now.journal.now) self.now.slot (J.entries self.now.journal.now) (names_of members.new) (names_of members.old) w) }
+        ensures ready { OnOk result (IsReady (J.nodes self.now.journal.now) self.now.slot (J.entries self.now.journal.now) (names_of members.new) ready.new) }
+        ensures counted { OnOk result ((w : ℕ) → slice_get (names_of members.old) place ≡ Some w → length ready.new ≡ length (lists_after_turn ready.old place)) }
     {
         if let Some(node) = members.name(place) {
             let turn = Turn { place, node };
@@ -106,9 +106,9 @@ impl<'a, J: Announcements> Turns<'a, J> {
     ) -> Result<Vec<NodeId>, AllocError>
         requires index { AreIndexed self.now.slot (J.entries self.now.journal.now) (length (J.entries self.now.journal.now)) self.now.deliveries.now }
         requires there { slice_get (names_of members.now) turn.now.place ≡ Some turn.now.node }
-        requires ready { IsReady (J.hosts self.now.journal.now) self.now.slot (J.entries self.now.journal.now) (names_of members.now) ready.old }
-        ensures given { IfOk result (λ v. IsGiven (J.hosts self.now.journal.now) self.now.slot (J.entries self.now.journal.now) (names_of members.now) turn.now.node v.items) }
-        ensures turned { OnOk result (ready.new ≡ turned ready.old turn.now.place) }
+        requires ready { IsReady (J.nodes self.now.journal.now) self.now.slot (J.entries self.now.journal.now) (names_of members.now) ready.old }
+        ensures given { IfOk result (λ v. IsGiven (J.nodes self.now.journal.now) self.now.slot (J.entries self.now.journal.now) (names_of members.now) turn.now.node v.items) }
+        ensures turned { OnOk result (ready.new ≡ lists_after_turn ready.old turn.now.place) }
     {
         let mut names = match ready.take(alloc, turn.place)? {
             None => self.all_names(alloc, members, &turn.node)?,
@@ -127,7 +127,7 @@ impl<'a, J: Announcements> Turns<'a, J> {
         node: &NodeId,
     ) -> Result<Vec<NodeId>, AllocError>
         requires { AreIndexed self.now.slot (J.entries self.now.journal.now) (length (J.entries self.now.journal.now)) self.now.deliveries.now }
-        ensures { IfOk result (λ v. IsGiven (J.hosts self.now.journal.now) self.now.slot (J.entries self.now.journal.now) (names_of members.now) node.now v.items) }
+        ensures { IfOk result (λ v. IsGiven (J.nodes self.now.journal.now) self.now.slot (J.entries self.now.journal.now) (names_of members.now) node.now v.items) }
     {
         let deliveries = self.deliveries;
         let mut names = self.configured_names(alloc, node)?;
@@ -141,7 +141,7 @@ impl<'a, J: Announcements> Turns<'a, J> {
 
     /// The names of a node's configured slices, where it is hosted.
     fn configured_names(&self, alloc: Global, node: &NodeId) -> Result<Vec<NodeId>, AllocError>
-        ensures { IfOk result (λ v. v.items ≡ known_names (slices_of (J.hosts self.now.journal.now) node.now)) }
+        ensures { IfOk result (λ v. v.items ≡ known_names (slices_of (J.nodes self.now.journal.now) node.now)) }
     {
         let mut names = Vec::new(alloc);
         if let Some(slices) = self.journal.slices(node) {

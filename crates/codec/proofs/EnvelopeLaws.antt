@@ -15,7 +15,7 @@ use Rattle.codec.specs.Formats.{ValidThen, ValidJudged}
 use Rattle.codec.specs.Faults.{version_fault, kind_fault, statement_fault, HasOtherVersion, HasOtherKind}
 use Rattle.codec.specs.Steps.{◌>>=◌}
 use Rattle.codec.specs.Spelling.{byte, name, slices, body, kind, first_levels, version_of, spelling, Spells, HasOneSpelling}
-use Rattle.codec.specs.Reading.{Fields, sent_of, version_at, kind_at, parts_at, envelope_at, decoded}
+use Rattle.codec.specs.Reading.{Fields, sent_of, version_at, kind_at, parts_at, envelope_at, decoding}
 use Rattle.codec.specs.Grammar.{HasFields, HasKind, IsLong, IsInVersion, levels_in, IsVersion, ShowsVersion, IsKind, ShowsKind, ShowsFault, BreaksOff, IsFault, HasOneAnswer}
 use Rattle.codec.proofs.FieldLaws.{IsBytes, ok_is, bind_ok, done, passed, passed_true, chosen}
 use Rattle.codec.proofs.FormatLaws.{ValidAs, bind_err, err_is, Laws, Laws-then, Laws-judged, Laws-as, Laws-when, Laws-byte}
@@ -165,8 +165,8 @@ no_version_fault bytes f h e =
 abbrev ended : Sent × List ℕ → Result Sent Fault
 ended e = cond (eqb (length e.1) 0) (Ok e.0) (Err TrailingBytes)
 
-pub is_spelled : (bytes : List ℕ) (e : Sent) → IsBytes bytes → decoded bytes ≡ Ok e → Spells bytes e
-unfolding decoded
+pub is_spelled : (bytes : List ℕ) (e : Sent) → IsBytes bytes → decoding bytes ≡ Ok e → Spells bytes e
+unfolding decoding
 is_spelled bytes e fits h =
     let g = passed (ltb 65536 (length bytes)) Limit (envelope_at bytes >>= ended) e h in
     let a = bind_ok (envelope_at bytes) ended e g.1 in
@@ -176,8 +176,8 @@ is_spelled bytes e fits h =
     let whole : bytes ≡ spelling a.0.0 = p.0.parts ∙ ap (λ (t : List ℕ). spelling a.0.0 ++ t) none ∙ append-nil (spelling a.0.0) in
     subst (Spells bytes) (ok_is a.0.0 e k.1) (record { envelope = p.1; text = whole })
 
-pub is_read : (bytes : List ℕ) (e : Sent) → Spells bytes e → decoded bytes ≡ Ok e
-unfolding decoded
+pub is_read : (bytes : List ℕ) (e : Sent) → Spells bytes e → decoding bytes ≡ Ok e
+unfolding decoding
 is_read bytes e h =
     let short : ltb 65536 (length bytes) ≡ false = le-ltb _ _ (omega (arith, ap length h.text, spelling_is_short e h.envelope)) in
     let text : bytes ≡ spelling e ++ [] = h.text ∙ sym (append-nil (spelling e)) in
@@ -205,8 +205,8 @@ breaks_off : (bytes : List ℕ) (f : Fault) → envelope_at bytes ≡ Err f → 
 breaks_off bytes f err t =
     (λ g d. Laws-envelope.never d.0 g d.3 (sym (err_is {A = Sent × List ℕ} f g (envelope_at bytes) err (ap envelope_at d.2 ∙ Laws-envelope.shown d.0 d.1 g d.3)) ∙ t), λ rest d. read_one_way bytes f d.0 rest err d.2 d.1)
 
-pub is_fault : (bytes : List ℕ) (f : Fault) → IsBytes bytes → decoded bytes ≡ Err f → IsFault bytes f
-unfolding decoded
+pub is_fault : (bytes : List ℕ) (f : Fault) → IsBytes bytes → decoding bytes ≡ Err f → IsFault bytes f
+unfolding decoding
 is_fault bytes f fits h =
     elim (chosen (ltb 65536 (length bytes)) (Err Limit) (envelope_at bytes >>= ended) (Err f) h) [
       | inl g ↦ inl (ltb-true _ _ g.0, sym (err_is {A = Sent} Limit f (Err Limit) refl g.1))
@@ -240,8 +240,8 @@ ends_inside bytes fits off (Err g) e =
       | inr d ↦ absurd (off.0 g (d.front, d.rest, d.parts, d.shows))
     ]
 
-pub fault_is : (bytes : List ℕ) (f : Fault) → IsBytes bytes → IsFault bytes f → decoded bytes ≡ Err f
-unfolding decoded
+pub fault_is : (bytes : List ℕ) (f : Fault) → IsBytes bytes → IsFault bytes f → decoding bytes ≡ Err f
+unfolding decoding
 fault_is bytes f fits (inl h) = rw (over (length bytes) h.0, h.1) refl
 fault_is bytes f fits (inr (short, inl d)) =
     rw (le-ltb _ _ short, ap envelope_at d.2 ∙ Laws-envelope.shown d.0 d.1 f d.3) refl
@@ -266,7 +266,7 @@ one_spelling e h =
 not_both : (e : Sent) (f : Fault) → Ok e ≡ Err f → ⊥
 not_both e f h = cc
 
-answered : (text : List ℕ) → IsBytes text → (r : Result Sent Fault) → decoded text ≡ r → HasOneAnswer text
+answered : (text : List ℕ) → IsBytes text → (r : Result Sent Fault) → decoding text ≡ r → HasOneAnswer text
 answered text fits (Ok e) h = inl (
   e,
   record {
@@ -279,10 +279,10 @@ answered text fits (Err f) h = inr (
   f,
   record {
     shown = is_fault text f fits h;
-    no_other = λ g d. err_is {A = Sent} g f (decoded text) (fault_is text g fits d) h;
+    no_other = λ g d. err_is {A = Sent} g f (decoding text) (fault_is text g fits d) h;
     not_spelled = λ e s. not_both e f (sym (is_read text e s) ∙ h);
   },
 )
 
 pub one_answer : (text : List ℕ) → IsBytes text → HasOneAnswer text
-one_answer text fits = answered text fits (decoded text) refl
+one_answer text fits = answered text fits (decoding text) refl

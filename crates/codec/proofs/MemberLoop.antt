@@ -10,7 +10,7 @@ use Rattle.types.specs.declared.nested.Member.{Member}
 use Rattle.types.specs.declared.nested.Member.TheVariants.{Node, Set}
 use Rattle.codec.specs.Steps.{◌>>=◌, Fails, Reads}
 use Rattle.codec.specs.Spelling.{members, slices}
-use Rattle.codec.specs.Parts.{Part, part_names, put, part_of}
+use Rattle.codec.specs.Parts.{Part, part_names, part_before, part_of}
 use Rattle.codec.specs.Reading.{member_at, members_at}
 
 abbrev pub join : Members → Members → Members
@@ -19,7 +19,7 @@ join (node u rest) others = node u (join rest others)
 join (inner k own rest) others = inner k own (join rest others)
 
 abbrev pub single : Part → Members
-single m = put m none
+single m = part_before m none
 
 -- what was read before, and what is still read
 abbrev pub with_front : Members → Result (Members × List ℕ) Fault → Result (Members × List ℕ) Fault
@@ -40,7 +40,7 @@ members_of-append [] ys = refl
 members_of-append (Node u ∷ rest) ys = ap (node u) (members_of-append rest ys)
 members_of-append (Set s ∷ rest) ys = ap (inner s.threshold s.members) (members_of-append rest ys)
 
-join_single : (m : Part) (ms : Members) → join (single m) ms ≡ put m ms
+join_single : (m : Part) (ms : Members) → join (single m) ms ≡ part_before m ms
 join_single (inl u) ms = refl
 join_single (inr q) ms = refl
 
@@ -72,7 +72,7 @@ abbrev behind : Part → Members × List ℕ → Result ((Part × Members) × Li
 behind m x = Ok ((m, x.0), x.1)
 
 abbrev put_all : (Part × Members) × List ℕ → Result (Members × List ℕ) Fault
-put_all y = Ok (put y.0.0 y.0.1, y.1)
+put_all y = Ok (part_before y.0.0 y.0.1, y.1)
 
 regroup : (front : Members) (m : Part) (read : Result (Members × List ℕ) Fault) → with_front front ((read >>= behind m) >>= put_all) ≡ with_front (join front (single m)) read
 regroup front m (Ok x) = ap (λ (ms : Members). Ok (ms, x.1)) (ap (join front) (sym (join_single m x.0)) ∙ sym (join_assoc front (single m) x.0))

@@ -13,7 +13,7 @@ use Rattle.types.specs.Trees.{Members, none, node, inner, Slices, member_count, 
 use Rattle.codec.specs.Formats.{ValidThen, ValidJudged}
 use Rattle.codec.specs.Faults.{header_fault, is_among, name_fault, spare_fault}
 use Rattle.codec.specs.Spelling.{name, members, slices, first_levels, version_of}
-use Rattle.codec.specs.Parts.{Part, part_names, put}
+use Rattle.codec.specs.Parts.{Part, part_names, part_before}
 use Rattle.codec.specs.Reading.{new_name_at, member_at, members_at, header_at, set_with, inner_at, nested_at, slices_at}
 use Rattle.codec.specs.Grammar.{header, IsHeader, ShowsHeader, AreNames, IsTree, IsPart, part, ShowsName, ShowsPart, ShowsParts, ShowsSet, ShowsInner, ShowsSlices, levels_in, HasLevels, IsInVersion}
 use Rattle.codec.proofs.FieldLaws.{Takes, ok_is}
@@ -154,18 +154,18 @@ Laws-part levels inside seen known =
 abbrev AreParts : ℕ → ℕ → List ℕ → Members → Type 0
 AreParts levels n seen ms = (member_count ms ≡ n) × IsTree levels seen ms
 
-names-part : (m : Part) → names_in (put m none) ≡ part_names m
+names-part : (m : Part) → names_in (part_before m none) ≡ part_names m
 names-part (inl u) = refl
 names-part (inr q) = append-nil (names_in q.members)
 
 part_known : (levels : ℕ) (seen : List ℕ) (m : Part) → IsPart levels seen m → AreNames (seen ++ part_names m)
 part_known levels seen m v = subst (λ (us : List ℕ). AreNames (seen ++ us)) (names-part m) v.names
 
-members-put : (m : Part) (ms : Members) → members (put m ms) ≡ part m ++ members ms
+members-put : (m : Part) (ms : Members) → members (part_before m ms) ≡ part m ++ members ms
 members-put (inl u) ms = refl
 members-put (inr q) ms = refl
 
-count-put : (m : Part) (ms : Members) → member_count (put m ms) ≡ suc (member_count ms)
+count-put : (m : Part) (ms : Members) → member_count (part_before m ms) ≡ suc (member_count ms)
 count-put (inl u) ms = omega arith
 count-put (inr q) ms = omega arith
 
@@ -174,7 +174,7 @@ no_member none e = refl
 no_member (node u rest) e = absurd (omega arith)
 no_member (inner k own rest) e = absurd (omega arith)
 
-tree-put : (levels : ℕ) (seen : List ℕ) (m : Part) (ms : Members) → IsPart levels seen m → IsTree levels (seen ++ part_names m) ms → IsTree levels seen (put m ms)
+tree-put : (levels : ℕ) (seen : List ℕ) (m : Part) (ms : Members) → IsPart levels seen m → IsTree levels (seen ++ part_names m) ms → IsTree levels seen (part_before m ms)
 tree-put levels seen (inl u) ms v t = record {
   thresholds = t.thresholds;
   depth = t.depth;
@@ -187,7 +187,7 @@ tree-put levels seen (inr q) ms v t = record {
 }
 
 abbrev Split : ℕ → ℕ → List ℕ → Members → Type 0
-Split levels n seen = ValidAs (ValidThen (IsPart levels seen) (λ m. AreParts levels n (seen ++ part_names m))) (λ x. put x.0 x.1)
+Split levels n seen = ValidAs (ValidThen (IsPart levels seen) (λ m. AreParts levels n (seen ++ part_names m))) (λ x. part_before x.0 x.1)
 
 split : (levels n : ℕ) (seen : List ℕ) (ms : Members) → AreParts levels (suc n) seen ms → Split levels n seen ms
 split levels n seen none v = absurd (omega (arith, v.0))
@@ -225,7 +225,7 @@ Laws-parts levels inside zero seen known = record {
     empty : IsTree levels seen none
     empty = record { thresholds = tt; depth = omega arith; names = subst AreNames (sym (append-nil seen)) known }
 Laws-parts levels inside (suc n) seen known =
-    Laws-when (Laws-as (Laws-then (Laws-part levels inside seen known) (λ m v. Laws-parts levels inside n (seen ++ part_names m) (part_known levels seen m v))) (λ x. put x.0 x.1) members (λ x v. members-put x.0 x.1)) (AreParts levels (suc n) seen) (joined levels n seen) (split levels n seen)
+    Laws-when (Laws-as (Laws-then (Laws-part levels inside seen known) (λ m v. Laws-parts levels inside n (seen ++ part_names m) (part_known levels seen m v))) (λ x. part_before x.0 x.1) members (λ x v. members-put x.0 x.1)) (AreParts levels (suc n) seen) (joined levels n seen) (split levels n seen)
 
 -- ---- sets
 -- a set that may stand behind the names seen, with so many levels of inner sets in it

@@ -11,9 +11,9 @@ use Rattle.types.specs.declared.statement.Statement.TheVariants.{Nominate, Prepa
 use Rattle.types.specs.Nominations.{IsValue, most_nominated}
 use Rattle.types.specs.Statements.{Sent, IsBallot, HasWidths, IsEnvelope}
 use Rattle.codec.specs.Formats.{Fronts, NoFault, ValidThen, ShowsThen, text_then, ValidJudged, ShowsJudged, ShowsEither, ShowsFail, text_either, ShowsIf}
-use Rattle.codec.specs.Spelling.{byte, name, slices, value, ballot, nominated, kind, body, first_levels, spelling, Spells, most_bytes}
+use Rattle.codec.specs.Spelling.{byte, name, slices, value, ballot, value_set, kind, body, first_levels, spelling, Spells, most_bytes}
 use Rattle.codec.specs.Faults.{version_fault, spare_fault, kind_fault, header_fault, name_fault, length_fault, count_fault, statement_fault}
-use Rattle.codec.specs.Parts.{Part, part_names, put}
+use Rattle.codec.specs.Parts.{Part, part_names, part_before}
 
 -- ---- what fits its field
 -- any number: no text has one above 255
@@ -84,7 +84,7 @@ HasKind k s = (kind s ≡ k) × HasFields s
 
 -- the voted values show it, or the accepted ones
 abbrev pub ShowsNominate : Fronts
-ShowsNominate = ShowsThen nominated AreNominated ShowsNominated (λ v. ShowsNominated)
+ShowsNominate = ShowsThen value_set AreNominated ShowsNominated (λ v. ShowsNominated)
 
 -- the ballot shows it, or what is prepared
 abbrev pub ShowsPrepare : Fronts
@@ -129,7 +129,7 @@ pub record IsTree (levels : ℕ) (seen : List ℕ) (ms : Members) : Type 0 where
 
 -- a member that may come next
 abbrev pub IsPart : ℕ → List ℕ → Part → Type 0
-IsPart levels seen m = IsTree levels seen (put m none)
+IsPart levels seen m = IsTree levels seen (part_before m none)
 
 -- a 0 and a name, or a 1 and a set
 abbrev pub part : Part → List ℕ

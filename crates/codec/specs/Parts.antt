@@ -20,6 +20,6 @@ part_names (inl u) = u ∷ []
 part_names (inr q) = names_in q.members
 
 -- a member before others
-abbrev pub put : Part → Members → Members
-put (inl u) rest = node u rest
-put (inr q) rest = inner q.threshold q.members rest
+abbrev pub part_before : Part → Members → Members
+part_before (inl u) rest = node u rest
+part_before (inr q) rest = inner q.threshold q.members rest

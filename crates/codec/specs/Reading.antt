@@ -6,7 +6,7 @@ use Rattle.codec.specs.declared.error.Fault.{Fault}
 use Rattle.codec.specs.declared.error.Fault.TheVariants.{TrailingBytes, Limit, BadSlices, BadStatement}
 pub use Rattle.codec.specs.Steps.{◌>>=◌, Fails, Gives, Says, IsBytes, byte_at, number_at, bytes_at}
 use Rattle.codec.specs.Steps.{Reads, read_then, read_judged, read_as, read_either}
-use Rattle.codec.specs.Parts.{Part, part_names, put}
+use Rattle.codec.specs.Parts.{Part, part_names, part_before}
 use Rattle.codec.specs.Faults.{version_fault, spare_fault, kind_fault, header_fault, name_fault, length_fault, count_fault, statement_fault}
 use Rattle.codec.specs.Spelling.{most_bytes}
 use Rattle.types.specs.declared.ballot.Ballot.{Ballot}
@@ -60,7 +60,7 @@ member_at set_of seen = read_either 0 (new_name_at seen) 1 (set_of seen) BadSlic
 unfoldable pub members_at : (List ℕ → Reads Slices) → ℕ → List ℕ → Reads Members
 members_at set_of zero seen bytes = Ok (none, bytes)
 members_at set_of (suc n) seen bytes =
-    read_as (read_then (member_at set_of seen) (λ m. members_at set_of n (seen ++ part_names m))) (λ x. put x.0 x.1) bytes
+    read_as (read_then (member_at set_of seen) (λ m. members_at set_of n (seen ++ part_names m))) (λ x. part_before x.0 x.1) bytes
 
 -- a threshold and a count
 unfoldable pub header_at : Reads (ℕ × ℕ)
@@ -149,7 +149,7 @@ unfoldable pub envelope_at : Reads Sent
 envelope_at = read_as (read_then version_at (λ v. read_then kind_at (λ k. parts_at v k))) sent_of
 
 -- all of the bytes
-unfoldable pub decoded : List ℕ → Result Sent Fault
-decoded bytes =
+unfoldable pub decoding : List ℕ → Result Sent Fault
+decoding bytes =
     if nat_lt most_bytes (length bytes) then Err Limit
     else (envelope_at bytes >>= λ e. if length e.1 == 0 then Ok e.0 else Err TrailingBytes)

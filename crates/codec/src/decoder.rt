@@ -1,7 +1,7 @@
 //! Envelopes that are read from bytes.
 
 ghost use Rattle.std.specs.Prelude.{◌≡◌, ◌<◌, ◌≤◌, ℕ, List, length, IfOk, IfErr, Ok, Err, Some, None};
-ghost use Rattle.codec.specs.Reading.{Gives, Says, IsBytes, version_at, parts_at, envelope_at, decoded};
+ghost use Rattle.codec.specs.Reading.{Gives, Says, IsBytes, version_at, parts_at, envelope_at, decoding};
 ghost use Rattle.codec.specs.Spelling.{most_bytes, Spells, HasOneSpelling};
 ghost use Rattle.codec.specs.Answers.{Refuses};
 ghost use Rattle.codec.specs.Kinds.{kind_number};
@@ -83,9 +83,9 @@ pub fn one_answer()
 {}
 
 /// The envelope that the text spells, all of it and nothing more.
-#[tactic(auto, unfolding(crate::specs::Reading::decoded))]
+#[tactic(auto, unfolding(crate::specs::Reading::decoding))]
 fn read_text(alloc: Global, bytes: &[u8]) -> Result<Envelope, CodecError>
-    ensures read { Gives (λ e. e) result (decoded bytes.now) }
+    ensures read { Gives (λ e. e) result (decoding bytes.now) }
     ensures too_long { most_bytes < length bytes.now → result ≡ Err (errors.Fault Limit) }
     ensures version { length bytes.now ≤ most_bytes → HasOtherVersion bytes.now → result ≡ Err (errors.Fault Version) }
     ensures kind { length bytes.now ≤ most_bytes → HasOtherKind bytes.now → result ≡ Err (errors.Fault Kind) }

@@ -10,7 +10,7 @@ use Rattle.protocol.specs.Sets.{Names}
 use Rattle.protocol.specs.Satisfaction.{satisfied_count, blocked_count}
 use Rattle.slices.proofs.MemberLaws.{member_count_is}
 use Rattle.compiled.specs.Places.{Compiled, sets_of, places_in}
-use Rattle.compiled.specs.Met.{met, sets_met, meets, needed_of, one_where}
+use Rattle.compiled.specs.Met.{has_needed, sets_met, meets, needed_of, one_where}
 
 -- how many members meet
 abbrev pub members_met : Bool → Members → Names → ℕ
@@ -64,7 +64,7 @@ set_on b ms i m q s h is e =
     on b ms i m s h ∙ (λ j. one_where (member_meets b ((sym is ∙ e) j) s) + members_met b (members_of (drop (next j) ms)) s)
 
 -- one compiled set more
-pub one_set_more : (cs : List Compiled) (c : Compiled) (ws : List ℕ) → sets_met (sets_of (cs ++ c ∷ [])) ws ≡ sets_met (sets_of cs) ws + one_where (met c ws)
+pub one_set_more : (cs : List Compiled) (c : Compiled) (ws : List ℕ) → sets_met (sets_of (cs ++ c ∷ [])) ws ≡ sets_met (sets_of cs) ws + one_where (has_needed c ws)
 one_set_more [] c ws = omega arith
 one_set_more (d ∷ cs) c ws = omega (arith, one_set_more cs c ws)
 
@@ -79,7 +79,7 @@ none_after b (m ∷ ms) (suc i) s h = none_after b ms i s (omega arith)
 pub all_met : (b : Bool) (ms : List Member) (i : ℕ) (q : Slices) (s : Names) (c : Compiled) (ws : List ℕ) → length ms ≤ i → members_of ms ≡ q.members
     → c.needed ≡ needed_of b q.threshold (length ms)
     → places_in c.masks ws + sets_met c.inner ws + members_met b (members_of (drop i ms)) s ≡ members_met b q.members s
-    → met c ws ≡ meets b q s
+    → has_needed c ws ≡ meets b q s
 all_met b ms i q s c ws end shape needed so_far =
     let count : length ms ≡ member_count q.members = sym (member_count_is ms) ∙ ap member_count shape in
     let total : places_in c.masks ws + sets_met c.inner ws ≡ members_met b q.members s = omega (arith, none_after b ms i s end, so_far) in

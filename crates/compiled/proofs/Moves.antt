@@ -8,7 +8,7 @@ use Rattle.protocol.specs.Satisfaction.{names}
 use Rattle.protocol.specs.Sets.{among, AreWithin}
 use Rattle.protocol.proofs.Slices.Satisfaction.{sat_local}
 use Rattle.compiled.specs.Places.{bit_of, Compiled}
-use Rattle.compiled.specs.Met.{IsCompiled, one_where, picked}
+use Rattle.compiled.specs.Met.{IsCompiled, one_where, nodes_at}
 use Rattle.compiled.specs.Moving.{AreMoved, IsBefore, IsMoved}
 use Rattle.compiled.proofs.PassingWords.{passing_words}
 use Rattle.compiled.proofs.Picking.{bit_is}
@@ -78,7 +78,7 @@ place_among (x ∷ xs) u h = elim (or_cases (x == u) (among xs u) h) [
 ]
 
 -- a name is of a node that is picked now where it was picked before
-pub picked_alike : (us vs places bs ws : List ℕ) (u : ℕ) → AreMoved us vs places → IsBefore places bs ws → among us u ≡ true → among vs u ≡ true → among (picked us bs) u ≡ among (picked vs ws) u
+pub picked_alike : (us vs places bs ws : List ℕ) (u : ℕ) → AreMoved us vs places → IsBefore places bs ws → among us u ≡ true → among vs u ≡ true → among (nodes_at us bs) u ≡ among (nodes_at vs ws) u
 picked_alike us vs places bs ws u moved is there still =
     let at = place_among us u there in
     let i = at.0 in
@@ -86,9 +86,9 @@ picked_alike us vs places bs ws u moved is there still =
     let old = bit_is us i u bs moved.before inside at.2 in
     let stands = moved.stands i inside (ap (λ v. among vs v) at.2 ∙ still) in
     let new = bit_is vs (get_or places i 0) u ws moved.now stands.0 (stands.1 ∙ at.2) in
-    one_apart (among (picked us bs) u) (among (picked vs ws) u) (sym old ∙ (is.within i (omega (arith, inside, moved.counted)) ∙ new))
+    one_apart (among (nodes_at us bs) u) (among (nodes_at vs ws) u) (sym old ∙ (is.within i (omega (arith, inside, moved.counted)) ∙ new))
 
 pub compiled_again : (us vs places : List ℕ) (q : Slices) (old new : Compiled) → AreMoved us vs places → AreWithin (among (names q)) (among us) → AreWithin (among (names q)) (among vs) → IsMoved places old new → IsCompiled false us q old → IsCompiled false vs q new
 compiled_again us vs places q old new moved named still is compiled ws =
     let b = before us vs places ws moved in
-    is b.0 ws b.1 ∙ (compiled b.0 ∙ sat_local q (among (picked us b.0)) (among (picked vs ws)) (λ u h. picked_alike us vs places b.0 ws u moved b.1 (named u h) (still u h)))
+    is b.0 ws b.1 ∙ (compiled b.0 ∙ sat_local q (among (nodes_at us b.0)) (among (nodes_at vs ws)) (λ u h. picked_alike us vs places b.0 ws u moved b.1 (named u h) (still u h)))

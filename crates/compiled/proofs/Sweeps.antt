@@ -8,7 +8,7 @@ use Rattle.protocol.specs.Quorums.{Quorum, HasQuorum, is_satisfied}
 use Rattle.protocol.proofs.Slices.Quorums.{is_satisfied-more}
 use Rattle.protocol.proofs.Slices.Satisfaction.{sat_monotone}
 use Rattle.compiled.specs.Places.{bit_of, Numbered}
-use Rattle.compiled.specs.Met.{met, picked_from, picked, one_where, IsCleared}
+use Rattle.compiled.specs.Met.{has_needed, nodes_at_from, nodes_at, one_where, IsCleared}
 use Rattle.compiled.specs.Searching.{met_at, stays_at, AreAgreed, AreCompiled, IsLeft, AllMet, live}
 use Rattle.compiled.specs.Answering.{IsAnswerAt, IsNothing}
 use Rattle.compiled.specs.declared.answers.Answers.{Answers}
@@ -22,14 +22,14 @@ found : (v : Bool) (u x : ℕ) (us : List ℕ) → among (cond v (u ∷ us) us) 
 found true u x us h = elim (or_cases (u == x) (among us x) h) [ inl e ↦ inl (refl, eqb-true u x e) | inr e ↦ inr e ]
 found false u x us h = inr h
 
-place_from : (us : List ℕ) (j : ℕ) (ws : List ℕ) (x : ℕ) → among (picked_from j us ws) x ≡ true → HasPlace us j ws x
+place_from : (us : List ℕ) (j : ℕ) (ws : List ℕ) (x : ℕ) → among (nodes_at_from j us ws) x ≡ true → HasPlace us j ws x
 place_from [] j ws x h = absurd (false≢true h)
-place_from (u ∷ us) j ws x h = elim (found (bit_of ws j == 1) u x (picked_from (suc j) us ws) h) [
+place_from (u ∷ us) j ws x h = elim (found (bit_of ws j == 1) u x (nodes_at_from (suc j) us ws) h) [
   | inl e ↦ (0, omega arith, e.1, ap (bit_of ws) (omega arith) ∙ eqb-true (bit_of ws j) 1 e.0)
   | inr e ↦ let p = place_from us (suc j) ws x e in (suc p.0, omega (arith, p.1), p.2, ap (bit_of ws) (omega arith) ∙ p.3)
 ]
 
-pub place_of_picked : (us ws : List ℕ) (x : ℕ) → among (picked us ws) x ≡ true → (i : ℕ) × (i < length us) × (get_or us i 0 ≡ x) × (bit_of ws i ≡ 1)
+pub place_of_picked : (us ws : List ℕ) (x : ℕ) → among (nodes_at us ws) x ≡ true → (i : ℕ) × (i < length us) × (get_or us i 0 ≡ x) × (bit_of ws i ≡ 1)
 place_of_picked us ws x h = let p = place_from us 0 ws x h in (p.0, p.1, p.2, ap (bit_of ws) (omega arith) ∙ p.3)
 
 one_true : (b : Bool) → 1 ≡ one_where b → b ≡ true
@@ -37,8 +37,8 @@ one_true true e = refl
 one_true false e = absurd (omega arith)
 
 -- and the node at a place of the set is picked
-pub picked_there : (us ws : List ℕ) (i : ℕ) → IsAscending us → i < length us → bit_of ws i ≡ 1 → among (picked us ws) (get_or us i 0) ≡ true
-picked_there us ws i up within set = one_true (among (picked us ws) (get_or us i 0)) (sym set ∙ bit_is us i (get_or us i 0) ws up within refl)
+pub picked_there : (us ws : List ℕ) (i : ℕ) → IsAscending us → i < length us → bit_of ws i ≡ 1 → among (nodes_at us ws) (get_or us i 0) ≡ true
+picked_there us ws i up within set = one_true (among (nodes_at us ws) (get_or us i 0)) (sym set ∙ bit_is us i (get_or us i 0) ws up within refl)
 
 kept_bit : (place i : ℕ) (old now : List ℕ) → IsCleared place old now → bit_of now i ≡ 1 → bit_of old i ≡ 1
 kept_bit place i old now cleared h = by (place == i) (bit_of old i) (sym (cleared.1 i) ∙ h)
@@ -49,28 +49,28 @@ kept_bit place i old now cleared h = by (place == i) (bit_of old i) (sym (cleare
 
 -- ---- one place less
 module _ (us : List ℕ) (slices_at : ℕ → Option Slices) (cs : List (Option Numbered)) (supporters : Names) (up : IsAscending us) (compiled : AreCompiled us slices_at cs) where
-  fewer : (place : ℕ) (old now : List ℕ) → IsCleared place old now → AreWithin (among (picked us now)) (among (picked us old))
+  fewer : (place : ℕ) (old now : List ℕ) → IsCleared place old now → AreWithin (among (nodes_at us now)) (among (nodes_at us old))
   fewer place old now cleared u h =
       let p = place_of_picked us now u h in
-      subst (λ x. among (picked us old) x ≡ true) p.2 (picked_there us old p.0 up p.1 (kept_bit place p.0 old now cleared p.3))
+      subst (λ x. among (nodes_at us old) x ≡ true) p.2 (picked_there us old p.0 up p.1 (kept_bit place p.0 old now cleared p.3))
 
   -- a node whose slices are not met is in no quorum among those that are left
-  not_met : (place : ℕ) (ws : List ℕ) → IsLeft slices_at supporters (among (picked us ws)) → place < length cs → met_at (get_or cs place None) ws ≡ false
+  not_met : (place : ℕ) (ws : List ℕ) → IsLeft slices_at supporters (among (nodes_at us ws)) → place < length cs → met_at (get_or cs place None) ws ≡ false
       → (q : Names) → Quorum sat slices_at q → AreWithin q supporters → q (get_or us place 0) ≡ true → ⊥
   not_met place ws left within fails q quorum inside h =
       let u = get_or us place 0 in
-      let more = is_satisfied-more sat slices_at sat_monotone (slices_at u) q (among (picked us ws)) (left.all_quorums q quorum inside) (quorum.each u h) in
+      let more = is_satisfied-more sat slices_at sat_monotone (slices_at u) q (among (nodes_at us ws)) (left.all_quorums q quorum inside) (quorum.each u h) in
       false≢true (sym fails ∙ (compiled.each place (omega (arith, within, compiled.as_many)) ws ∙ more))
 
-  stays_there : (place : ℕ) (old now : List ℕ) → IsCleared place old now → (u : ℕ) → (u ≡ get_or us place 0 → ⊥) → among (picked us old) u ≡ true → among (picked us now) u ≡ true
+  stays_there : (place : ℕ) (old now : List ℕ) → IsCleared place old now → (u : ℕ) → (u ≡ get_or us place 0 → ⊥) → among (nodes_at us old) u ≡ true → among (nodes_at us now) u ≡ true
   stays_there place old now cleared u other h =
       let p = place_of_picked us old u h in
       let apart : place ≡ p.0 → ⊥ = λ e. other (sym p.2 ∙ ap (λ i. get_or us i 0) (sym e)) in
       let bit : bit_of now p.0 ≡ 1 = cleared.1 p.0 ∙ (ap (λ b. cond b 0 (bit_of old p.0)) (ne_eqb place p.0 apart) ∙ p.3) in
-      subst (λ x. among (picked us now) x ≡ true) p.2 (picked_there us now p.0 up p.1 bit)
+      subst (λ x. among (nodes_at us now) x ≡ true) p.2 (picked_there us now p.0 up p.1 bit)
 
   pub one_away : (place : ℕ) (old now : List ℕ) → ((q : Names) → Quorum sat slices_at q → AreWithin q supporters → q (get_or us place 0) ≡ true → ⊥) → IsCleared place old now
-      → IsLeft slices_at supporters (among (picked us old)) → IsLeft slices_at supporters (among (picked us now))
+      → IsLeft slices_at supporters (among (nodes_at us old)) → IsLeft slices_at supporters (among (nodes_at us now))
   one_away place old now in_none cleared left = record {
     within = λ u h. left.within u (fewer place old now cleared u h);
     all_quorums = λ q quorum inside u h. stays_there place old now cleared u
@@ -79,23 +79,23 @@ module _ (us : List ℕ) (slices_at : ℕ → Option Slices) (cs : List (Option 
   }
 
   -- where all are met, those that are left are a quorum
-  pub is_quorum : (place : ℕ) (ws : List ℕ) → place < length cs → IsLeft slices_at supporters (among (picked us ws)) → AllMet cs ws → bit_of ws place ≡ 1
+  pub is_quorum : (place : ℕ) (ws : List ℕ) → place < length cs → IsLeft slices_at supporters (among (nodes_at us ws)) → AllMet cs ws → bit_of ws place ≡ 1
       → HasQuorum sat slices_at supporters (get_or us place 0)
   is_quorum place ws within left all set =
       let member = picked_there us ws place up (omega (arith, within, compiled.as_many)) set in
       record {
-        set = among (picked us ws);
+        set = among (nodes_at us ws);
         quorum = record {
           some = (get_or us place 0, member);
           each = λ u h. let p = place_of_picked us ws u h in
-              subst (λ x. is_satisfied sat (slices_at x) (among (picked us ws)) ≡ true) p.2 (sym (compiled.each p.0 p.1 ws) ∙ all p.0 (omega (arith, p.1, compiled.as_many)) p.3);
+              subst (λ x. is_satisfied sat (slices_at x) (among (nodes_at us ws)) ≡ true) p.2 (sym (compiled.each p.0 p.1 ws) ∙ all p.0 (omega (arith, p.1, compiled.as_many)) p.3);
         };
         within = left.within;
         member = member;
       }
 
   -- a node that does not stay is in no quorum
-  pub no_quorum : (place : ℕ) (ws : List ℕ) → place < length cs → IsLeft slices_at supporters (among (picked us ws)) → stays_at cs ws place ≡ false
+  pub no_quorum : (place : ℕ) (ws : List ℕ) → place < length cs → IsLeft slices_at supporters (among (nodes_at us ws)) → stays_at cs ws place ≡ false
       → HasQuorum sat slices_at supporters (get_or us place 0) → ⊥
   no_quorum place ws within left fails h = elim (and_cases (bit_of ws place == 1) (met_at (get_or cs place None) ws) fails) [
     | inl e ↦
@@ -134,17 +134,17 @@ less_live (suc n) place old now cleared h set = elim (cases_lt place n) [
 -- where these places are left of the supporters, the node at a place is in no quorum among them
 abbrev InNone : List (Option Numbered) → List ℕ → ℕ → Type 0
 InNone cs ws i = (us : List ℕ) (slices_at : ℕ → Option Slices) (supporters : Names) → IsAscending us → AreCompiled us slices_at cs
-    → IsLeft slices_at supporters (among (picked us ws)) → (q : Names) → Quorum sat slices_at q → AreWithin q supporters → q (get_or us i 0) ≡ true → ⊥
+    → IsLeft slices_at supporters (among (nodes_at us ws)) → (q : Names) → Quorum sat slices_at q → AreWithin q supporters → q (get_or us i 0) ≡ true → ⊥
 
 -- what holds of a sweep that began with these places, looked at the first n, and has these left: forms that were met are so while nothing changed, and no node with a form that was not met is in a quorum
 pub record Swept (cs : List (Option Numbered)) (n : ℕ) (old now : List ℕ) (changed : Bool) (answers : Answers) : Type 0 where
   pub kept : (us : List ℕ) (slices_at : ℕ → Option Slices) (supporters : Names) → IsAscending us → AreCompiled us slices_at cs
-      → IsLeft slices_at supporters (among (picked us old)) → IsLeft slices_at supporters (among (picked us now))
+      → IsLeft slices_at supporters (among (nodes_at us old)) → IsLeft slices_at supporters (among (nodes_at us now))
   pub settled : changed ≡ false → AreAgreed cs → (i : ℕ) → i < n → bit_of now i ≡ 1 → IsTrue (met_at (get_or cs i None) now)
   pub same : changed ≡ false → now ≡ old
   pub no_more : live (length cs) now ≤ live (length cs) old
   pub less : changed ≡ true → live (length cs) now < live (length cs) old
-  pub met : changed ≡ false → AreAgreed cs → (i : ℕ) (f : Numbered) → get_or cs i None ≡ Some f → bit_of answers.met f.number ≡ 1 → met f.set now ≡ true
+  pub met : changed ≡ false → AreAgreed cs → (i : ℕ) (f : Numbered) → get_or cs i None ≡ Some f → bit_of answers.met f.number ≡ 1 → has_needed f.set now ≡ true
   pub unmet : (i : ℕ) (f : Numbered) → i < length cs → get_or cs i None ≡ Some f → bit_of answers.unmet f.number ≡ 1 → InNone cs old i
 
 pub begun : (cs : List (Option Numbered)) (old : List ℕ) (answers : Answers) → IsNothing answers → Swept cs 0 old old false answers
@@ -160,12 +160,12 @@ begun cs old answers nothing = record {
 
 -- a form of the number of one that is not met now is not met either
 none_of_number : (cs : List (Option Numbered)) (n : ℕ) (old now : List ℕ) (changed : Bool) (answers : Answers) → Swept cs n old now changed answers
-    → (j : ℕ) (g : Numbered) → get_or cs j None ≡ Some g → met g.set now ≡ false
+    → (j : ℕ) (g : Numbered) → get_or cs j None ≡ Some g → has_needed g.set now ≡ false
     → (i : ℕ) (f : Numbered) → i < length cs → get_or cs i None ≡ Some f → g.number ≡ f.number → InNone cs old i
 none_of_number cs n old now changed answers so_far j g g_is fails i f within f_is number us slices_at supporters up compiled left =
     let same : f.set ≡ g.set = sym (compiled.agreed j i g f g_is f_is number) in
     not_met us slices_at cs supporters up compiled i now (so_far.kept us slices_at supporters up compiled left) within
-    (ap (λ (o : Option Numbered). met_at o now) f_is ∙ (ap (λ c. met c now) same ∙ fails))
+    (ap (λ (o : Option Numbered). met_at o now) f_is ∙ (ap (λ c. has_needed c now) same ∙ fails))
 
 -- the node at the next place is in no quorum, where its form is not met
 next_in_none : (cs : List (Option Numbered)) (n : ℕ) (old now : List ℕ) (changed : Bool) (answers next : Answers) → Swept cs n old now changed answers → n < length cs
@@ -190,11 +190,11 @@ next_unmet cs n old now changed v answers next so_far (Some g) is answer i f wit
 -- forms that are noted as met
 next_met : (cs : List (Option Numbered)) (n : ℕ) (old now : List ℕ) (changed v : Bool) (answers next : Answers) → Swept cs n old now changed answers
     → (o : Option Numbered) → get_or cs n None ≡ o → IsAnswerAt o now answers next v → changed ≡ false → AreAgreed cs
-    → (i : ℕ) (f : Numbered) → get_or cs i None ≡ Some f → bit_of next.met f.number ≡ 1 → met f.set now ≡ true
+    → (i : ℕ) (f : Numbered) → get_or cs i None ≡ Some f → bit_of next.met f.number ≡ 1 → has_needed f.set now ≡ true
 next_met cs n old now changed v answers next so_far None is answer e agreed i f f_is one = so_far.met e agreed i f f_is (ap (λ (a : Answers). bit_of a.met f.number) (sym answer.0) ∙ one)
 next_met cs n old now changed v answers next so_far (Some g) is answer e agreed i f f_is one = elim (answer.kept_met f.number one) [
   | inl earlier ↦ so_far.met e agreed i f f_is earlier
-  | inr now_met ↦ ap (λ c. met c now) (sym (agreed n i g f is f_is now_met.0)) ∙ now_met.1
+  | inr now_met ↦ ap (λ c. has_needed c now) (sym (agreed n i g f is f_is now_met.0)) ∙ now_met.1
 ]
 
 -- the form at the next place is met, where nothing changed

@@ -10,7 +10,7 @@ use Rattle.std.proofs.lemmas.List.{get_or_past, drop_all, length-drop}
 use Rattle.compiled.specs.Asking.{ArePassing, IsAsked}
 use Rattle.compiled.specs.declared.asking.Tally.{Tally}
 use Rattle.compiled.specs.declared.mask.Mask.{Mask}
-use Rattle.compiled.specs.Met.{one_where, met, sets_met}
+use Rattle.compiled.specs.Met.{one_where, has_needed, sets_met}
 use Rattle.compiled.specs.Places.{ones_at, places_in, count_in, count_sets, Compiled, Sets, sets_of}
 use Rattle.compiled.proofs.Words.{below_pow, common_first, few_common, none_common, nothing, ones_first}
 use Rattle.compiled.proofs.Weights.{counted}
@@ -189,14 +189,14 @@ one_at_most false = omega arith
 
 few_sets : (cs : List Compiled) (ws : List ℕ) → sets_met (sets_of cs) ws ≤ length cs
 few_sets [] ws = omega arith
-few_sets (c ∷ cs) ws = omega (arith, one_at_most (met c ws), few_sets cs ws)
+few_sets (c ∷ cs) ws = omega (arith, one_at_most (has_needed c ws), few_sets cs ws)
 
-pub sets_at : (cs : List Compiled) (i : ℕ) (d : Compiled) (ws : List ℕ) → i < length cs → sets_met (sets_of (drop i cs)) ws ≡ one_where (met (get_or cs i d) ws) + sets_met (sets_of (drop (i + 1) cs)) ws
+pub sets_at : (cs : List Compiled) (i : ℕ) (d : Compiled) (ws : List ℕ) → i < length cs → sets_met (sets_of (drop i cs)) ws ≡ one_where (has_needed (get_or cs i d) ws) + sets_met (sets_of (drop (i + 1) cs)) ws
 sets_at cs i d ws h =
     let next : suc i ≡ i + 1 = omega arith in
-    go cs i h ∙ ap (λ j. one_where (met (get_or cs i d) ws) + sets_met (sets_of (drop j cs)) ws) next
+    go cs i h ∙ ap (λ j. one_where (has_needed (get_or cs i d) ws) + sets_met (sets_of (drop j cs)) ws) next
   where
-    go : (cs : List Compiled) (i : ℕ) → i < length cs → sets_met (sets_of (drop i cs)) ws ≡ one_where (met (get_or cs i d) ws) + sets_met (sets_of (drop (suc i) cs)) ws
+    go : (cs : List Compiled) (i : ℕ) → i < length cs → sets_met (sets_of (drop i cs)) ws ≡ one_where (has_needed (get_or cs i d) ws) + sets_met (sets_of (drop (suc i) cs)) ws
     go [] i h = absurd (omega arith)
     go (c ∷ cs) zero h = refl
     go (c ∷ cs) (suc i) h = go cs i (omega arith)
@@ -205,7 +205,7 @@ count_left : (cs : List Compiled) (i : ℕ) → i < length cs → length (drop i
 count_left cs i h = omega (arith, length-drop i cs, length-drop (i + 1) cs)
 
 -- one inner set after another
-pub one_set : (cs : List Compiled) (i : ℕ) (d : Compiled) (ws : List ℕ) (b : Bool) (old now t : Tally) → i < length cs → b ≡ met (get_or cs i d) ws → IsAsked (one_where b) 1 old now
+pub one_set : (cs : List Compiled) (i : ℕ) (d : Compiled) (ws : List ℕ) (b : Bool) (old now t : Tally) → i < length cs → b ≡ has_needed (get_or cs i d) ws → IsAsked (one_where b) 1 old now
     → IsAsked (sets_met (sets_of (drop (i + 1) cs)) ws) (length (drop (i + 1) cs)) now t → IsAsked (sets_met (sets_of (drop i cs)) ws) (length (drop i cs)) old t
 one_set cs i d ws b old now t h is asked later =
     let rest = drop (i + 1) cs in
@@ -216,7 +216,7 @@ one_set cs i d ws b old now t h is asked later =
 -- or all that are left need not be asked
 pub skips_set : (cs : List Compiled) (i : ℕ) (d : Compiled) (ws : List ℕ) (old t : Tally) → i < length cs → (nat_le 1 old.missing && nat_le old.missing old.left) ≡ false
     → IsAsked (sets_met (sets_of (drop (i + 1) cs)) ws) (length (drop (i + 1) cs)) old t → IsAsked (sets_met (sets_of (drop i cs)) ws) (length (drop i cs)) old t
-skips_set cs i d ws old t h shut later = one_set cs i d ws (met (get_or cs i d) ws) old old t h refl (not_asked (one_where (met (get_or cs i d) ws)) 1 old (one_at_most (met (get_or cs i d) ws)) shut) later
+skips_set cs i d ws old t h shut later = one_set cs i d ws (has_needed (get_or cs i d) ws) old old t h refl (not_asked (one_where (has_needed (get_or cs i d) ws)) 1 old (one_at_most (has_needed (get_or cs i d) ws)) shut) later
 
 -- none is left
 pub no_set : (cs : List Compiled) (i : ℕ) (ws : List ℕ) (t : Tally) → length cs ≤ i → IsAsked (sets_met (sets_of (drop i cs)) ws) (length (drop i cs)) t t
@@ -224,7 +224,7 @@ no_set cs i ws t end = subst (λ (xs : List Compiled). IsAsked (sets_met (sets_o
 
 -- masks first, and inner sets then, of no more than so many members
 pub all_asked : (c : Compiled) (cs : List Compiled) (ws : List ℕ) (members : ℕ) (mid t : Tally) → sets_of cs ≡ c.inner → count_in c.masks + count_sets c.inner ≤ members
-    → IsAsked (places_in c.masks ws) (count_in c.masks) (record { missing = c.needed; left = members }) mid → IsAsked (sets_met (sets_of cs) ws) (length cs) mid t → nat_eq t.missing 0 ≡ met c ws
+    → IsAsked (places_in c.masks ws) (count_in c.masks) (record { missing = c.needed; left = members }) mid → IsAsked (sets_met (sets_of cs) ws) (length cs) mid t → nat_eq t.missing 0 ≡ has_needed c ws
 all_asked c cs ws members mid t shape room first later =
     let start : Tally = record { missing = c.needed; left = members } in
     let many : count_sets c.inner ≡ length cs = ap count_sets (sym shape) ∙ counted cs in

@@ -1,7 +1,7 @@
 -- Answers that are kept by the numbers of forms.
 use Rattle.std.specs.Prelude.{◌≡◌, ◌⊎◌, ℕ, List, Bool, true, false, Option, Some, None}
 use Rattle.compiled.specs.Places.{bit_of, Numbered}
-use Rattle.compiled.specs.Met.{met}
+use Rattle.compiled.specs.Met.{has_needed}
 use Rattle.compiled.specs.declared.answers.Answers.{Answers}
 
 -- this number at most is new among those that are noted
@@ -19,10 +19,10 @@ IsNothing a = (i : ℕ) → (bit_of a.met i ≡ 0) × (bit_of a.unmet i ≡ 0)
 -- the answer is an earlier one for the form's number, or what holds of its set at these places; what is kept then is
 -- what was kept before, and this answer
 pub record IsAnswer (f : Numbered) (ws : List ℕ) (old now : Answers) (answer : Bool) : Type 0 where
-  pub kept_met : AreAnswers f.number (met f.set ws ≡ true) old.met now.met
-  pub kept_unmet : AreAnswers f.number (met f.set ws ≡ false) old.unmet now.unmet
-  pub holds : answer ≡ true → (bit_of old.met f.number ≡ 1) ⊎ (met f.set ws ≡ true)
-  pub fails : answer ≡ false → (bit_of old.unmet f.number ≡ 1) ⊎ (met f.set ws ≡ false)
+  pub kept_met : AreAnswers f.number (has_needed f.set ws ≡ true) old.met now.met
+  pub kept_unmet : AreAnswers f.number (has_needed f.set ws ≡ false) old.unmet now.unmet
+  pub holds : answer ≡ true → (bit_of old.met f.number ≡ 1) ⊎ (has_needed f.set ws ≡ true)
+  pub fails : answer ≡ false → (bit_of old.unmet f.number ≡ 1) ⊎ (has_needed f.set ws ≡ false)
 
 -- where there is no form, it is not met
 abbrev pub IsAnswerAt : Option Numbered → List ℕ → Answers → Answers → Bool → Type 0

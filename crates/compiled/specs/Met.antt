@@ -15,17 +15,17 @@ sets_met none ws = 0
 sets_met (set k ms own rest) ws = one_where (nat_le k (places_in ms ws + sets_met own ws)) + sets_met rest ws
 
 -- as many places and inner sets as are needed are in the set
-abbrev pub met : Compiled → List ℕ → Bool
-met c ws = nat_le c.needed (places_in c.masks ws + sets_met c.inner ws)
+abbrev pub has_needed : Compiled → List ℕ → Bool
+has_needed c ws = nat_le c.needed (places_in c.masks ws + sets_met c.inner ws)
 
 -- the nodes, from this place on, whose places are in the set
-abbrev pub picked_from : ℕ → List ℕ → List ℕ → List ℕ
-picked_from i [] ws = []
-picked_from i (u ∷ us) ws = if bit_of ws i == 1 then u ∷ picked_from (suc i) us ws else picked_from (suc i) us ws
+abbrev pub nodes_at_from : ℕ → List ℕ → List ℕ → List ℕ
+nodes_at_from i [] ws = []
+nodes_at_from i (u ∷ us) ws = if bit_of ws i == 1 then u ∷ nodes_at_from (suc i) us ws else nodes_at_from (suc i) us ws
 
 -- the nodes whose places are in the set
-abbrev pub picked : List ℕ → List ℕ → List ℕ
-picked us ws = picked_from 0 us ws
+abbrev pub nodes_at : List ℕ → List ℕ → List ℕ
+nodes_at us ws = nodes_at_from 0 us ws
 
 -- the set of nodes satisfies the slices or, where that is asked, blocks them
 abbrev pub meets : Bool → Slices → Names → Bool
@@ -39,7 +39,7 @@ needed_of false k n = k
 
 -- places meet the compiled form exactly where the nodes at those places meet the slices
 abbrev pub IsCompiled : Bool → List ℕ → Slices → Compiled → Type 0
-IsCompiled blocking us q c = (ws : List ℕ) → met c ws ≡ meets blocking q (among (picked us ws))
+IsCompiled blocking us q c = (ws : List ℕ) → has_needed c ws ≡ meets blocking q (among (nodes_at us ws))
 
 -- a place is out, and all others are as they were
 abbrev pub IsCleared : ℕ → List ℕ → List ℕ → Type 0

@@ -2,7 +2,7 @@
 use Rattle.std.specs.Prelude.{◌≡◌, ℕ, ◌<◌, ◌≤◌, ◌^◌, List, IsTrue, get_or, length}
 use Rattle.protocol.specs.Sets.{IsAscending, among}
 use Rattle.compiled.specs.Places.{bit_of, Compiled}
-use Rattle.compiled.specs.Met.{met}
+use Rattle.compiled.specs.Met.{has_needed}
 
 -- one set of places is the other before it moved: each place is in it where the one to which it moves is in the other,
 -- and no more
@@ -13,7 +13,7 @@ pub record IsBefore (places ws vs : List ℕ) : Type 0 where
 
 -- a compiled set whose places moved is met by a set of places exactly where the one before it was met by the set before
 abbrev pub IsMoved : List ℕ → Compiled → Compiled → Type 0
-IsMoved places old new = (ws vs : List ℕ) → IsBefore places ws vs → met new vs ≡ met old ws
+IsMoved places old new = (ws vs : List ℕ) → IsBefore places ws vs → has_needed new vs ≡ has_needed old ws
 
 -- the nodes of the one list stand at these places of the other, as far as they are in it
 pub record AreMoved (us vs places : List ℕ) : Type 0 where

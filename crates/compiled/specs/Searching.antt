@@ -5,12 +5,12 @@ use Rattle.protocol.specs.Sets.{Names, among, AreWithin}
 use Rattle.protocol.specs.Satisfaction.{sat}
 use Rattle.protocol.specs.Quorums.{Quorum, is_satisfied}
 use Rattle.compiled.specs.Places.{bit_of, Numbered}
-use Rattle.compiled.specs.Met.{met, picked}
+use Rattle.compiled.specs.Met.{has_needed, nodes_at}
 
 -- there are compiled slices, and the places meet them
 abbrev pub met_at : Option Numbered → List ℕ → Bool
 met_at None ws = false
-met_at (Some f) ws = met f.set ws
+met_at (Some f) ws = has_needed f.set ws
 
 -- the place is in the set, and the set meets its slices
 abbrev pub stays_at : List (Option Numbered) → List ℕ → ℕ → Bool
@@ -27,7 +27,7 @@ AreAgreed fs =
 pub record AreCompiled (us : List ℕ) (slices_at : ℕ → Option Slices) (cs : List (Option Numbered)) : Type 0 where
   pub as_many : length cs ≡ length us
   pub each : (i : ℕ) → i < length us → (ws : List ℕ)
-      → met_at (get_or cs i None) ws ≡ is_satisfied sat (slices_at (get_or us i 0)) (among (picked us ws))
+      → met_at (get_or cs i None) ws ≡ is_satisfied sat (slices_at (get_or us i 0)) (among (nodes_at us ws))
   pub agreed : AreAgreed cs
 
 -- no quorum among the supporters has lost a node

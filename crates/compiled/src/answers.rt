@@ -2,7 +2,7 @@
 
 ghost use Rattle.std.specs.Prelude.{◌≡◌, None, get_or};
 ghost use Rattle.compiled.specs.Answering.{AreNoted, IsAnswer, IsAnswerAt, IsNothing};
-ghost use Rattle.compiled.specs.Met.{met};
+ghost use Rattle.compiled.specs.Met.{has_needed};
 
 use crate::form::Form;
 use crate::places::{add_place, has_place};

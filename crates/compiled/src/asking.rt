@@ -2,7 +2,7 @@
 
 ghost use Rattle.std.specs.Prelude.{◌≡◌, ℕ, List, Bool, ◌&&◌, nat_le, count_ones};
 ghost use Rattle.compiled.specs.Asking.{ArePassing, IsAsked};
-ghost use Rattle.compiled.specs.Met.{met, one_where};
+ghost use Rattle.compiled.specs.Met.{has_needed, one_where};
 ghost use Rattle.compiled.specs.Places.{count_in, ones_at, places_in};
 
 use crate::mask::Mask;
@@ -52,7 +52,7 @@ impl Tally {
 /// meets the compiled set. Places are asked in their order, and no more of them than it takes to know the answer.
 /// It takes no memory.
 pub fn is_met_by<P: Passing>(set: &CompiledSet, who: &P) -> bool
-    ensures { (ws : List ℕ) → ArePassing (P.passing who.now) ws → result ≡ met set.now ws }
+    ensures { (ws : List ℕ) → ArePassing (P.passing who.now) ws → result ≡ has_needed set.now ws }
 {
     let start = Tally {
         missing: set.needed_count(),

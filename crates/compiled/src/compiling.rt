@@ -3,7 +3,7 @@
 ghost use Rattle.std.specs.Prelude.{◌≡◌, ◌+◌, ◌<◌, ◌≤◌, ◌^◌, ℕ, List, IfOk, IfSome, OnOk, get_or, is_some, length};
 ghost use Rattle.types.specs.Trees.{names_in};
 ghost use Rattle.protocol.specs.Sets.{IsAscending, among, within};
-ghost use Rattle.compiled.specs.Met.{IsCompiled, one_where, picked, needed_of};
+ghost use Rattle.compiled.specs.Met.{IsCompiled, one_where, nodes_at, needed_of};
 ghost use Rattle.compiled.specs.Places.{count_in, places_in};
 
 use crate::mask::{Mask, add_place};
@@ -53,10 +53,10 @@ fn needed_of(threshold: u8, members: usize, blocking: bool) -> usize
 /// Adds the place of a node, where it has one.
 fn add_node(masks: &mut Vec<Mask>, nodes: &[NodeId], node: &NodeId) -> Result<(), AllocError>
     requires { IsAscending nodes.now }
-    ensures places { OnOk result ((ws : List ℕ) → places_in masks.new.items ws ≡ places_in masks.old.items ws + one_where (among (picked nodes.now ws) node.now)) }
+    ensures places { OnOk result ((ws : List ℕ) → places_in masks.new.items ws ≡ places_in masks.old.items ws + one_where (among (nodes_at nodes.now ws) node.now)) }
     ensures count { OnOk result (count_in masks.new.items ≤ count_in masks.old.items + 1) }
 {
-    match place_of(nodes, node) {
+    match node_place(nodes, node) {
         None => Ok(()),
         Some(place) => add_place(masks, place),
     }
@@ -71,7 +71,7 @@ pub fn has_places(set: &SliceSet, nodes: &[NodeId]) -> bool
     for member in members {
         match member {
             Member::Node(node) => {
-                if place_of(nodes, node).is_none() {
+                if node_place(nodes, node).is_none() {
                     return false;
                 }
             }
@@ -86,7 +86,7 @@ pub fn has_places(set: &SliceSet, nodes: &[NodeId]) -> bool
 }
 
 /// The place of a node, if it has one.
-pub fn place_of(nodes: &[NodeId], node: &NodeId) -> Option<usize>
+pub fn node_place(nodes: &[NodeId], node: &NodeId) -> Option<usize>
     requires { IsAscending nodes.now }
     ensures exactly { is_some result ≡ among nodes.now node.now }
     ensures place { IfSome result (λ i. (i < length nodes.now) × (get_or nodes.now i 0 ≡ node.now)) }
@@ -106,5 +106,5 @@ pub fn place_near(nodes: &[NodeId], first: usize, node: &NodeId) -> Option<usize
             return Some(first);
         }
     }
-    place_of(nodes, node)
+    node_place(nodes, node)
 }

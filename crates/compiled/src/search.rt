@@ -7,7 +7,7 @@ ghost use Rattle.protocol.specs.Satisfaction.{sat};
 ghost use Rattle.protocol.specs.Quorums.{HasQuorum};
 ghost use Rattle.compiled.specs.Places.{bit_of};
 ghost use Rattle.compiled.specs.Answering.{IsAnswerAt};
-ghost use Rattle.compiled.specs.Met.{picked};
+ghost use Rattle.compiled.specs.Met.{nodes_at};
 ghost use Rattle.compiled.specs.Searching.{AllMet, AreAgreed, AreCompiled, IsLeft, live, met_at, stays_at};
 
 use crate::answers::Answers;
@@ -21,7 +21,7 @@ use crate::set::is_met;
 /// compiled slices are those of the nodes, place by place. It takes no memory.
 pub fn in_quorum(left: &mut [u64], place: usize, compiled: &[Option<Form>]) -> bool
     requires { place < length compiled.now }
-    ensures { (us : List ℕ) (slices_at : ℕ → Option Slices) → IsAscending us → AreCompiled us slices_at compiled.now → IsTrue result ↔ HasQuorum sat slices_at (among (picked us left.old)) (get_or us place 0) }
+    ensures { (us : List ℕ) (slices_at : ℕ → Option Slices) → IsAscending us → AreCompiled us slices_at compiled.now → IsTrue result ↔ HasQuorum sat slices_at (among (nodes_at us left.old)) (get_or us place 0) }
 {
     loop {
         if !stays(left, place, compiled) {
@@ -35,7 +35,7 @@ pub fn in_quorum(left: &mut [u64], place: usize, compiled: &[Option<Form>]) -> b
 
 /// Takes away each place whose slices those that are left do not meet; whether there was one.
 fn sweep(left: &mut [u64], compiled: &[Option<Form>]) -> bool
-    ensures kept { (us : List ℕ) (slices_at : ℕ → Option Slices) (supporters : Names) → IsAscending us → AreCompiled us slices_at compiled.now → IsLeft slices_at supporters (among (picked us left.old)) → IsLeft slices_at supporters (among (picked us left.new)) }
+    ensures kept { (us : List ℕ) (slices_at : ℕ → Option Slices) (supporters : Names) → IsAscending us → AreCompiled us slices_at compiled.now → IsLeft slices_at supporters (among (nodes_at us left.old)) → IsLeft slices_at supporters (among (nodes_at us left.new)) }
     ensures settled { IsFalse result → AreAgreed compiled.now → AllMet compiled.now left.new }
     ensures same { IsFalse result → left.new ≡ left.old }
     ensures less { IsTrue result → live (length compiled.now) left.new < live (length compiled.now) left.old }

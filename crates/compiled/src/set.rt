@@ -1,7 +1,7 @@
 //! A compiled set.
 
 ghost use Rattle.std.specs.Prelude.{◌≡◌, ◌+◌, ◌≤◌, IfOk, length};
-ghost use Rattle.compiled.specs.Met.{met};
+ghost use Rattle.compiled.specs.Met.{has_needed};
 ghost use Rattle.compiled.specs.Places.{count_in, count_sets, sets_of};
 
 use crate::mask::{Mask, missing_after};
@@ -107,7 +107,7 @@ fn copy_of_set(alloc: Global, set: &CompiledSet) -> Result<CompiledSet, AllocErr
 
 /// Whether as many places and inner sets as are needed are in the set of nodes. It takes no memory.
 pub fn is_met(set: &CompiledSet, places: &[u64]) -> bool
-    ensures { result ≡ met set.now places.now }
+    ensures { result ≡ has_needed set.now places.now }
 {
     let mut missing = missing_after(set.needed_count(), set.masks(), places);
     let sets = set.inner();

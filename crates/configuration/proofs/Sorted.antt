@@ -24,8 +24,8 @@ sorted-keys n (x ∷ xs) up = IsNonDecreasingBy-from_default (λ y. y) (map n (x
     rw (get_or-map n (x ∷ xs) i x, get_or-map n (x ∷ xs) j x) (up i j x l k))
 
 -- what a sort of nodes by name gives
-pub rises-once-sorted-by-name : (nodes hosts : List HostedNode) → IsPermutation nodes hosts → IsSortedByKey (λ h. h.name) ord.cmp hosts → rises (names_of hosts) ≡ all_differ (names_of nodes)
-rises-once-sorted-by-name nodes hosts moved sorted =
-    let by_number = subst (λ f. IsSortedByKey (λ h. h.name) f hosts) (fun_ext (λ x. fun_ext (λ y. name_cmp_is x y))) sorted in
-    let up = sorted-keys (λ h. h.name) hosts (IsNonDecreasingBy-from_sort (λ h. h.name) hosts by_number) in
-    rises-where-differ (names_of nodes) (names_of hosts) (IsPermutation-map (λ h. h.name) nodes hosts moved) up
+pub rises-once-sorted-by-name : (nodes sorted_nodes : List HostedNode) → IsPermutation nodes sorted_nodes → IsSortedByKey (λ h. h.name) ord.cmp sorted_nodes → rises (names_of sorted_nodes) ≡ all_differ (names_of nodes)
+rises-once-sorted-by-name nodes sorted_nodes moved sorted =
+    let by_number = subst (λ f. IsSortedByKey (λ h. h.name) f sorted_nodes) (fun_ext (λ x. fun_ext (λ y. name_cmp_is x y))) sorted in
+    let up = sorted-keys (λ h. h.name) sorted_nodes (IsNonDecreasingBy-from_sort (λ h. h.name) sorted_nodes by_number) in
+    rises-where-differ (names_of nodes) (names_of sorted_nodes) (IsPermutation-map (λ h. h.name) nodes sorted_nodes moved) up

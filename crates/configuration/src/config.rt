@@ -4,7 +4,7 @@ ghost use Rattle.std.specs.Prelude.{◌≡◌, ◌≤◌, ◌++◌, IfErr, IfOk,
 ghost use Rattle.std.specs.List.Sorted.{IsPermutation};
 ghost use Rattle.types.specs.Trees.{all_differ};
 ghost use Rattle.protocol.specs.Sets.{IsAscending};
-ghost use Rattle.configuration.specs.Configs.{AreHosts, index_in, index_of_name, names_of, rises};
+ghost use Rattle.configuration.specs.Configs.{AreHostedNodes, index_in, index_of_name, names_of, rises};
 ghost use Rattle.configuration.specs.Faults.{fault_of, first_fault, node_tests, roster_tests};
 ghost use Rattle.configuration.specs.Rosters.{HasRosterOf};
 
@@ -17,7 +17,7 @@ use std::marker::Model;
 use types::NodeId;
 
 /// The most nodes that one network hosts (this host's profile).
-pub const MAX_HOSTS: usize = 256;
+pub const MAX_NODES: usize = 256;
 
 /// The number of a network, its hosted nodes, 1 to 256 and ascending by name, its budgets, and its roster
 /// where it has one (this host's profile).
@@ -29,7 +29,7 @@ pub const MAX_HOSTS: usize = 256;
 #[derive(Drop)]
 pub struct NetConfig {
     number: u32,
-    hosts: Vec<HostedNode>,
+    nodes: Vec<HostedNode>,
     names: Vec<NodeId>,
     budgets: Budgets,
     roster: Option<Roster>,
@@ -45,9 +45,9 @@ impl Model for NetConfig {
 
     ghost coded = { Prim.hlevel (codes, members_code) };
 
-    ghost view = { λ c. record { number = c.number; hosts = c.hosts.items; budgets = c.budgets; roster = c.roster } };
+    ghost view = { λ c. record { number = c.number; nodes = c.nodes.items; budgets = c.budgets; roster = c.roster } };
 
-    ghost invariant = { λ c. AreNamed c.names.items c.hosts.items };
+    ghost invariant = { λ c. AreNamed c.names.items c.nodes.items };
 }
 
 impl NetConfig {
@@ -63,16 +63,16 @@ impl NetConfig {
         budgets: Budgets,
     ) -> Result<NetConfig, ConfigError>
         ensures parts { IfOk result (λ c. (c.number ≡ number) × (c.budgets ≡ budgets) × (c.roster ≡ None)) }
-        ensures hosts { IfOk result (λ c. IsPermutation nodes.items c.hosts) }
-        ensures ascending { IfOk result (λ c. IsAscending (names_of c.hosts)) }
+        ensures nodes { IfOk result (λ c. IsPermutation nodes.items c.nodes) }
+        ensures ascending { IfOk result (λ c. IsAscending (names_of c.nodes)) }
         ensures faultless { IfOk result (λ _. first_fault (node_tests nodes.items) ≡ None) }
         ensures fault { IfErr result (λ e. first_fault (node_tests nodes.items) ≡ fault_of e) }
     {
-        let hosts = check_nodes(nodes)?;
-        let names = list_names(alloc, &hosts)?;
+        let nodes = check_nodes(nodes)?;
+        let names = list_names(alloc, &nodes)?;
         Ok(NetConfig {
             number,
-            hosts,
+            nodes,
             names,
             budgets,
             roster: None,
@@ -93,18 +93,18 @@ impl NetConfig {
         roster: Reservation,
     ) -> Result<NetConfig, ConfigError>
         ensures parts { IfOk result (λ c. (c.number ≡ number) × (c.budgets ≡ budgets)) }
-        ensures hosts { IfOk result (λ c. IsPermutation nodes.items c.hosts) }
-        ensures ascending { IfOk result (λ c. IsAscending (names_of c.hosts)) }
+        ensures nodes { IfOk result (λ c. IsPermutation nodes.items c.nodes) }
+        ensures ascending { IfOk result (λ c. IsAscending (names_of c.nodes)) }
         ensures roster { IfOk result (λ c. HasRosterOf roster.names.items roster.shares c.roster) }
         ensures faultless { IfOk result (λ _. first_fault (node_tests nodes.items ++ roster_tests roster.names.items roster.shares) ≡ None) }
         ensures fault { IfErr result (λ e. first_fault (node_tests nodes.items ++ roster_tests roster.names.items roster.shares) ≡ fault_of e) }
     {
-        let nodes = check_nodes(nodes)?;
+        let ordered = check_nodes(nodes)?;
         let roster = Roster::new(roster.names, roster.shares)?;
-        let names = list_names(alloc, &nodes)?;
+        let names = list_names(alloc, &ordered)?;
         Ok(NetConfig {
             number,
-            hosts: nodes,
+            nodes: ordered,
             names,
             budgets,
             roster: Some(roster),
@@ -119,13 +119,13 @@ impl NetConfig {
     }
 
     /// The hosted nodes, 1 to 256, ascending by name.
-    pub fn hosts(&self) -> &[HostedNode]
-        ensures value { result.now ≡ self.now.hosts }
+    pub fn nodes(&self) -> &[HostedNode]
+        ensures value { result.now ≡ self.now.nodes }
         ensures ascending { IsAscending (names_of result.now) }
-        ensures some_hosts { 1 ≤ length result.now }
-        ensures few_hosts { length result.now ≤ 256 }
+        ensures some_nodes { 1 ≤ length result.now }
+        ensures few_nodes { length result.now ≤ 256 }
     {
-        &self.hosts
+        &self.nodes
     }
 
     /// The budgets.
@@ -145,7 +145,7 @@ impl NetConfig {
     /// The place of a hosted node among them, from 0 on, by a binary search where they are many; `None` where it is
     /// not hosted.
     pub fn place(&self, name: &NodeId) -> Option<usize>
-        ensures { result ≡ index_of_name self.now.hosts name.now }
+        ensures { result ≡ index_of_name self.now.nodes name.now }
     {
         place_in(&self.names, name)
     }
@@ -154,12 +154,12 @@ impl NetConfig {
     pub fn try_copy(&self, alloc: Global) -> Result<NetConfig, AllocError>
         ensures { IfOk result (λ c. c ≡ self.now) }
     {
-        let hosts = copies(alloc, &self.hosts)?;
+        let nodes = copies(alloc, &self.nodes)?;
         let names = Vec::from_slice(alloc, &self.names)?;
         let roster = copy_of_roster(alloc, &self.roster)?;
         Ok(NetConfig {
             number: self.number,
-            hosts,
+            nodes,
             names,
             budgets: self.budgets,
             roster,
@@ -169,53 +169,53 @@ impl NetConfig {
 
 /// The nodes that a network hosts, in order. The first fault that applies is answered; it takes no memory.
 fn check_nodes(nodes: Vec<HostedNode>) -> Result<Vec<HostedNode>, ConfigError>
-    ensures hosts { IfOk result (λ v. IsPermutation nodes.items v.items) }
-    ensures rules { IfOk result (λ v. AreHosts v.items) }
+    ensures nodes { IfOk result (λ v. IsPermutation nodes.items v.items) }
+    ensures rules { IfOk result (λ v. AreHostedNodes v.items) }
     ensures faultless { IfOk result (λ _. first_fault (node_tests nodes.items) ≡ None) }
     ensures fault { IfErr result (λ e. first_fault (node_tests nodes.items) ≡ Some e) }
 {
-    let Some(hosts) = in_order(nodes) else {
+    let Some(nodes) = in_order(nodes) else {
         return Err(ConfigError::NodeTwice);
     };
-    if hosts.is_empty() {
+    if nodes.is_empty() {
         return Err(ConfigError::NoNodes);
     }
-    if hosts.len() > MAX_HOSTS {
+    if nodes.len() > MAX_NODES {
         return Err(ConfigError::TooManyNodes);
     }
-    Ok(hosts)
+    Ok(nodes)
 }
 
 /// The nodes ascending by name; `None` where a name stands twice.
 fn in_order(nodes: Vec<HostedNode>) -> Option<Vec<HostedNode>>
-    ensures hosts { IfSome result (λ v. IsPermutation nodes.items v.items) }
+    ensures nodes { IfSome result (λ v. IsPermutation nodes.items v.items) }
     ensures ascending { IfSome result (λ v. IsAscending (names_of v.items)) }
     ensures exactly { is_some result ≡ all_differ (names_of nodes.items) }
 {
-    let mut hosts = nodes;
+    let mut sorted = nodes;
     // In place, so that no fault hides behind want of memory; names that differ have one order alone.
-    hosts.sort_unstable_by_key(
-        |host| -> NodeId
-            ensures { result ≡ host.now.name }
-        { *host.name() },
+    sorted.sort_unstable_by_key(
+        |hosted| -> NodeId
+            ensures { result ≡ hosted.now.name }
+        { *hosted.name() },
     );
-    if is_ascending(&hosts) {
-        Some(hosts)
+    if is_ascending(&sorted) {
+        Some(sorted)
     } else {
         None
     }
 }
 
 /// Whether the name of each node is below that of the next one.
-fn is_ascending(hosts: &[HostedNode]) -> bool
-    ensures { result ≡ rises (names_of hosts.now) }
+fn is_ascending(nodes: &[HostedNode]) -> bool
+    ensures { result ≡ rises (names_of nodes.now) }
 {
-    let Some((first, rest)) = hosts.split_first() else {
+    let Some((first, rest)) = nodes.split_first() else {
         return true;
     };
     let mut last = *first.name();
-    for host in rest {
-        let name = *host.name();
+    for hosted in rest {
+        let name = *hosted.name();
         if !(last < name) {
             return false;
         }
@@ -224,25 +224,25 @@ fn is_ascending(hosts: &[HostedNode]) -> bool
     true
 }
 
-/// The names of hosts. An error says that memory is short.
-fn list_names(alloc: Global, hosts: &[HostedNode]) -> Result<Vec<NodeId>, AllocError>
-    ensures { IfOk result (λ v. v.items ≡ names_of hosts.now) }
+/// The names of hosted nodes. An error says that memory is short.
+fn list_names(alloc: Global, nodes: &[HostedNode]) -> Result<Vec<NodeId>, AllocError>
+    ensures { IfOk result (λ v. v.items ≡ names_of nodes.now) }
 {
-    let mut names = Vec::with_capacity(alloc, hosts.len())?;
-    for host in hosts {
-        names.push(*host.name())?;
+    let mut names = Vec::with_capacity(alloc, nodes.len())?;
+    for hosted in nodes {
+        names.push(*hosted.name())?;
     }
     Ok(names)
 }
 
-/// Copies of hosts. An error says that memory is short.
-fn copies(alloc: Global, hosts: &[HostedNode]) -> Result<Vec<HostedNode>, AllocError>
-    ensures { IfOk result (λ v. v.items ≡ hosts.now) }
+/// Copies of hosted nodes. An error says that memory is short.
+fn copies(alloc: Global, nodes: &[HostedNode]) -> Result<Vec<HostedNode>, AllocError>
+    ensures { IfOk result (λ v. v.items ≡ nodes.now) }
 {
-    let mut copies = Vec::with_capacity(alloc, hosts.len())?;
-    for host in hosts {
-        let slices = host.slices().try_copy()?;
-        copies.push(HostedNode::new(*host.name(), slices))?;
+    let mut copies = Vec::with_capacity(alloc, nodes.len())?;
+    for hosted in nodes {
+        let slices = hosted.slices().try_copy()?;
+        copies.push(HostedNode::new(*hosted.name(), slices))?;
     }
     Ok(copies)
 }

@@ -13,7 +13,7 @@ mod roster;
 mod shares;
 
 pub use budgets::{Budgets, MAX_BUDGET, MAX_OPEN_SLOTS};
-pub use config::{MAX_HOSTS, NetConfig};
+pub use config::{MAX_NODES, NetConfig};
 pub use error::ConfigError;
 pub use hosted_node::HostedNode;
 pub use roster::{MAX_ROSTER, Reservation, Roster};

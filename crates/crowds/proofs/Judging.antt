@@ -5,14 +5,14 @@ use Rattle.types.specs.declared.event.Event.{Event}
 use Rattle.protocol.specs.Sets.{Names, among, AreWithin}
 use Rattle.protocol.specs.Networks.{HostedNode, slices_of}
 use Rattle.protocol.specs.Rosters.{Roster}
-use Rattle.protocol.specs.Hosts.{Config, History, entries, hosts_of}
+use Rattle.protocol.specs.Hosts.{Config, History, entries, nodes_of}
 use Rattle.protocol.specs.Isolation.{closure, SameCast}
 use Rattle.protocol.specs.Submissions.{answers, concerning_steps, config_of, names_on, roster_names, SameReserves}
 use Rattle.differences.specs.Hosting.{AreAlike}
 use Rattle.differences.specs.Least.{AreAll}
 use Rattle.network.specs.Decoding.{reading}
 use Rattle.crowds.specs.Listing.{IsOn}
-use Rattle.crowds.specs.Submitted.{concerns_members, marked}
+use Rattle.crowds.specs.Submitted.{concerns_members, marked_steps}
 use Rattle.crowds.proofs.MarkedSteps.{marked_asked}
 use Rattle.crowds.proofs.RunsOf.{concerned_asked}
 
@@ -21,26 +21,26 @@ module _ (g i : ℕ) (R : Names) (members : List ℕ) (exactly : (u : ℕ) → a
   -- what was submitted, the marks beside it, and both as they are read
   pub record AreInputs (calls : List (ℕ × Event)) (marks : List Bool) : Type 0 where
     pub marks_are : marks ≡ map (concerns_members R i g) h.calls
-    pub steps_are : marked marks calls ≡ concerning_steps R i (answers reading h g)
+    pub steps_are : marked_steps marks calls ≡ concerning_steps R i (answers reading h g)
 
   pub are_inputs : (calls again : List (ℕ × Event)) (marks made : List Bool) → again ≡ h.calls → made ≡ map (concerns_members (among members) i g) again → calls ≡ h.calls → marks ≡ made → AreInputs calls marks
   are_inputs calls again marks made e f p q =
       let ms : marks ≡ map (concerns_members R i g) h.calls = q ∙ f ∙ ap (map (concerns_members (among members) i g)) e ∙ ap (λ (S : Names). map (concerns_members S i g) h.calls) (fun_ext exactly) in
-      record { marks_are = ms; steps_are = ap₂ marked ms p ∙ marked_asked R i g h.calls ∙ sym (concerned_asked h c g is R i) }
+      record { marks_are = ms; steps_are = ap₂ marked_steps ms p ∙ marked_asked R i g h.calls ∙ sym (concerned_asked h c g is R i) }
 
 -- ---- the members are hosted alike, the same is reserved, and for all of them
 module _ (one other : History) (g i v : ℕ) (members : List ℕ) where
   abbrev inner : Names
-  inner = closure (hosts_of one.configs g) i v (entries reading one g)
+  inner = closure (nodes_of one.configs g) i v (entries reading one g)
 
   pub record AreReserved : Type 0 where
-    pub cast : SameCast inner v (hosts_of one.configs g) (hosts_of other.configs g)
+    pub cast : SameCast inner v (nodes_of one.configs g) (nodes_of other.configs g)
     pub reserves : SameReserves (config_of one.configs g) (config_of other.configs g)
     pub inside : AreWithin inner (among (roster_names (config_of one.configs g)))
 
-  pub are_reserved : ((u : ℕ) → among members u ≡ inner u) → IsTrue (is_some (slices_of (hosts_of one.configs g) v)) → (hosts others : List HostedNode) → hosts ≡ hosts_of one.configs g → others ≡ hosts_of other.configs g → AreAlike hosts others members
+  pub are_reserved : ((u : ℕ) → among members u ≡ inner u) → IsTrue (is_some (slices_of (nodes_of one.configs g) v)) → (nodes others : List HostedNode) → nodes ≡ nodes_of one.configs g → others ≡ nodes_of other.configs g → AreAlike nodes others members
       → (c d : Config) → Some c ≡ config_of one.configs g → Some d ≡ config_of other.configs g → SameReserves (Some c) (Some d) → (r : Roster) → Some r ≡ c.roster → AreAll (IsOn r.names) members → AreReserved
-  are_reserved exactly hosted hosts others p q alike c d first second same r roster on = record {
+  are_reserved exactly hosted nodes others p q alike c d first second same r roster on = record {
     cast = record { hosted = hosted; same = λ u m. ap (λ (hs : List HostedNode). slices_of hs u) (sym p) ∙ (alike u (exactly u ∙ m) ∙ ap (λ (hs : List HostedNode). slices_of hs u) q) };
     reserves = subst (λ (z : Option Config × Option Config). SameReserves z.0 z.1) (λ j. (first j, second j)) same;
     inside = λ u m. subst (λ (xs : List ℕ). among xs u ≡ true) (ap names_on roster ∙ ap roster_names first) (on u (exactly u ∙ m));

@@ -12,7 +12,7 @@ use Rattle.protocol.specs.Verdicts.{IsFirstDifference}
 use Rattle.network.specs.Decoding.{step_of}
 use Rattle.differences.proofs.Places.{rest_at, there_is}
 use Rattle.differences.proofs.SideBySide.{IsAgreed, agreed_at_first, agreed_more, agreed_whole, parts_at_end, parts_at_other_end, parts_unlike}
-use Rattle.crowds.specs.Submitted.{AreReadable, AreUnmarked, IsNextMarked, IsReadable, concerning_steps_in, concerns_members, marked}
+use Rattle.crowds.specs.Submitted.{AreReadable, AreUnmarked, IsNextMarked, IsReadable, concerning_steps_in, concerns_members, marked_steps}
 
 abbrev Calls : Type 0
 Calls = List (ℕ × Event)
@@ -24,13 +24,13 @@ gap (suc a) (suc b) l = let r = gap a b (omega (arith, l)) in (r.0, let e = r.1 
 
 -- the steps of what is marked from a number on
 abbrev pub from_on : List Bool → Calls → ℕ → List Step
-from_on marks calls n = marked (drop n marks) (drop n calls)
+from_on marks calls n = marked_steps (drop n marks) (drop n calls)
 
 module _ (marks : List Bool) (calls : Calls) (even : length marks ≡ length calls) where
   at_mark : (n : ℕ) (b : Bool) (c : ℕ × Event) → slice_get marks n ≡ Some b → slice_get calls n ≡ Some c
       → from_on marks calls n ≡ (if b then step_of c.1 ∷ from_on marks calls (n + 1) else from_on marks calls (n + 1))
-  unfolding marked
-  at_mark n b c p q = ap₂ marked (rest_at marks n b p) (rest_at calls n c q)
+  unfolding marked_steps
+  at_mark n b c p q = ap₂ marked_steps (rest_at marks n b p) (rest_at calls n c q)
 
   skips : (d from k : ℕ) → from + d ≡ k → k ≤ length marks → ((j : ℕ) → from ≤ j → j < k → slice_get marks j ≡ Some false) → from_on marks calls from ≡ from_on marks calls k
   skips zero from k e l h = let same : from ≡ k = omega (arith, e) in ap (from_on marks calls) same
@@ -52,10 +52,10 @@ module _ (marks : List Bool) (calls : Calls) (even : length marks ≡ length cal
   readable_next readable from k d h = readable k (get_or calls k d) h.is_marked (read_next from k d h)
 
   pub none_is : (from : ℕ) → from ≤ length marks → AreUnmarked marks from → from_on marks calls from ≡ []
-  unfolding marked
+  unfolding marked_steps
   none_is from l h =
       let d = gap from (length marks) l in
-      skips d.0 from (length marks) d.1 (omega arith) h ∙ ap (λ ys. marked ys (drop (length marks) calls)) (drop_all (length marks) marks (omega arith))
+      skips d.0 from (length marks) d.1 (omega arith) h ∙ ap (λ ys. marked_steps ys (drop (length marks) calls)) (drop_all (length marks) marks (omega arith))
 
 -- ---- two submissions side by side
 module _ (ms : List Bool) (one : Calls) (ns : List Bool) (other : Calls) where
@@ -73,35 +73,35 @@ module _ (ms : List Bool) (one : Calls) (ns : List Bool) (other : Calls) where
           agreed_more (from_on ms one) (from_on ns other) (length ms) (length ns) here there place way k m (step_of (get_or one k d).1) (step_of (get_or other m e).1) a.after a.inside b.inside
           (next_is ms one evens here k (get_or one k d) a (read_next ms one evens here k d a)) (next_is ns other odds there m (get_or other m e) b (read_next ns other odds there m e b)) same
 
-      pub parted_at : step_of (get_or one k d).1 ≢ step_of (get_or other m e).1 → IsFirstDifference (marked ms one) (marked ns other) place
+      pub parted_at : step_of (get_or one k d).1 ≢ step_of (get_or other m e).1 → IsFirstDifference (marked_steps ms one) (marked_steps ns other) place
       parted_at unlike =
           parts_unlike (from_on ms one) (from_on ns other) (length ms) (length ns) here there place way (step_of (get_or one k d).1) (step_of (get_or other m e).1) (from_on ms one (k + 1)) (from_on ns other (m + 1))
           (next_is ms one evens here k (get_or one k d) a (read_next ms one evens here k d a)) (next_is ns other odds there m (get_or other m e) b (read_next ns other odds there m e b)) unlike
 
-    pub ended_there : (k : ℕ) → IsNextMarked ms here k → AreUnmarked ns there → IsFirstDifference (marked ms one) (marked ns other) place
+    pub ended_there : (k : ℕ) → IsNextMarked ms here k → AreUnmarked ns there → IsFirstDifference (marked_steps ms one) (marked_steps ns other) place
     ended_there k a none =
         let l = a.inside in
         let x = there_is one k (omega (arith, l, evens)) in
         parts_at_end (from_on ms one) (from_on ns other) (length ms) (length ns) here there place way (step_of x.0.1) (from_on ms one (k + 1)) (next_is ms one evens here k x.0 a x.1) (none_is ns other odds there way.within none)
 
-    pub ended_here : (m : ℕ) → IsNextMarked ns there m → AreUnmarked ms here → IsFirstDifference (marked ms one) (marked ns other) place
+    pub ended_here : (m : ℕ) → IsNextMarked ns there m → AreUnmarked ms here → IsFirstDifference (marked_steps ms one) (marked_steps ns other) place
     ended_here m b none =
         let l = b.inside in
         let y = there_is other m (omega (arith, l, odds)) in
         parts_at_other_end (from_on ms one) (from_on ns other) (length ms) (length ns) here there place way (step_of y.0.1) (from_on ns other (m + 1)) (next_is ns other odds there m y.0 b y.1) (none_is ms one evens here way.inside none)
 
-    pub ended_both : AreUnmarked ms here → AreUnmarked ns there → marked ms one ≡ marked ns other
+    pub ended_both : AreUnmarked ms here → AreUnmarked ns there → marked_steps ms one ≡ marked_steps ns other
     ended_both a b = agreed_whole (from_on ms one) (from_on ns other) (length ms) (length ns) here there place way (none_is ms one evens here way.inside a) (none_is ns other odds there way.within b)
 
 -- ---- marks of what concerns a set
 module _ (R : Names) (i g : ℕ) where
-  pub marked_asked : (calls : Calls) → marked (map (concerns_members R i g) calls) calls ≡ concerning_steps_in R i g calls
-  unfolding marked concerning_steps_in
+  pub marked_asked : (calls : Calls) → marked_steps (map (concerns_members R i g) calls) calls ≡ concerning_steps_in R i g calls
+  unfolding marked_steps concerning_steps_in
   marked_asked [] = refl
   marked_asked (c ∷ cs) = go (concerns_members R i g c) (marked_asked cs)
     where
-      go : (b : Bool) → marked (map (concerns_members R i g) cs) cs ≡ concerning_steps_in R i g cs
-          → (if b then step_of c.1 ∷ marked (map (concerns_members R i g) cs) cs else marked (map (concerns_members R i g) cs) cs) ≡ map (λ (x : ℕ × Event). step_of x.1) (if b then c ∷ filter (concerns_members R i g) cs else filter (concerns_members R i g) cs)
+      go : (b : Bool) → marked_steps (map (concerns_members R i g) cs) cs ≡ concerning_steps_in R i g cs
+          → (if b then step_of c.1 ∷ marked_steps (map (concerns_members R i g) cs) cs else marked_steps (map (concerns_members R i g) cs) cs) ≡ map (λ (x : ℕ × Event). step_of x.1) (if b then c ∷ filter (concerns_members R i g) cs else filter (concerns_members R i g) cs)
       go true ih = ap (λ (xs : List Step). step_of c.1 ∷ xs) ih
       go false ih = ih
 

@@ -9,13 +9,13 @@ use Rattle.types.specs.declared.event.Refusal.TheVariants.{NoMemory}
 use Rattle.protocol.specs.Sets.{Names}
 use Rattle.protocol.specs.Networks.{Net, Reply, Step, effect, first_that, net_step, state_and_reply, slices_of, tests}
 use Rattle.protocol.specs.Networks.Reply.{Done, Refused}
-use Rattle.protocol.specs.Hosts.{Config, Entry, History, applied, hosts_of, journal_with, entries, journal, net_at, nets, new_net, steps_of}
+use Rattle.protocol.specs.Hosts.{Config, Entry, History, applied_entries, nodes_of, journal_with, entries, journal, net_at, nets, new_net, steps_of}
 use Rattle.protocol.specs.Runs.{net_after, refusal_of, state_of}
 use Rattle.protocol.specs.Submissions.{Answer, answers, answers_of, concerning_steps, concerning, concerns, config_of, net_run, replied_to}
 use Rattle.protocol.proofs.Runs.Hosts.{answers-run, applied-journal, steps_to}
 use Rattle.differences.proofs.Places.{front_at}
 use Rattle.network.specs.Decoding.{reading, step_of}
-use Rattle.hoststep.specs.Logs.{IsEntered, IsRefused, Log, extended}
+use Rattle.hoststep.specs.Logs.{IsEntered, IsRefused, Log, with_entry}
 use Rattle.hoststep.proofs.Histories.{journal-snoc, steps-snoc}
 use Rattle.crowds.specs.Replies.{IsAnswer}
 use Rattle.crowds.specs.Submitted.{concerning_steps_in, concerns_members}
@@ -46,7 +46,7 @@ run-snoc (x ∷ xs) net e = go (first_that (tests net x)) refl (λ n. run-snoc x
         (ih next ∙ ap {B = List Answer} (λ (p : Option Refusal). net_run next xs ++ record { step = e; reply = (net_step (net_after (state_and_reply net x p).0 (journal next xs)) e).1 } ∷ []) (sym q))
 
 -- ---- what a journal answers
-pub is_done : (old new : Log) (e : Step) (os : List _) → IsEntered old e os → new ≡ extended old e os → IsAnswer old e (Done os) new
+pub is_done : (old new : Log) (e : Step) (os : List _) → IsEntered old e os → new ≡ with_entry old e os → IsAnswer old e (Done os) new
 unfolding net_step
 is_done old new e os h n = record {
   config = ap (λ (l : Log). l.config) n;
@@ -155,7 +155,7 @@ module _ (h : History) (c : Config) (g : ℕ) (is : config_of h.configs g ≡ So
 
 -- ---- before all events, and after them
 pub log_at_first : (h : History) (c : Config) (g : ℕ) → log_so_far h c g 0 ≡ record { config = c; entries = [] }
-unfolding applied
+unfolding applied_entries
 log_at_first h c g = refl
 
 pub replied_at_first : (h : History) (g : ℕ) (R : Names) (i : ℕ) → replied_to R i (answers reading (so_far h 0) g) ≡ []
@@ -207,18 +207,18 @@ concerned_asked h c g is R i =
     ∙ concerning_steps-run R i (steps_to g (steps_of reading h.calls)) (new_net c) ∙ steps-asked R i g h.calls
 
 -- ---- a network that is not declared hosts nobody
-pub nobody : (cs : List Config) (g u : ℕ) → config_of cs g ≡ None → is_some (slices_of (hosts_of cs g) u) ≡ false
+pub nobody : (cs : List Config) (g u : ℕ) → config_of cs g ≡ None → is_some (slices_of (nodes_of cs g) u) ≡ false
 nobody [] g u h = refl
 nobody (k ∷ ks) g u h = go (k.number == g) refl h (nobody ks g u)
   where
-    go : (b : Bool) → (k.number == g) ≡ b → (if b then Some k else config_of ks g) ≡ None → (config_of ks g ≡ None → is_some (slices_of (hosts_of ks g) u) ≡ false) → is_some (slices_of (hosts_of (k ∷ ks) g) u) ≡ false
+    go : (b : Bool) → (k.number == g) ≡ b → (if b then Some k else config_of ks g) ≡ None → (config_of ks g ≡ None → is_some (slices_of (nodes_of ks g) u) ≡ false) → is_some (slices_of (nodes_of (k ∷ ks) g) u) ≡ false
     go true y e ih = absurd (cc)
     go false y e ih = rw y (ih e)
 
-pub hosts_are : (cs : List Config) (g : ℕ) (c : Config) → config_of cs g ≡ Some c → c.hosts ≡ hosts_of cs g
-hosts_are [] g c h = absurd (cc)
-hosts_are (k ∷ ks) g c h = go (k.number == g) refl h (hosts_are ks g c)
+pub nodes_are : (cs : List Config) (g : ℕ) (c : Config) → config_of cs g ≡ Some c → c.nodes ≡ nodes_of cs g
+nodes_are [] g c h = absurd (cc)
+nodes_are (k ∷ ks) g c h = go (k.number == g) refl h (nodes_are ks g c)
   where
-    go : (b : Bool) → (k.number == g) ≡ b → (if b then Some k else config_of ks g) ≡ Some c → (config_of ks g ≡ Some c → c.hosts ≡ hosts_of ks g) → c.hosts ≡ hosts_of (k ∷ ks) g
-    go true y e ih = let q : k ≡ c = cc in rw y (sym (ap (λ (x : Config). x.hosts) q))
+    go : (b : Bool) → (k.number == g) ≡ b → (if b then Some k else config_of ks g) ≡ Some c → (config_of ks g ≡ Some c → c.nodes ≡ nodes_of ks g) → c.nodes ≡ nodes_of (k ∷ ks) g
+    go true y e ih = let q : k ≡ c = cc in rw y (sym (ap (λ (x : Config). x.nodes) q))
     go false y e ih = rw y (ih e)

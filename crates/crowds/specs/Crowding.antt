@@ -2,7 +2,7 @@
 use Rattle.std.specs.Prelude.{◌≡◌, ℕ, is_some, IsTrue}
 use Rattle.protocol.specs.Sets.{among, AreWithin}
 use Rattle.protocol.specs.Networks.{slices_of}
-use Rattle.protocol.specs.Hosts.{History, hosts_of, entries}
+use Rattle.protocol.specs.Hosts.{History, nodes_of, entries}
 use Rattle.protocol.specs.Isolation.{closure, outs_of, SameCast}
 use Rattle.protocol.specs.Submissions.{answers, concerning_steps, replied_to, config_of, SameReserves, roster_names}
 use Rattle.protocol.specs.Crowds.{Crowd, IsCrowd}
@@ -28,10 +28,10 @@ IsCrowdHere one other g i v c = IsCrowd reading one other g i v (meant c)
 -- refusals included, and each hosted member gives out the same in both.
 abbrev pub AreNeverCrowdedOut : History → History → ℕ → ℕ → ℕ → Type 0
 AreNeverCrowdedOut one other g i v =
-    let R = closure (hosts_of one.configs g) i v (entries reading one g) in
-    SameCast R v (hosts_of one.configs g) (hosts_of other.configs g)
+    let R = closure (nodes_of one.configs g) i v (entries reading one g) in
+    SameCast R v (nodes_of one.configs g) (nodes_of other.configs g)
     → SameReserves (config_of one.configs g) (config_of other.configs g)
     → AreWithin R (among (roster_names (config_of one.configs g)))
     → concerning_steps R i (answers reading one g) ≡ concerning_steps R i (answers reading other g)
     → (replied_to R i (answers reading one g) ≡ replied_to R i (answers reading other g))
-    × ((u : ℕ) → IsTrue (R u) → IsTrue (is_some (slices_of (hosts_of one.configs g) u)) → outs_of i u (entries reading one g) ≡ outs_of i u (entries reading other g))
+    × ((u : ℕ) → IsTrue (R u) → IsTrue (is_some (slices_of (nodes_of one.configs g) u)) → outs_of i u (entries reading one g) ≡ outs_of i u (entries reading other g))

@@ -5,10 +5,10 @@ use Rattle.std.specs.BTreeMap.{BTreeMap, get}
 use Rattle.protocol.specs.Hosts.{Config}
 
 -- the place of the first configuration of a number
-abbrev pub place_of : List Config → ℕ → Option ℕ
-place_of [] g = None
-place_of (c ∷ cs) g = if c.number == g then Some 0 else option_map suc (place_of cs g)
+abbrev pub config_place : List Config → ℕ → Option ℕ
+config_place [] g = None
+config_place (c ∷ cs) g = if c.number == g then Some 0 else option_map suc (config_place cs g)
 
 -- each number has its place in the map, and a number that no configuration has has none
 pub record IsIndexed (configs : List Config) (places : BTreeMap ℕ ℕ) : Type 0 where
-  pub at : (g : ℕ) → get nat_cmp places g ≡ place_of configs g
+  pub at : (g : ℕ) → get nat_cmp places g ≡ config_place configs g

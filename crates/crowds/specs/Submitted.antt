@@ -15,8 +15,8 @@ use Rattle.crowds.specs.declared.submission.SubmissionError.{SubmissionError}
 use Rattle.crowds.specs.declared.submission.SubmissionError.TheVariants.{NetTwice, NoMemory}
 
 -- with one more configuration
-abbrev pub declared : History → Config → History
-declared h c = record h { configs = h.configs ++ c ∷ [] }
+abbrev pub with_config : History → Config → History
+with_config h c = record h { configs = h.configs ++ c ∷ [] }
 
 -- with one more event
 abbrev pub and_then : History → ℕ → Event → History
@@ -52,10 +52,10 @@ IsReadAs (Fault n) None = ⊤
 IsReadAs _ _ = ⊥
 
 -- the steps of the marked events, in order
-unfoldable pub marked : List Bool → List (ℕ × Event) → List Step
-marked [] calls = []
-marked (b ∷ bs) [] = []
-marked (b ∷ bs) (c ∷ cs) = if b then step_of c.1 ∷ marked bs cs else marked bs cs
+unfoldable pub marked_steps : List Bool → List (ℕ × Event) → List Step
+marked_steps [] calls = []
+marked_steps (b ∷ bs) [] = []
+marked_steps (b ∷ bs) (c ∷ cs) = if b then step_of c.1 ∷ marked_steps bs cs else marked_steps bs cs
 
 -- no marked event delivers bytes that are no envelope
 abbrev pub AreReadable : List Bool → List (ℕ × Event) → Type 0

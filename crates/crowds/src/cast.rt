@@ -24,14 +24,14 @@ pub(crate) fn least_unlike(
 }
 
 /// The slices of a node, where it is one of these.
-pub(crate) fn slices_among<'a>(hosts: &'a [HostedNode], node: &NodeId) -> Option<&'a Nested>
-    ensures { option_map (λ q. q.now) result ≡ slices_of hosts.now node.now }
+pub(crate) fn slices_among<'a>(nodes: &'a [HostedNode], node: &NodeId) -> Option<&'a Nested>
+    ensures { option_map (λ q. q.now) result ≡ slices_of nodes.now node.now }
 {
-    match hosts {
+    match nodes {
         [] => None,
-        [host, rest @ ..] => {
-            if host.name().is_same(node) {
-                Some(host.slices())
+        [hosted, rest @ ..] => {
+            if hosted.name().is_same(node) {
+                Some(hosted.slices())
             } else {
                 slices_among(rest, node)
             }

@@ -1,7 +1,7 @@
 //! Comparing two submissions.
 
 ghost use Rattle.std.specs.Prelude.{◌≡◌, ℕ, IfOk, IsTrue, is_some};
-ghost use Rattle.protocol.specs.Hosts.{entries, hosts_of};
+ghost use Rattle.protocol.specs.Hosts.{entries, nodes_of};
 ghost use Rattle.protocol.specs.Isolation.{closure};
 ghost use Rattle.protocol.specs.Networks.{slices_of};
 ghost use Rattle.protocol.specs.Sets.{among};
@@ -45,7 +45,7 @@ pub fn crowd(
     let Some(config) = one.config(subject.net) else {
         return Ok(Crowd::CastDiffers(subject.node));
     };
-    if slices_among(one.hosts(subject.net), &subject.node).is_none() {
+    if slices_among(one.nodes(subject.net), &subject.node).is_none() {
         return Ok(Crowd::CastDiffers(subject.node));
     }
     let journal = replay(alloc, one, config, subject.net)?;
@@ -61,14 +61,14 @@ fn crowd_among(
     subject: &Subject,
     members: &ClosureList,
 ) -> Result<Crowd, AllocError>
-    requires hosted { IsTrue (is_some (slices_of (hosts_of one.now.configs subject.now.net) subject.now.node)) }
-    requires members { (u : ℕ) → among (names_of members.now) u ≡ closure (hosts_of one.now.configs subject.now.net) subject.now.slot subject.now.node (entries reading one.now subject.now.net) u }
+    requires hosted { IsTrue (is_some (slices_of (nodes_of one.now.configs subject.now.net) subject.now.node)) }
+    requires members { (u : ℕ) → among (names_of members.now) u ≡ closure (nodes_of one.now.configs subject.now.net) subject.now.slot subject.now.node (entries reading one.now subject.now.net) u }
     ensures { IfOk result (IsCrowdHere one.now other.now subject.now.net subject.now.slot subject.now.node) }
 {
     are_never_crowded_out(one, other, subject);
     let net = subject.net;
     let slot = subject.slot;
-    if let Some(name) = least_unlike(one.hosts(net), other.hosts(net), members) {
+    if let Some(name) = least_unlike(one.nodes(net), other.nodes(net), members) {
         return Ok(Crowd::CastDiffers(name));
     }
     let Some(config) = one.config(net) else {

@@ -2,7 +2,7 @@
 
 ghost use Rattle.std.specs.Prelude.{◌≡◌, MatchOption, length};
 ghost use Rattle.protocol.specs.Verdicts.{IsFirstDifference};
-ghost use Rattle.crowds.specs.Submitted.{AreReadable, marked};
+ghost use Rattle.crowds.specs.Submitted.{AreReadable, marked_steps};
 
 use crate::events::is_same_step;
 use crate::marks::next_marked;
@@ -19,7 +19,7 @@ pub(crate) fn first_difference(
     requires one_marked { length one_marks.now ≡ length one.now }
     requires other_marked { length other_marks.now ≡ length other.now }
     requires readable { AreReadable one_marks.now one.now }
-    ensures { MatchOption result (marked one_marks.now one.now ≡ marked other_marks.now other.now) (IsFirstDifference (marked one_marks.now one.now) (marked other_marks.now other.now)) }
+    ensures { MatchOption result (marked_steps one_marks.now one.now ≡ marked_steps other_marks.now other.now) (IsFirstDifference (marked_steps one_marks.now one.now) (marked_steps other_marks.now other.now)) }
 {
     let mut here = 0;
     let mut there = 0;

@@ -1,9 +1,9 @@
 //! What is submitted to networks.
 
 ghost use Rattle.std.specs.Prelude.{◌≡◌, ◌++◌, ◌∷◌, [], IfErr, None, OnErr, OnOk, option_map};
-ghost use Rattle.protocol.specs.Hosts.{hosts_of};
+ghost use Rattle.protocol.specs.Hosts.{nodes_of};
 ghost use Rattle.protocol.specs.Submissions.{config_of};
-ghost use Rattle.crowds.specs.Submitted.{IsNotDeclared, and_then, declared};
+ghost use Rattle.crowds.specs.Submitted.{IsNotDeclared, and_then, with_config};
 
 use configuration::{HostedNode, NetConfig};
 use std::alloc::{AllocError, Global};
@@ -69,7 +69,7 @@ impl Submission {
     /// An error says that a network of that number is declared, or that memory is short, in this order; the
     /// submission is as it was.
     pub fn declare(&mut self, config: NetConfig) -> Result<(), SubmissionError>
-        ensures ok { OnOk result (self.new ≡ declared self.old config) }
+        ensures ok { OnOk result (self.new ≡ with_config self.old config) }
         ensures fresh { OnOk result (config_of self.old.configs config.number ≡ None) }
         ensures err { IfErr result (IsNotDeclared self.old.configs config.number) }
         ensures same { OnErr result (self.new ≡ self.old) }
@@ -117,11 +117,11 @@ impl Submission {
     }
 
     /// The hosted nodes of a network; none where it is not declared.
-    pub fn hosts(&self, net: u32) -> &[HostedNode]
-        ensures { result.now ≡ hosts_of self.now.configs net }
+    pub fn nodes(&self, net: u32) -> &[HostedNode]
+        ensures { result.now ≡ nodes_of self.now.configs net }
     {
         match self.config(net) {
-            Some(config) => config.hosts(),
+            Some(config) => config.nodes(),
             None => &[],
         }
     }

@@ -20,7 +20,7 @@ pub fn hosted_members<J: Announcements>(
     names: &[NodeId],
 ) -> Result<Vec<Blockers>, AllocError>
     requires { IsAscending names.now }
-    ensures { IfOk result (λ v. AreHosted (slices_then (J.hosts journal.now) slot (J.entries journal.now)) (among names.now) v.items) }
+    ensures { IfOk result (λ v. AreHosted (slices_then (J.nodes journal.now) slot (J.entries journal.now)) (among names.now) v.items) }
 {
     let mut hosted = Vec::new(alloc);
     for node in names {

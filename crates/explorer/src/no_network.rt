@@ -11,7 +11,7 @@ use types::{Nested, NodeId};
 pub struct NoNetwork;
 
 impl Announcements for NoNetwork {
-    ghost hosts = { λ _. [] };
+    ghost nodes = { λ _. [] };
 
     ghost entries = { λ _. [] };
 

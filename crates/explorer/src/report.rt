@@ -89,8 +89,8 @@ pub fn report_of<J: Announcements>(
     slot: u64,
     node: &NodeId,
 ) -> Result<ClosureReport, AllocError>
-    ensures members { IfOk result (λ r. IsClosureList (J.hosts journal.now) slot node.now (J.entries journal.now) r.members) }
-    ensures hosted { IfOk result (λ r. AreHosted (slices_then (J.hosts journal.now) slot (J.entries journal.now)) (among (names_of r.members)) r.hosted) }
+    ensures members { IfOk result (λ r. IsClosureList (J.nodes journal.now) slot node.now (J.entries journal.now) r.members) }
+    ensures hosted { IfOk result (λ r. AreHosted (slices_then (J.nodes journal.now) slot (J.entries journal.now)) (among (names_of r.members)) r.hosted) }
 {
     let members = closure(alloc, journal, slot, node)?;
     let names = ascending_members(alloc, &members)?;

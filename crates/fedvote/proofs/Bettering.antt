@@ -2,7 +2,7 @@
 use Rattle.std.proofs.Common.{◌≡◌, Bool, true, false, cond, List, [], ◌∷◌, ◌++◌, Option, Some, None, filter, refl, sym, ◌∙◌, ap}
 use Rattle.types.specs.declared.ballot.Ballot.{Ballot}
 use Rattle.protocol.specs.Candidates.{greatest, has_positive_counter}
-use Rattle.fedvote.specs.Searching.{is_under, bettered}
+use Rattle.fedvote.specs.Searching.{is_under, better_under}
 
 -- one ballot more
 pub greatest_then : (best : Option Ballot) (t : Ballot) (ts : List Ballot) → greatest (greatest best (t ∷ [])) ts ≡ greatest best (t ∷ ts)
@@ -16,7 +16,7 @@ greatest_none None = refl
 greatest_none (Some a) = refl
 
 -- one ballot bettered first
-bettered_then : (best bound : Option Ballot) (t : Ballot) (ts : List Ballot) → bettered (bettered best bound (t ∷ [])) bound ts ≡ bettered best bound (t ∷ ts)
+bettered_then : (best bound : Option Ballot) (t : Ballot) (ts : List Ballot) → better_under (better_under best bound (t ∷ [])) bound ts ≡ better_under best bound (t ∷ ts)
 bettered_then best bound t ts = counted (has_positive_counter t)
   where
     rest : List Ballot
@@ -31,13 +31,13 @@ bettered_then best bound t ts = counted (has_positive_counter t)
     counted false = ap (λ o. greatest o rest) (greatest_none best)
 
 -- nothing more
-pub bettered_none : (best bound : Option Ballot) → bettered best bound [] ≡ best
+pub bettered_none : (best bound : Option Ballot) → better_under best bound [] ≡ best
 bettered_none best bound = greatest_none best
 
 -- some ballots bettered first
-pub bettered_append : (best bound : Option Ballot) (ts us : List Ballot) → bettered (bettered best bound ts) bound us ≡ bettered best bound (ts ++ us)
-bettered_append best bound [] us = ap (λ o. bettered o bound us) (bettered_none best bound)
+pub bettered_append : (best bound : Option Ballot) (ts us : List Ballot) → better_under (better_under best bound ts) bound us ≡ better_under best bound (ts ++ us)
+bettered_append best bound [] us = ap (λ o. better_under o bound us) (bettered_none best bound)
 bettered_append best bound (t ∷ ts) us =
-    ap (λ o. bettered o bound us) (sym (bettered_then best bound t ts))
-    ∙ bettered_append (bettered best bound (t ∷ [])) bound ts us
+    ap (λ o. better_under o bound us) (sym (bettered_then best bound t ts))
+    ∙ bettered_append (better_under best bound (t ∷ [])) bound ts us
     ∙ bettered_then best bound t (ts ++ us)

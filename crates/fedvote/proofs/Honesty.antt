@@ -9,8 +9,8 @@ use Rattle.types.specs.Statements.{Sent, kind_of}
 use Rattle.protocol.specs.Satisfaction.{names}
 use Rattle.protocol.specs.Sets.{Names, among}
 use Rattle.protocol.specs.Rows.{row, is_row_of, is_kind}
-use Rattle.protocol.specs.Backing.{is_passed, passing}
-use Rattle.protocol.specs.Reach.{reached}
+use Rattle.protocol.specs.Backing.{is_passed, passing_senders}
+use Rattle.protocol.specs.Reach.{reach_of}
 use Rattle.protocol.specs.Views.{Seen, others_reached, rows_seen, passing_with, blocking_passes, seen}
 use Rattle.protocol.proofs.Reach.Chains.{reach_least}
 use Rattle.protocol.proofs.Nodes.Views.{is_blocked-local}
@@ -41,7 +41,7 @@ row_agrees test other set k u i (e ∷ es) all = go (is_row_of u k e) (is_kind k
     go false false h j all rest = rest all
 
 -- the names of the configured slices are reached
-pub names_reached : (own : ℕ) (configured : Slices) (table : List Sent) (u : ℕ) → among (names configured) u ≡ true → reached own configured table u ≡ true
+pub names_reached : (own : ℕ) (configured : Slices) (table : List Sent) (u : ℕ) → among (names configured) u ≡ true → reach_of own configured table u ≡ true
 names_reached own configured table u h = (reach_least own configured table).holds.configuration u h
 
 passing_agrees : (own : ℕ) (configured : Slices) (table : List Sent) (k : Kind) (own_passes : Bool) (test other : Statement → Bool) → AllByRecursion (λ s. test s ≡ other s) (rows_seen own configured table k)
@@ -50,13 +50,13 @@ unfolding rows_seen row
 passing_agrees own configured table k own_passes test other all u h = go (own == u) refl
   where
     passed : (Statement → Bool) → Bool
-    passed t = passing table k t u
+    passed t = passing_senders table k t u
 
     go : (itself : Bool) → (own == u) ≡ itself → (if itself then own_passes else passed test) ≡ (if itself then own_passes else passed other)
     go true e = refl
     go false e =
         row_agrees test other (others_reached own configured table) k u
-        (and_from (not (own == u)) (reached own configured table u) (ap not e) (names_reached own configured table u h)) table all
+        (and_from (not (own == u)) (reach_of own configured table u) (ap not e) (names_reached own configured table u h)) table all
 
 pub seen_honest : (own : ℕ) (configured : Slices) (leaders : List ℕ) (table : List Sent) → IsHonest (seen own configured leaders table)
 unfolding seen blocking_passes

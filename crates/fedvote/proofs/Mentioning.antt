@@ -2,7 +2,7 @@
 use Rattle.std.proofs.Common.{◌≡◌, ℕ, List, [], ◌∷◌, refl}
 use Rattle.types.specs.declared.ballot.Ballot.{Ballot}
 use Rattle.types.specs.declared.statement.Statement.TheVariants.{Nominate, Externalize}
-use Rattle.protocol.specs.States.{ballot_at}
+use Rattle.protocol.specs.States.{ballot_with}
 use Rattle.fedvote.specs.declared.mention.Mention.{Mention}
 use Rattle.fedvote.specs.declared.mention.Mention.TheVariants.{Committed, Named}
 use Rattle.fedvote.specs.Mentions.{mentioned_by}
@@ -13,6 +13,6 @@ none_nominated Named voted accepted = refl
 none_nominated Committed voted accepted = refl
 
 -- an EXTERNALIZE of the two ends of what is committed
-pub both_externalized : (mention : Mention) (b : Ballot) (high : ℕ) → ballot_at b.counter b.value ∷ ballot_at high b.value ∷ [] ≡ mentioned_by mention (Externalize b high)
+pub both_externalized : (mention : Mention) (b : Ballot) (high : ℕ) → ballot_with b.counter b.value ∷ ballot_with high b.value ∷ [] ≡ mentioned_by mention (Externalize b high)
 both_externalized Named b high = refl
 both_externalized Committed b high = refl

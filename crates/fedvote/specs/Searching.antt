@@ -19,8 +19,8 @@ abbrev pub next_under : Option Ballot → List Ballot → Option Ballot
 next_under bound ts = greatest None (filter (is_under bound) ts)
 
 -- the greatest of what is there and of those of these ballots that are below the bound, with a counter from 1 on
-abbrev pub bettered : Option Ballot → Option Ballot → List Ballot → Option Ballot
-bettered best bound ts = greatest best (filter (is_under bound) (filter has_positive_counter ts))
+abbrev pub better_under : Option Ballot → Option Ballot → List Ballot → Option Ballot
+better_under best bound ts = greatest best (filter (is_under bound) (filter has_positive_counter ts))
 
 -- the counter of a ballot statement; that of an EXTERNALIZE counts as infinite
 abbrev pub counter_by : Statement → Option ℕ

@@ -3,7 +3,7 @@
 ghost use Rattle.std.specs.Prelude.{◌≡◌, ◌∷◌, [], option_to_list};
 ghost use Rattle.protocol.specs.Candidates.{greatest, has_positive_counter};
 ghost use Rattle.fedvote.specs.Mentions.{mentioned_by};
-ghost use Rattle.fedvote.specs.Searching.{bettered, is_under};
+ghost use Rattle.fedvote.specs.Searching.{better_under, is_under};
 
 use crate::mention::{Mention, StatementBallots, statement_ballots};
 use types::{LentBallot, Statement};
@@ -17,7 +17,7 @@ pub fn better_mentioned<'a>(
     bound: &Option<LentBallot>,
     statement: &'a Statement,
 ) -> Option<LentBallot<'a>>
-    ensures { result ≡ bettered best.entry bound.now (mentioned_by mention statement.now) }
+    ensures { result ≡ better_under best.entry bound.now (mentioned_by mention statement.now) }
 {
     let StatementBallots {
         first,
@@ -36,7 +36,7 @@ fn better_of<'a>(
     bound: &Option<LentBallot>,
     ballot: Option<LentBallot<'a>>,
 ) -> Option<LentBallot<'a>>
-    ensures { result ≡ bettered best.entry bound.now (option_to_list ballot.entry) }
+    ensures { result ≡ better_under best.entry bound.now (option_to_list ballot.entry) }
 {
     match ballot {
         None => best,
@@ -52,7 +52,7 @@ fn better<'a>(
     bound: &Option<LentBallot>,
     ballot: LentBallot<'a>,
 ) -> Option<LentBallot<'a>>
-    ensures { result ≡ bettered best.entry bound.now (ballot.entry ∷ []) }
+    ensures { result ≡ better_under best.entry bound.now (ballot.entry ∷ []) }
 {
     if ballot.counter() == 0 || !is_under(bound, &ballot) {
         return best;

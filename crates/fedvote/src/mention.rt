@@ -1,7 +1,7 @@
 //! How a statement speaks of ballots, and of which.
 
 ghost use Rattle.std.specs.Prelude.{◌≡◌, ◌∷◌, []};
-ghost use Rattle.protocol.specs.States.{ballot_at};
+ghost use Rattle.protocol.specs.States.{ballot_with};
 ghost use Rattle.fedvote.specs.Mentions.{ballots_of, mentioned_by};
 
 use types::{Ballot, LentBallot, Statement};
@@ -74,7 +74,7 @@ pub fn statement_ballots<'a>(mention: Mention, statement: &'a Statement) -> Stat
 
 /// The two ballots at these counters, with the ballot's value.
 fn ends<'a>(ballot: &'a Ballot, low: u32, high: u32) -> StatementBallots<'a>
-    ensures { ballots_of result ≡ ballot_at low ballot.now.value ∷ ballot_at high ballot.now.value ∷ [] }
+    ensures { ballots_of result ≡ ballot_with low ballot.now.value ∷ ballot_with high ballot.now.value ∷ [] }
 {
     StatementBallots {
         first: Some(LentBallot::at(low, &ballot.value)),

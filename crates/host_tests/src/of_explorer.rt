@@ -31,7 +31,7 @@ struct Hosts {
 impl Announcements for Hosts {
     ghost use Rattle.std.specs.Prelude.{[], ◌∷◌};
 
-    ghost hosts = { λ s. (record { name = s.lesser; slices = s.lesser_slices }) ∷ (record { name = s.greater; slices = s.greater_slices }) ∷ [] };
+    ghost nodes = { λ s. (record { name = s.lesser; slices = s.lesser_slices }) ∷ (record { name = s.greater; slices = s.greater_slices }) ∷ [] };
 
     ghost entries = { λ _. [] };
 

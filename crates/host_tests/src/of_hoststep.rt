@@ -22,8 +22,8 @@ fn slices(alloc: Global, number: u64) -> Option<Nested> {
 
 /// Node 1 is hosted and needs node 2, which is not. There are so many events and one slot.
 fn config(alloc: Global, events: u64) -> Option<NetConfig> {
-    let hosts = vec![in alloc; HostedNode::new(name(1), slices(alloc, 2)?)].ok()?;
-    NetConfig::new(alloc, 7, hosts, Budgets::new(events, 1000, 1)?).ok()
+    let nodes = vec![in alloc; HostedNode::new(name(1), slices(alloc, 2)?)].ok()?;
+    NetConfig::new(alloc, 7, nodes, Budgets::new(events, 1000, 1)?).ok()
 }
 
 /// The bytes by which node 2 votes for a value at slot 5.

@@ -66,7 +66,7 @@ fn acceptance(alloc: Global, counter: u32, letter: u8) -> Option<Statement> {
 }
 
 /// That is delivered to node 1 at slot 1, from a node that wants itself alone.
-fn said(alloc: Global, sender: u64, body: Option<Statement>) -> Option<Event> {
+fn delivery_from(alloc: Global, sender: u64, body: Option<Statement>) -> Option<Event> {
     let own = slices(alloc, 1, &[sender])?;
     let envelope = Envelope::new(name(sender), 1, own, body?)?;
     let bytes = Bytes::new(encode(alloc, &envelope).ok()?);
@@ -86,29 +86,41 @@ fn after(mut world: TestWorld, net: u32, event: Option<Event>) -> Option<TestWor
 
 /// The world with one more network, in which node 1 wants so many of nodes 2, 3 and 4, and slot 1 is open.
 fn with_network(alloc: Global, mut world: TestWorld, net: u32, threshold: u8) -> Option<TestWorld> {
-    let hosts = vec![in alloc;
+    let nodes = vec![in alloc;
         HostedNode::new(name(1), slices(alloc, threshold, &[2, 3, 4])?),
     ].ok()?;
     let budgets = Budgets::new(100, 100_000, 1)?;
-    let config = NetConfig::new(alloc, net, hosts, budgets).ok()?;
+    let config = NetConfig::new(alloc, net, nodes, budgets).ok()?;
     world.add(config, VecShelf::new(alloc)).ok()?;
     after(world, net, Some(Event::OpenSlot { slot: 1 }))
 }
 
 /// The world where node 2 accepts a ballot in this network.
 fn begin(alloc: Global, world: TestWorld, net: u32) -> Option<TestWorld> {
-    after(world, net, said(alloc, 2, acceptance(alloc, 9, b'm')))
+    after(
+        world,
+        net,
+        delivery_from(alloc, 2, acceptance(alloc, 9, b'm')),
+    )
 }
 
 /// The world where then node 3 accepts another ballot in this network, and node 4 votes for that value.
 fn end(alloc: Global, world: TestWorld, net: u32) -> Option<TestWorld> {
-    let world = after(world, net, said(alloc, 3, acceptance(alloc, 8, b'k')))?;
-    after(world, net, said(alloc, 4, vote(alloc, 1, b'k')))
+    let world = after(
+        world,
+        net,
+        delivery_from(alloc, 3, acceptance(alloc, 8, b'k')),
+    )?;
+    after(world, net, delivery_from(alloc, 4, vote(alloc, 1, b'k')))
 }
 
 /// The world where a stranger votes in this network.
 fn disturb(alloc: Global, world: TestWorld, net: u32, counter: u32) -> Option<TestWorld> {
-    after(world, net, said(alloc, 9, vote(alloc, counter, b'q')))
+    after(
+        world,
+        net,
+        delivery_from(alloc, 9, vote(alloc, counter, b'q')),
+    )
 }
 
 /// A world where all speak in network 1, node 2 alone in networks 2 and 3, and nobody in network 4.

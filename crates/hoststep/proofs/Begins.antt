@@ -13,7 +13,7 @@ use Rattle.hoststep.specs.Logs.{IsJournal}
 use Rattle.network.specs.Standing.{Standing, machine_of}
 use Rattle.std.specs.List.{All}
 
-begins : (config : Config) → IsJournal (machine_of (record { config = config; archive = []; slots = []; events = 0; bytes = 0; opens = 0 })) [] × AreKept config.hosts [] [] []
+begins : (config : Config) → IsJournal (machine_of (record { config = config; archive = []; slots = []; events = 0; bytes = 0; opens = 0 })) [] × AreKept config.nodes [] [] []
 unfolding net_after
 begins config = (
   record {
@@ -21,7 +21,7 @@ begins config = (
     state = record { is = refl; tallied = All-nil (λ (s : Seats). All (IsTallied s.number []) s.seats) };
   },
   (
-    All-nil (λ (x : StoredEntry). IsKeptEvent config.hosts [] x.event × AreFiledOuts [] (kept_outs x.outs)),
+    All-nil (λ (x : StoredEntry). IsKeptEvent config.nodes [] x.event × AreFiledOuts [] (kept_outs x.outs)),
     record {
       ascending = λ i j d l m. absurd (omega (arith, m));
       earlier = All-nil (λ (x : EntryOuts). x.entry < 0);
@@ -31,7 +31,7 @@ begins config = (
 )
 
 pub fresh-journal : (config : Config) (m : Standing) (lists : List EntryOuts) (xs : List StoredEntry) → m ≡ record { config = config; archive = []; slots = []; events = 0; bytes = 0; opens = 0 } → lists ≡ [] → xs ≡ []
-    → IsJournal (machine_of m) (map entry_of xs) × AreKept m.config.hosts m.archive lists xs
+    → IsJournal (machine_of m) (map entry_of xs) × AreKept m.config.nodes m.archive lists xs
 fresh-journal config m lists xs is fresh none =
-    subst (λ (s : Standing). IsJournal (machine_of s) (map entry_of xs) × AreKept s.config.hosts s.archive lists xs) (sym is)
-    (subst (λ (l : List EntryOuts × List StoredEntry). IsJournal (machine_of (record { config = config; archive = []; slots = []; events = 0; bytes = 0; opens = 0 })) (map entry_of l.1) × AreKept config.hosts [] l.0 l.1) (λ i. (sym fresh i, sym none i)) (begins config))
+    subst (λ (s : Standing). IsJournal (machine_of s) (map entry_of xs) × AreKept s.config.nodes s.archive lists xs) (sym is)
+    (subst (λ (l : List EntryOuts × List StoredEntry). IsJournal (machine_of (record { config = config; archive = []; slots = []; events = 0; bytes = 0; opens = 0 })) (map entry_of l.1) × AreKept config.nodes [] l.0 l.1) (λ i. (sym fresh i, sym none i)) (begins config))

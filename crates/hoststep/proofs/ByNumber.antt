@@ -20,7 +20,7 @@ use Rattle.types.specs.declared.event.Out.{Out}
 use Rattle.types.specs.declared.event.Refusal.{Refusal}
 use Rattle.protocol.specs.Networks.{Step}
 use Rattle.network.specs.Decoding.{step_of}
-use Rattle.hoststep.specs.Logs.{IsEntered, IsRefused, Log, extended}
+use Rattle.hoststep.specs.Logs.{IsEntered, IsRefused, Log, with_entry}
 use Rattle.hoststep.specs.Worlds.{AreByNumber, IsAnswered, IsPlaceOf, log_at, logs_set, logs_with, numbers_of}
 use Rattle.hoststep.proofs.Histories.{has-number}
 
@@ -118,16 +118,16 @@ set-kept ns ls k x y h l is same =
     (h.0 ∙ sym numbers, (subst IsAscending (sym numbers) h.1.0, subst (λ n. n ≤ 4096) (sym (length-set ls k y)) h.1.1))
 
 -- what an event of a network is answered
-pub number-kept : (x y : Log) (e : Step) (r : Result (Vec Out Global) Refusal) → IfOk r (λ v. y ≡ extended x e v.items) → OnErr r (y ≡ x) → y.config.number ≡ x.config.number
+pub number-kept : (x y : Log) (e : Step) (r : Result (Vec Out Global) Refusal) → IfOk r (λ v. y ≡ with_entry x e v.items) → OnErr r (y ≡ x) → y.config.number ≡ x.config.number
 number-kept x y e (Ok v) is same = ap (λ (z : Log). z.config.number) is
 number-kept x y e (Err r) is same = ap (λ (z : Log). z.config.number) same
 
 pub answered : (ls : List Log) (g k : ℕ) (x y : Log) (event : Event) (r : Result (Vec Out Global) Refusal) → index_in (numbers_of ls) g ≡ Some k → k < length ls → x ≡ get_or ls k x
-    → IfOk r (λ v. IsEntered x (step_of event) v.items) → IfOk r (λ v. y ≡ extended x (step_of event) v.items) → IfErr r (IsRefused x (step_of event)) → OnErr r (y ≡ x) → IsAnswered ls g event r (set ls k y)
+    → IfOk r (λ v. IsEntered x (step_of event) v.items) → IfOk r (λ v. y ≡ with_entry x (step_of event) v.items) → IfErr r (IsRefused x (step_of event)) → OnErr r (y ≡ x) → IsAnswered ls g event r (set ls k y)
 answered ls g k x y event (Ok v) e l is ok entered err same =
     let at = stands ls g k x e l is in
-    let named : (extended x (step_of event) v.items).config.number ≡ g = has-number ls g x at in
-    rw at (ok, ap (λ z. set ls k z) entered ∙ sym (set-is ls (extended x (step_of event) v.items) k (ap (index_in (numbers_of ls)) named ∙ e)))
+    let named : (with_entry x (step_of event) v.items).config.number ≡ g = has-number ls g x at in
+    rw at (ok, ap (λ z. set ls k z) entered ∙ sym (set-is ls (with_entry x (step_of event) v.items) k (ap (index_in (numbers_of ls)) named ∙ e)))
 answered ls g k x y event (Err r) e l is ok entered err same =
     rw (stands ls g k x e l is) (err, ap (λ z. set ls k z) (same ∙ is) ∙ set-get_or ls k x)
 
@@ -144,7 +144,7 @@ pub record Changed (ns : List ℕ) (ls : List Log) (g k : ℕ) (y : Log) (event 
   pub answer : IsAnswered ls g event r (set ls k y)
 
 pub changed : (ns : List ℕ) (ls : List Log) (g k : ℕ) (x y : Log) (event : Event) (r : Result (Vec Out Global) Refusal) → (ns ≡ numbers_of ls) × AreByNumber ls → (index_in (numbers_of ls) g ≡ Some k) × (k < length ls) → x ≡ get_or ls k x
-    → IfOk r (λ v. IsEntered x (step_of event) v.items) → IfOk r (λ v. y ≡ extended x (step_of event) v.items) → IfErr r (IsRefused x (step_of event)) → OnErr r (y ≡ x) → Changed ns ls g k y event r
+    → IfOk r (λ v. IsEntered x (step_of event) v.items) → IfOk r (λ v. y ≡ with_entry x (step_of event) v.items) → IfErr r (IsRefused x (step_of event)) → OnErr r (y ≡ x) → Changed ns ls g k y event r
 changed ns ls g k x y event r h e is ok entered err same = record {
   kept = set-kept ns ls k x y h e.1 is (number-kept x y (step_of event) r entered same);
   answer = answered ls g k x y event r e.0 e.1 is ok entered err same;

@@ -6,7 +6,7 @@ use Rattle.types.specs.Trees.{Slices}
 use Rattle.configuration.specs.Configs.{index_in, index_of_name, names_of}
 use Rattle.protocol.specs.Networks.{HostedNode, slices_of}
 
-pub within : (hosts : List HostedNode) (u k : ℕ) → index_of_name hosts u ≡ Some k → k < length hosts
+pub within : (nodes : List HostedNode) (u k : ℕ) → index_of_name nodes u ≡ Some k → k < length nodes
 within [] u k h = absurd (cc)
 within (x ∷ xs) u k h = go (x.name == u) (index_in (names_of xs) u) (λ j e. within xs u j e) refl h
   where
@@ -19,7 +19,7 @@ within (x ∷ xs) u k h = go (x.name == u) (index_in (names_of xs) u) (λ j e. w
 abbrev pub slices_in : Option HostedNode → Option Slices
 slices_in o = option_map (λ h. h.slices) o
 
-pub found : (hosts : List HostedNode) (u k : ℕ) → index_of_name hosts u ≡ Some k → slices_of hosts u ≡ slices_in (slice_get hosts k)
+pub found : (nodes : List HostedNode) (u k : ℕ) → index_of_name nodes u ≡ Some k → slices_of nodes u ≡ slices_in (slice_get nodes k)
 found [] u k h = absurd (cc)
 found (x ∷ xs) u k h = go (x.name == u) (index_in (names_of xs) u) (λ j e. found xs u j e) refl h
   where
@@ -30,12 +30,12 @@ found (x ∷ xs) u k h = go (x.name == u) (index_in (names_of xs) u) (λ j e. fo
     go false (Some j) ih e q = let z : suc j ≡ k = cc in ih j e ∙ ap (λ n. slices_in (slice_get (x ∷ xs) n)) z
 
 -- those of the hosted node at the place of a name
-pub stands : (hosts : List HostedNode) (u k : ℕ) (h : HostedNode) (q : Slices) → index_of_name hosts u ≡ Some k → k < length hosts → h ≡ get_or hosts k h → q ≡ h.slices → Some q ≡ slices_of hosts u
-stands hosts u k h q at inside is same =
-    ap (λ (s : Slices). Some s) same ∙ sym (found hosts u k at ∙ ap slices_in (slice_get_read hosts (length hosts) k h refl inside is))
+pub stands : (nodes : List HostedNode) (u k : ℕ) (h : HostedNode) (q : Slices) → index_of_name nodes u ≡ Some k → k < length nodes → h ≡ get_or nodes k h → q ≡ h.slices → Some q ≡ slices_of nodes u
+stands nodes u k h q at inside is same =
+    ap (λ (s : Slices). Some s) same ∙ sym (found nodes u k at ∙ ap slices_in (slice_get_read nodes (length nodes) k h refl inside is))
 
 -- a name without a place is not hosted
-pub missing : (hosts : List HostedNode) (u : ℕ) → index_of_name hosts u ≡ None → slices_of hosts u ≡ None
+pub missing : (nodes : List HostedNode) (u : ℕ) → index_of_name nodes u ≡ None → slices_of nodes u ≡ None
 missing [] u h = refl
 missing (x ∷ xs) u h = go (x.name == u) (index_in (names_of xs) u) (λ e. missing xs u e) refl h
   where
@@ -45,7 +45,7 @@ missing (x ∷ xs) u h = go (x.name == u) (index_in (names_of xs) u) (λ e. miss
     go false (Some j) ih e q = absurd (cc)
 
 -- the name that stands at the place of a name
-pub named : (hosts : List HostedNode) (u k : ℕ) → index_of_name hosts u ≡ Some k → option_map (λ (h : HostedNode). h.name) (slice_get hosts k) ≡ Some u
+pub named : (nodes : List HostedNode) (u k : ℕ) → index_of_name nodes u ≡ Some k → option_map (λ (h : HostedNode). h.name) (slice_get nodes k) ≡ Some u
 named [] u k h = absurd (cc)
 named (x ∷ xs) u k h = go (x.name == u) (index_in (names_of xs) u) (λ j e. named xs u j e) refl refl h
   where

@@ -29,11 +29,11 @@ use Rattle.hoststep.specs.declared.outs_list.EntryOuts.{EntryOuts}
 use Rattle.hoststep.specs.Giving.{kept_outs, listed_at, with_outs}
 use Rattle.hoststep.specs.declared.kept.KeptEvent.{KeptEvent}
 use Rattle.hoststep.specs.declared.kept.KeptEvent.TheVariants as events
-use Rattle.hoststep.specs.Hosting.{NamesHosts}
+use Rattle.hoststep.specs.Hosting.{NamesNodes}
 use Rattle.hoststep.specs.Keeping.{AreKept, AreListed, IsKeptEvent, IsReadable, entry_of, step_in}
 use Rattle.hoststep.proofs.Listing.{AreEarlier, put-behind}
 use Rattle.hoststep.specs.Entering.{IsEnteredWith, outs_after}
-use Rattle.hoststep.specs.Logs.{IsJournal, Log, extended}
+use Rattle.hoststep.specs.Logs.{IsJournal, Log, with_entry}
 
 -- ---- runs
 -- an element of a list one longer stands in the old part, or is the new one
@@ -98,7 +98,7 @@ passed-both true true c o h = (refl, refl)
 passed-both true false c o h = absurd (cc)
 passed-both false b c o h = absurd (cc)
 
-all-hosted : (net : Net) (e : Step) → first_that (tests net e) ≡ None → NamesHosts net.hosts e
+all-hosted : (net : Net) (e : Step) → first_that (tests net e) ≡ None → NamesNodes net.nodes e
 all-hosted net (Opens i) h = tt
 all-hosted net (Closes i) h = tt
 all-hosted net (Proposes i u x) h = passed (is_hosted net u) _ h
@@ -131,14 +131,14 @@ journal-grows old new es e os h step same = record {
 abbrev pub OutsLists : Type 0
 OutsLists = List EntryOuts
 
-event-stays : (hosts : List HostedNode) (old new : List Sent) (x : KeptEvent) → Keeps old new → IsKeptEvent hosts old x → IsKeptEvent hosts new x
-event-stays hosts old new (events.OpenSlot i) kept h = tt
-event-stays hosts old new (events.CloseSlot i) kept h = tt
-event-stays hosts old new (events.Deliver u size f) kept h = (h.0, kept f h.1, h.2)
-event-stays hosts old new (events.Hear u from kind i k) kept h = h
-event-stays hosts old new (events.NominationTimer u r i) kept h = h
-event-stays hosts old new (events.BallotTimer u n i) kept h = h
-event-stays hosts old new (events.Large b) kept h = h
+event-stays : (nodes : List HostedNode) (old new : List Sent) (x : KeptEvent) → Keeps old new → IsKeptEvent nodes old x → IsKeptEvent nodes new x
+event-stays nodes old new (events.OpenSlot i) kept h = tt
+event-stays nodes old new (events.CloseSlot i) kept h = tt
+event-stays nodes old new (events.Deliver u size f) kept h = (h.0, kept f h.1, h.2)
+event-stays nodes old new (events.Hear u from kind i k) kept h = h
+event-stays nodes old new (events.NominationTimer u r i) kept h = h
+event-stays nodes old new (events.BallotTimer u n i) kept h = h
+event-stays nodes old new (events.Large b) kept h = h
 
 out-stays : (old new : List Sent) (x : FiledOut) → Keeps old new → IsFiledOut old x → IsFiledOut new x
 out-stays old new (FiledOut.ArmNomination r) kept h = tt
@@ -147,11 +147,11 @@ out-stays old new (FiledOut.Emit f) kept h = (kept f h.0, h.1)
 out-stays old new (FiledOut.Externalized x) kept h = tt
 
 abbrev pub IsKeptIn : List HostedNode → List Sent → StoredEntry → Type 0
-IsKeptIn hosts archive x = IsKeptEvent hosts archive x.event × AreFiledOuts archive (kept_outs x.outs)
+IsKeptIn nodes archive x = IsKeptEvent nodes archive x.event × AreFiledOuts archive (kept_outs x.outs)
 
-kept-still : (hosts : List HostedNode) (old new : List Sent) (xs : List StoredEntry) → Keeps old new → All (IsKeptIn hosts old) xs → All (IsKeptIn hosts new) xs
-kept-still hosts old new xs kept all =
-    λ k d l. (event-stays hosts old new (get_or xs k d).event kept (all k d l).0, λ j c m. out-stays old new (get_or (kept_outs (get_or xs k d).outs) j c) kept ((all k d l).1 j c m))
+kept-still : (nodes : List HostedNode) (old new : List Sent) (xs : List StoredEntry) → Keeps old new → All (IsKeptIn nodes old) xs → All (IsKeptIn nodes new) xs
+kept-still nodes old new xs kept all =
+    λ k d l. (event-stays nodes old new (get_or xs k d).event kept (all k d l).0, λ j c m. out-stays old new (get_or (kept_outs (get_or xs k d).outs) j c) kept ((all k d l).1 j c m))
 
 below_or_last : (k n : ℕ) → k < suc n → (k < n) ⊎ (k ≡ n)
 below_or_last k n l = elim (cases_Bool (nat_lt k n)) [
@@ -175,17 +175,17 @@ listed-more before xs x outs h gave =
           (below_or_last k (length xs) within);
     }
 
-pub kept-more : (hosts : List HostedNode) (old new : List Sent) (before : OutsLists) (xs : List StoredEntry) (x : StoredEntry) (outs : Vec FiledOut Global) → Keeps old new → AreKept hosts old before xs
-    → IsKeptEvent hosts new x.event → kept_outs x.outs ≡ outs.items → AreFiledOuts new (kept_outs x.outs) → AreKept hosts new (with_outs (length xs) outs before) (xs ++ x ∷ [])
-kept-more hosts old new before xs x outs kept all event gave filed = (
-  All-append (IsKeptIn hosts new) xs (x ∷ []) (kept-still hosts old new xs kept all.0) (All-cons (IsKeptIn hosts new) x [] (event, filed) (All-nil (IsKeptIn hosts new))),
+pub kept-more : (nodes : List HostedNode) (old new : List Sent) (before : OutsLists) (xs : List StoredEntry) (x : StoredEntry) (outs : Vec FiledOut Global) → Keeps old new → AreKept nodes old before xs
+    → IsKeptEvent nodes new x.event → kept_outs x.outs ≡ outs.items → AreFiledOuts new (kept_outs x.outs) → AreKept nodes new (with_outs (length xs) outs before) (xs ++ x ∷ [])
+kept-more nodes old new before xs x outs kept all event gave filed = (
+  All-append (IsKeptIn nodes new) xs (x ∷ []) (kept-still nodes old new xs kept all.0) (All-cons (IsKeptIn nodes new) x [] (event, filed) (All-nil (IsKeptIn nodes new))),
   listed-more before xs x outs all.1 gave,
 )
 
 -- ---- an event that is entered
--- the entries are a run that leads to the machine, and the hosts, the archive and the lists have what they keep
+-- the entries are a run that leads to the machine, and the hosted nodes, the archive and the lists have what they keep
 abbrev pub Stands : Standing → OutsLists → List StoredEntry → Type 0
-Stands m lists xs = IsJournal (machine_of m) (map entry_of xs) × AreKept m.config.hosts m.archive lists xs
+Stands m lists xs = IsJournal (machine_of m) (map entry_of xs) × AreKept m.config.nodes m.archive lists xs
 
 abbrev pub log_of : Standing → List StoredEntry → Log
 log_of m xs = record { config = m.config; entries = map entry_of xs }
@@ -196,10 +196,10 @@ next-of old new lists xs e count a h d = applied-next old new (map entry_of xs) 
 pub is-readable : (old new : Standing) (lists : OutsLists) (xs : List StoredEntry) (e : Step) (count : ℕ) (a : Outcome) → Stands old lists xs → IsApplied old e count new a → IsReadable e
 is-readable old new lists xs e count a h d = readable (state_of old.config (map entry_of xs)) e (next-of old new lists xs e count a h d).0
 
-pub names-hosts : (old new : Standing) (config : Config) (lists : OutsLists) (xs : List StoredEntry) (e : Step) (count : ℕ) (a : Outcome) → Stands old lists xs → IsApplied old e count new a → config ≡ new.config → new.config ≡ old.config → NamesHosts config.hosts e
-names-hosts old new config lists xs e count a h d is same =
+pub names-nodes : (old new : Standing) (config : Config) (lists : OutsLists) (xs : List StoredEntry) (e : Step) (count : ℕ) (a : Outcome) → Stands old lists xs → IsApplied old e count new a → config ≡ new.config → new.config ≡ old.config → NamesNodes config.nodes e
+names-nodes old new config lists xs e count a h d is same =
     let net = state_of old.config (map entry_of xs) in
-    subst (λ (k : Config). NamesHosts k.hosts e) (sym (is ∙ same)) (subst (λ (n : Net). NamesHosts n.hosts e) h.0.state.is (all-hosted net e (next-of old new lists xs e count a h d).0))
+    subst (λ (k : Config). NamesNodes k.nodes e) (sym (is ∙ same)) (subst (λ (n : Net). NamesNodes n.nodes e) h.0.state.is (all-hosted net e (next-of old new lists xs e count a h d).0))
 
 pub entered-with : (l : Log) (old new : Standing) (lists : OutsLists) (xs : List StoredEntry) (e : Step) (count : ℕ) (a : Outcome) → log_of old xs ≡ l → Stands old lists xs → IsApplied old e count new a → IsEnteredWith l e count (record { marks = a.marks; copies = a.copies })
 entered-with l old new lists xs e count a is h d =
@@ -219,19 +219,19 @@ more xs ys zs x e os same is entry =
     ∙ ap (λ (l : List FiledOut). map entry_of xs ++ record { event = e; outs = outs_of l } ∷ []) entry.gave
 
 pub stands-more : (old new : Standing) (hosting : Config) (before middle after : OutsLists) (n : ℕ) (xs ys zs : List StoredEntry) (x : StoredEntry) (e : Step) (count : ℕ) (a : Outcome) → Stands old before xs → IsApplied old e count new a → hosting ≡ new.config → new.config ≡ old.config
-    → Keeps old.archive new.archive → middle ≡ before → n ≡ length ys → after ≡ with_outs n a.outs middle → ys ≡ xs → zs ≡ ys ++ x ∷ [] → IsEntryFor e a.outs.items x → IsKeptEvent hosting.hosts new.archive x.event → Stands new after zs
+    → Keeps old.archive new.archive → middle ≡ before → n ≡ length ys → after ≡ with_outs n a.outs middle → ys ≡ xs → zs ≡ ys ++ x ∷ [] → IsEntryFor e a.outs.items x → IsKeptEvent hosting.nodes new.archive x.event → Stands new after zs
 stands-more old new hosting before middle after n xs ys zs x e count a h d there config kept stays counted put same is entry filed =
-    let earlier : AreKept new.config.hosts old.archive before xs = subst (λ (k : Config). AreKept k.hosts old.archive before xs) (sym config) h.1 in
-    let mine : IsKeptEvent new.config.hosts new.archive x.event = subst (λ (k : Config). IsKeptEvent k.hosts new.archive x.event) there filed in
+    let earlier : AreKept new.config.nodes old.archive before xs = subst (λ (k : Config). AreKept k.nodes old.archive before xs) (sym config) h.1 in
+    let mine : IsKeptEvent new.config.nodes new.archive x.event = subst (λ (k : Config). IsKeptEvent k.nodes new.archive x.event) there filed in
     let outs : AreFiledOuts new.archive (kept_outs x.outs) = subst (λ (os : List FiledOut). AreFiledOuts new.archive os) (sym entry.gave) d.outs in
     let lists : after ≡ with_outs (length xs) a.outs before = put ∙ ap₂ (λ (i : ℕ) (l : OutsLists). with_outs i a.outs l) (counted ∙ ap length same) stays in (
       subst (λ (es : List Entry). IsJournal (machine_of new) es) (sym (more xs ys zs x e a.outs.items same is entry)) (journal-grows old new (map entry_of xs) e (outs_of a.outs.items) h.0 d.step config),
-      subst (λ (l : OutsLists × List StoredEntry). AreKept new.config.hosts new.archive l.0 l.1) (λ i. (sym lists i, sym (is ∙ ap (λ (l : List StoredEntry). l ++ x ∷ []) same) i)) (kept-more new.config.hosts old.archive new.archive before xs x a.outs kept earlier mine entry.gave outs),
+      subst (λ (l : OutsLists × List StoredEntry). AreKept new.config.nodes new.archive l.0 l.1) (λ i. (sym lists i, sym (is ∙ ap (λ (l : List StoredEntry). l ++ x ∷ []) same) i)) (kept-more new.config.nodes old.archive new.archive before xs x a.outs kept earlier mine entry.gave outs),
     )
 
 pub log-grows : (l : Log) (old new : Standing) (before : OutsLists) (xs ys zs : List StoredEntry) (x : StoredEntry) (e : Step) (count : ℕ) (a : Outcome) → log_of old xs ≡ l → Stands old before xs → IsApplied old e count new a → new.config ≡ old.config
-    → ys ≡ xs → zs ≡ ys ++ x ∷ [] → IsEntryFor e a.outs.items x → log_of new zs ≡ extended l e (outs_after l e)
+    → ys ≡ xs → zs ≡ ys ++ x ∷ [] → IsEntryFor e a.outs.items x → log_of new zs ≡ with_entry l e (outs_after l e)
 log-grows l old new before xs ys zs x e count a of h d config same is entry =
     let next = next-of old new before xs e count a h d in
-    subst (λ (k : Log). log_of new zs ≡ extended k e (outs_after k e)) of
+    subst (λ (k : Log). log_of new zs ≡ with_entry k e (outs_after k e)) of
     (λ i. record { config = config i; entries = (more xs ys zs x e a.outs.items same is entry ∙ ap (λ (os : List Out). map entry_of xs ++ record { event = e; outs = os } ∷ []) next.1) i })

@@ -14,8 +14,8 @@ use Rattle.protocol.specs.Hosts.{Config, Entry, History, journal_with, entries, 
 use Rattle.protocol.specs.Runs.{net_after, refusal_of, state_of}
 use Rattle.protocol.proofs.Runs.Hosts.{applied-journal, steps_to}
 use Rattle.network.specs.Decoding.{reading, step_of}
-use Rattle.hoststep.specs.Logs.{IsEntered, IsRefused, Log, extended}
-use Rattle.hoststep.specs.Worlds.{IsAnswered, IsAnsweredAt, AreJournalsOf, items_of, adopted, and_then, configs_with, joined, log_at, logs_set, logs_with}
+use Rattle.hoststep.specs.Logs.{IsEntered, IsRefused, Log, with_entry}
+use Rattle.hoststep.specs.Worlds.{IsAnswered, IsAnsweredAt, AreJournalsOf, items_of, with_history_of, and_then, configs_with, with_new_network, log_at, logs_set, logs_with}
 
 equal : (a b : ℕ) → a ≡ b → (a == b) ≡ true
 equal a b e = grind (arith, nat_tests, e)
@@ -157,19 +157,19 @@ told-then h ls new g event r told answer memory = go (log_at ls g) refl r memory
     go : (o : Option Log) → log_at ls g ≡ o → (r : Result (List Out) Refusal) → (r ≡ Err NoMemory → ⊥) → IsAnsweredAt o ls e r new → AreJournalsOf (and_then h g event) new
     go None at r memory (unknown, is) = same is (λ l found. absurd (cc))
     go (Some l) at (Ok os) memory (entered_is, is) = subst (λ (ks : List Log). AreJournalsOf (and_then h g event) ks) (sym is) (record {
-      configs = set-configs ls g l (extended l e os) at refl ∙ told.configs;
+      configs = set-configs ls g l (with_entry l e os) at refl ∙ told.configs;
       entries = λ j m found. each j m found (g == j) refl;
     })
       where
-        own : (extended l e os).entries ≡ entries reading (and_then h g event) g
+        own : (with_entry l e os).entries ≡ entries reading (and_then h g event) g
         own = ap (λ (p : Reply). l.entries ++ journal_with e p []) (sym (done l e os entered_is)) ∙ goes-on h ls g event l told at
 
-        each : (j : ℕ) (m : Log) → log_at (logs_set (extended l e os) ls) j ≡ Some m → (b : Bool) → (g == j) ≡ b → m.entries ≡ entries reading (and_then h g event) j
+        each : (j : ℕ) (m : Log) → log_at (logs_set (with_entry l e os) ls) j ≡ Some m → (b : Bool) → (g == j) ≡ b → m.entries ≡ entries reading (and_then h g event) j
         each j m found true y =
-            let here : log_at (logs_set (extended l e os) ls) g ≡ Some (extended l e os) = set-at ls g l (extended l e os) at (has-number ls g l at) in
-            let q : extended l e os ≡ m = let z : Some (extended l e os) ≡ Some m = sym here ∙ ap (log_at (logs_set (extended l e os) ls)) (eqb-true g j y) ∙ found in cc in
-            sym (ap (λ (x : Log). x.entries) q) ∙ subst (λ n. (extended l e os).entries ≡ entries reading (and_then h g event) n) (eqb-true g j y) own
-        each j m found false y = stays h ls g event j m told (sym (set-other ls g j (extended l e os) (has-number ls g l at) y) ∙ found) y
+            let here : log_at (logs_set (with_entry l e os) ls) g ≡ Some (with_entry l e os) = set-at ls g l (with_entry l e os) at (has-number ls g l at) in
+            let q : with_entry l e os ≡ m = let z : Some (with_entry l e os) ≡ Some m = sym here ∙ ap (log_at (logs_set (with_entry l e os) ls)) (eqb-true g j y) ∙ found in cc in
+            sym (ap (λ (x : Log). x.entries) q) ∙ subst (λ n. (with_entry l e os).entries ≡ entries reading (and_then h g event) n) (eqb-true g j y) own
+        each j m found false y = stays h ls g event j m told (sym (set-other ls g j (with_entry l e os) (has-number ls g l at) y) ∙ found) y
     go (Some l) at (Err x) memory (why, is) = same is own
       where
         own : (m : Log) → log_at ls g ≡ Some m → m.entries ≡ entries reading (and_then h g event) g
@@ -237,7 +237,7 @@ none-left g (c ∷ cs) = go (c.0 == g) refl (none-left g cs)
     go true y ih = ih
     go false y ih = rw y ih
 
-pub told-joined : (h : History) (ls : List Log) (config : Config) → AreJournalsOf h ls → log_at ls config.number ≡ None → AreJournalsOf (joined config h) (logs_with (record { config = config; entries = [] }) ls)
+pub told-joined : (h : History) (ls : List Log) (config : Config) → AreJournalsOf h ls → log_at ls config.number ≡ None → AreJournalsOf (with_new_network config h) (logs_with (record { config = config; entries = [] }) ls)
 unfolding journal
 told-joined h ls config told none = record { configs = configs-are; entries = λ j m found. each j m found (config.number == j) refl }
   where
@@ -247,17 +247,17 @@ told-joined h ls config told none = record { configs = configs-are; entries = λ
     configs-are : map (λ k. k.config) (logs_with l ls) ≡ configs_with config h.configs
     configs-are = with-configs ls l ∙ ap (configs_with config) told.configs
 
-    each : (j : ℕ) (m : Log) → log_at (logs_with l ls) j ≡ Some m → (b : Bool) → (config.number == j) ≡ b → m.entries ≡ entries reading (joined config h) j
+    each : (j : ℕ) (m : Log) → log_at (logs_with l ls) j ≡ Some m → (b : Bool) → (config.number == j) ≡ b → m.entries ≡ entries reading (with_new_network config h) j
     each j m found true y =
         let e : config.number ≡ j = eqb-true config.number j y in
         let q : l ≡ m = let z : Some l ≡ Some m = sym (with-own ls l none) ∙ ap (log_at (logs_with l ls)) e ∙ found in cc in
         sym (ap (λ (x : Log). x.entries) q)
-        ∙ ap (journal (new_net m.config)) (sym (none-left config.number h.calls) ∙ ap (λ n. steps_to n (steps_of reading (joined config h).calls)) e)
-        ∙ sym (history-journal (joined config h) (logs_with l ls) j m configs-are found)
+        ∙ ap (journal (new_net m.config)) (sym (none-left config.number h.calls) ∙ ap (λ n. steps_to n (steps_of reading (with_new_network config h).calls)) e)
+        ∙ sym (history-journal (with_new_network config h) (logs_with l ls) j m configs-are found)
     each j m found false y =
         let at : log_at ls j ≡ Some m = sym (with-other ls l j y) ∙ found in
         told.entries j m at ∙ history-journal h ls j m told.configs at ∙ ap (journal (new_net m.config)) (sym (others-left config.number j h.calls y))
-        ∙ sym (history-journal (joined config h) (logs_with l ls) j m configs-are found)
+        ∙ sym (history-journal (with_new_network config h) (logs_with l ls) j m configs-are found)
 
 -- ---- a journal more
 steps-both : (g : ℕ) (cs ds : List (ℕ × Step)) → steps_to g (cs ++ ds) ≡ steps_to g cs ++ steps_to g ds
@@ -291,13 +291,13 @@ none-own g j (c ∷ cs) other = go (c.0 == g) refl (none-own g j cs other)
     go false y ih = ih
 
 -- the steps of a network in the history of a host that takes a journal in
-adopted-steps : (c : Config) (own h : History) (j : ℕ) → steps_to j (steps_of reading (adopted c own h).calls)
+adopted-steps : (c : Config) (own h : History) (j : ℕ) → steps_to j (steps_of reading (with_history_of c own h).calls)
     ≡ steps_to j (steps_of reading (filter (λ x. not (x.0 == c.number)) h.calls)) ++ steps_to j (steps_of reading (filter (λ x. x.0 == c.number) own.calls))
 adopted-steps c own h j =
     ap (steps_to j) (map-append (λ (x : ℕ × Event). (x.0, step_of x.1)) (filter (λ x. not (x.0 == c.number)) h.calls) (filter (λ x. x.0 == c.number) own.calls))
     ∙ steps-both j (steps_of reading (filter (λ x. not (x.0 == c.number)) h.calls)) (steps_of reading (filter (λ x. x.0 == c.number) own.calls))
 
-pub told-adopted : (h own : History) (ls : List Log) (l : Log) → AreJournalsOf h ls → AreJournalsOf own (l ∷ []) → log_at ls l.config.number ≡ None → AreJournalsOf (adopted l.config own h) (logs_with l ls)
+pub told-adopted : (h own : History) (ls : List Log) (l : Log) → AreJournalsOf h ls → AreJournalsOf own (l ∷ []) → log_at ls l.config.number ≡ None → AreJournalsOf (with_history_of l.config own h) (logs_with l ls)
 told-adopted h own ls l told mine none = record { configs = configs-are; entries = λ j m found. each j m found (l.config.number == j) refl }
   where
     g : ℕ
@@ -309,18 +309,18 @@ told-adopted h own ls l told mine none = record { configs = configs-are; entries
     there : log_at (l ∷ []) g ≡ Some l
     there = rw (equal g g refl) refl
 
-    each : (j : ℕ) (m : Log) → log_at (logs_with l ls) j ≡ Some m → (b : Bool) → (g == j) ≡ b → m.entries ≡ entries reading (adopted l.config own h) j
+    each : (j : ℕ) (m : Log) → log_at (logs_with l ls) j ≡ Some m → (b : Bool) → (g == j) ≡ b → m.entries ≡ entries reading (with_history_of l.config own h) j
     each j m found true y =
         let e : g ≡ j = eqb-true g j y in
         let q : l ≡ m = let z : Some l ≡ Some m = sym (with-own ls l none) ∙ ap (log_at (logs_with l ls)) e ∙ found in cc in
         sym (ap (λ (x : Log). x.entries) q) ∙ mine.entries g l there ∙ history-journal own (l ∷ []) g l mine.configs there
         ∙ ap (journal (new_net l.config)) (sym (own-left g own.calls) ∙ ap (λ (xs : List Step). xs ++ steps_to g (steps_of reading (filter (λ x. x.0 == g) own.calls))) (sym (none-left g h.calls)) ∙ sym (adopted-steps l.config own h g))
-        ∙ ap (λ (x : Log). journal (new_net x.config) (steps_to g (steps_of reading (adopted l.config own h).calls))) q
-        ∙ ap (λ n. journal (new_net m.config) (steps_to n (steps_of reading (adopted l.config own h).calls))) e
-        ∙ sym (history-journal (adopted l.config own h) (logs_with l ls) j m configs-are found)
+        ∙ ap (λ (x : Log). journal (new_net x.config) (steps_to g (steps_of reading (with_history_of l.config own h).calls))) q
+        ∙ ap (λ n. journal (new_net m.config) (steps_to n (steps_of reading (with_history_of l.config own h).calls))) e
+        ∙ sym (history-journal (with_history_of l.config own h) (logs_with l ls) j m configs-are found)
     each j m found false y =
         let at : log_at ls j ≡ Some m = sym (with-other ls l j y) ∙ found in
         told.entries j m at ∙ history-journal h ls j m told.configs at
         ∙ ap (journal (new_net m.config)) (sym (others-left g j h.calls y) ∙ sym (append-nil (steps_to j (steps_of reading (filter (λ x. not (x.0 == g)) h.calls))))
         ∙ ap (λ (xs : List Step). steps_to j (steps_of reading (filter (λ x. not (x.0 == g)) h.calls)) ++ xs) (sym (none-own g j own.calls y)) ∙ sym (adopted-steps l.config own h j))
-        ∙ sym (history-journal (adopted l.config own h) (logs_with l ls) j m configs-are found)
+        ∙ sym (history-journal (with_history_of l.config own h) (logs_with l ls) j m configs-are found)

@@ -51,7 +51,7 @@ module _ (i u : ℕ) (q : Slices) where
   rests-effect now net (Opens j) free h = go (j == i) refl
     where
       slot : Slot
-      slot = record { number = j; instances = nodes_of_new_slot net.hosts j }
+      slot = record { number = j; instances = nodes_of_new_slot net.nodes j }
 
       go : (b : Bool) → (j == i) ≡ b → is_some (instances_at (net.slots ++ slot ∷ []) i) ≡ false → (if b then q else now) ≡ q
       go true y k = refl
@@ -101,17 +101,17 @@ closed-then config run i u q is closed =
 
 -- ---- as they are looked up
 -- those of the node at an open slot are its slices then
-pub open_then : (config : Config) (run : List Entry) (i u : ℕ) (now : Slices) → IsRun config run → Some now ≡ slices_at (state_of config run) i u → true ≡ (is_open (state_of config run) i && is_some (slices_of config.hosts u)) → Some now ≡ slices_then config.hosts i run u
-open_then config run i u now is there hosted = go (slices_of config.hosts u) (node_where_open (instances_at (state_of config run).slots i) u) refl refl there hosted
+pub open_then : (config : Config) (run : List Entry) (i u : ℕ) (now : Slices) → IsRun config run → Some now ≡ slices_at (state_of config run) i u → true ≡ (is_open (state_of config run) i && is_some (slices_of config.nodes u)) → Some now ≡ slices_then config.nodes i run u
+open_then config run i u now is there hosted = go (slices_of config.nodes u) (node_where_open (instances_at (state_of config run).slots i) u) refl refl there hosted
   where
-    go : (o : Option Slices) (p : Option Instance) → slices_of config.hosts u ≡ o → node_where_open (instances_at (state_of config run).slots i) u ≡ p → Some now ≡ option_map (λ x. x.node.slices) p → true ≡ (is_open (state_of config run) i && is_some o) → Some now ≡ option_map (λ q. slices_at_end i u q run) o
+    go : (o : Option Slices) (p : Option Instance) → slices_of config.nodes u ≡ o → node_where_open (instances_at (state_of config run).slots i) u ≡ p → Some now ≡ option_map (λ x. x.node.slices) p → true ≡ (is_open (state_of config run) i && is_some o) → Some now ≡ option_map (λ q. slices_at_end i u q run) o
     go None p a b c d = absurd (false≢true (and_parts (is_open (state_of config run) i) false (sym d)).1)
     go (Some q) None a b c d = absurd (cc)
     go (Some q) (Some p) a b c d = c ∙ ap (λ (s : Slices). Some s) (slices_follow_runs config run i u q p is a b)
 
 -- else they are the configured ones
-pub configured_then : (config : Config) (run : List Entry) (i u : ℕ) → IsRun config run → false ≡ (is_open (state_of config run) i && is_some (slices_of config.hosts u)) → slices_of config.hosts u ≡ slices_then config.hosts i run u
-configured_then config run i u is none = go (slices_of config.hosts u) none
+pub configured_then : (config : Config) (run : List Entry) (i u : ℕ) → IsRun config run → false ≡ (is_open (state_of config run) i && is_some (slices_of config.nodes u)) → slices_of config.nodes u ≡ slices_then config.nodes i run u
+configured_then config run i u is none = go (slices_of config.nodes u) none
   where
     closed : (b : Bool) → false ≡ (b && true) → b ≡ false
     closed true k = sym k

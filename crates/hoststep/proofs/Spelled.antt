@@ -13,9 +13,9 @@ use Rattle.protocol.specs.Networks.Step.{Delivers}
 use Rattle.network.specs.Answers.{delivered_of}
 use Rattle.network.specs.Decoding.{reading}
 use Rattle.network.proofs.Readings.{readings_are_exact}
-use Rattle.hoststep.specs.declared.host_place.HostPlace.{HostPlace}
+use Rattle.hoststep.specs.declared.node_place.NodePlace.{NodePlace}
 use Rattle.hoststep.specs.Boxing.{is_wide}
-use Rattle.hoststep.specs.Hosting.{IsHostAt, host_name}
+use Rattle.hoststep.specs.Hosting.{IsNodePlace, node_name}
 use Rattle.hoststep.specs.Keeping.{spelled_size}
 
 pub counted : (bytes : List ℕ) (e : Sent) → Spells bytes e → length bytes ≡ spelled_size e
@@ -30,17 +30,17 @@ spells bytes u e fits h = go (reading bytes) refl h
     go (Fault n) q k = absurd (cc)
 
 -- the bytes of an envelope are few
-pub few_bytes : (delivered : Option Filed) (f : Filed) (bytes : List ℕ) (u : HostPlace) (size : ℕ) → delivered ≡ Some f → option_map sent_of delivered ≡ delivered_of (Delivers (host_name u) (length bytes) (reading bytes)) → IsBytes bytes → size ≡ length bytes
+pub few_bytes : (delivered : Option Filed) (f : Filed) (bytes : List ℕ) (u : NodePlace) (size : ℕ) → delivered ≡ Some f → option_map sent_of delivered ≡ delivered_of (Delivers (node_name u) (length bytes) (reading bytes)) → IsBytes bytes → size ≡ length bytes
     → is_wide size ≡ false
 few_bytes delivered f bytes u size is from fits count =
-    let said = spells bytes (host_name u) (sent_of f) fits (sym (ap (option_map sent_of) is) ∙ from) in
+    let said = spells bytes (node_name u) (sent_of f) fits (sym (ap (option_map sent_of) is) ∙ from) in
     below (length bytes) size count (subst (λ n. n ≤ most_bytes) (ap length (sym said.text)) (spelling_is_short (sent_of f) said.envelope))
   where
     below : (n size : ℕ) → size ≡ n → n ≤ 65536 → is_wide size ≡ false
     below n size is h = grind (arith, nat_tests, is, h)
 
 -- a delivery as it is kept
-pub filed : (delivered : Option Filed) (f : Filed) (bytes : List ℕ) (u : HostPlace) (size : ℕ) → delivered ≡ Some f → option_map sent_of delivered ≡ delivered_of (Delivers (host_name u) (length bytes) (reading bytes)) → IsBytes bytes → size ≡ length bytes
-    → (hosts : List HostedNode) (archive : List Sent) → IsHostAt hosts u → IfSome delivered (IsFiled archive) → IsHostAt hosts u × IsFiled archive f × (size ≡ spelled_size (sent_of f))
-filed delivered f bytes u size is from fits count hosts archive there h =
-    (there, subst (λ (o : Option Filed). IfSome o (IsFiled archive)) is h, count ∙ counted bytes (sent_of f) (spells bytes (host_name u) (sent_of f) fits (sym (ap (option_map sent_of) is) ∙ from)))
+pub filed : (delivered : Option Filed) (f : Filed) (bytes : List ℕ) (u : NodePlace) (size : ℕ) → delivered ≡ Some f → option_map sent_of delivered ≡ delivered_of (Delivers (node_name u) (length bytes) (reading bytes)) → IsBytes bytes → size ≡ length bytes
+    → (nodes : List HostedNode) (archive : List Sent) → IsNodePlace nodes u → IfSome delivered (IsFiled archive) → IsNodePlace nodes u × IsFiled archive f × (size ≡ spelled_size (sent_of f))
+filed delivered f bytes u size is from fits count nodes archive there h =
+    (there, subst (λ (o : Option Filed). IfSome o (IsFiled archive)) is h, count ∙ counted bytes (sent_of f) (spells bytes (node_name u) (sent_of f) fits (sym (ap (option_map sent_of) is) ∙ from)))

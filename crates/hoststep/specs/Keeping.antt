@@ -11,7 +11,7 @@ use Rattle.envstore.specs.Archives.{IsFiled, sent_of}
 use Rattle.slot.specs.Filings.{AreFiledOuts, outs_of}
 use Rattle.protocol.specs.Sets.{IsAscending}
 use Rattle.network.specs.Decoding.{step_of}
-use Rattle.hoststep.specs.Hosting.{IsHostAt, host_name}
+use Rattle.hoststep.specs.Hosting.{IsNodePlace, node_name}
 use Rattle.hoststep.specs.Boxing.{is_large}
 use Rattle.hoststep.specs.Giving.{entry_number, kept_outs, listed_at}
 use Rattle.hoststep.specs.declared.kept.StoredEntry.{StoredEntry}
@@ -24,10 +24,10 @@ use Rattle.hoststep.specs.declared.kept.KeptEvent.TheVariants.{OpenSlot, CloseSl
 abbrev pub step_in : KeptEvent → Step
 step_in (OpenSlot i) = Opens i
 step_in (CloseSlot i) = Closes i
-step_in (Deliver u size f) = Delivers (host_name u) size (Read (sent_of f))
-step_in (Hear u from kind i k) = Hears i (host_name u) (host_name from) kind k
-step_in (NominationTimer u r i) = NominationTimerFires i (host_name u) r
-step_in (BallotTimer u n i) = BallotTimerFires i (host_name u) n
+step_in (Deliver u size f) = Delivers (node_name u) size (Read (sent_of f))
+step_in (Hear u from kind i k) = Hears i (node_name u) (node_name from) kind k
+step_in (NominationTimer u r i) = NominationTimerFires i (node_name u) r
+step_in (BallotTimer u n i) = BallotTimerFires i (node_name u) n
 step_in (Large b) = step_of (box_value b)
 
 abbrev pub entry_of : StoredEntry → Entry
@@ -42,16 +42,17 @@ IsReadable _ = ⊤
 unfoldable pub spelled_size : Sent → ℕ
 spelled_size e = length (spelling e)
 
--- the nodes stand at their places among the hosts; the archive has the envelope that was delivered, and as many bytes
--- came as its spelling has; what lies in a box is large
+-- the nodes stand at their places among the hosted ones; the archive has the envelope that was delivered, and as many
+-- bytes came as its spelling has; what lies in a box is large
 abbrev pub IsKeptEvent : List HostedNode → List Sent → KeptEvent → Type 0
-IsKeptEvent hosts archive (OpenSlot i) = ⊤
-IsKeptEvent hosts archive (CloseSlot i) = ⊤
-IsKeptEvent hosts archive (Deliver u size f) = IsHostAt hosts u × IsFiled archive f × (size ≡ spelled_size (sent_of f))
-IsKeptEvent hosts archive (Hear u from kind i k) = IsHostAt hosts u × IsHostAt hosts from
-IsKeptEvent hosts archive (NominationTimer u r i) = IsHostAt hosts u
-IsKeptEvent hosts archive (BallotTimer u n i) = IsHostAt hosts u
-IsKeptEvent hosts archive (Large b) = is_large (box_value b) ≡ true
+IsKeptEvent nodes archive (OpenSlot i) = ⊤
+IsKeptEvent nodes archive (CloseSlot i) = ⊤
+IsKeptEvent nodes archive (Deliver u size f) =
+    IsNodePlace nodes u × IsFiled archive f × (size ≡ spelled_size (sent_of f))
+IsKeptEvent nodes archive (Hear u from kind i k) = IsNodePlace nodes u × IsNodePlace nodes from
+IsKeptEvent nodes archive (NominationTimer u r i) = IsNodePlace nodes u
+IsKeptEvent nodes archive (BallotTimer u n i) = IsNodePlace nodes u
+IsKeptEvent nodes archive (Large b) = is_large (box_value b) ≡ true
 
 -- what each entry gave out is listed by its number: the lists ascend, and are of these entries
 pub record AreListed (lists : List EntryOuts) (xs : List StoredEntry) : Type 0 where
@@ -61,12 +62,12 @@ pub record AreListed (lists : List EntryOuts) (xs : List StoredEntry) : Type 0 w
 
 -- that of each entry; the archive has what was emitted, and what was given out is listed
 abbrev pub AreKept : List HostedNode → List Sent → List EntryOuts → List StoredEntry → Type 0
-AreKept hosts archive lists xs =
-    All (λ x. IsKeptEvent hosts archive x.event × AreFiledOuts archive (kept_outs x.outs)) xs × AreListed lists xs
+AreKept nodes archive lists xs =
+    All (λ x. IsKeptEvent nodes archive x.event × AreFiledOuts archive (kept_outs x.outs)) xs × AreListed lists xs
 
 -- an entry that is read in place
 abbrev pub lent_entry : LentEntry → Entry
 lent_entry x = record { event = step_in x.event.now; outs = outs_of x.outs.now }
 
 abbrev pub IsLentEntry : List HostedNode → List Sent → LentEntry → Type 0
-IsLentEntry hosts archive x = IsKeptEvent hosts archive x.event.now × AreFiledOuts archive x.outs.now
+IsLentEntry nodes archive x = IsKeptEvent nodes archive x.event.now × AreFiledOuts archive x.outs.now

@@ -24,8 +24,8 @@ pub record IsJournal (m : Machine) (entries : List Entry) : Type 0 where
   pub state : StandsFor m (state_of m.config entries)
 
 -- one entry more
-abbrev pub extended : Log → Step → List Out → Log
-extended l e os = record l { entries = l.entries ++ record { event = e; outs = os } ∷ [] }
+abbrev pub with_entry : Log → Step → List Out → Log
+with_entry l e os = record l { entries = l.entries ++ record { event = e; outs = os } ∷ [] }
 
 -- an event that is not refused after these entries, and what it gives out
 abbrev pub IsEntered : Log → Step → List Out → Type 0

@@ -10,7 +10,7 @@ use Rattle.protocol.specs.Networks.{Step}
 use Rattle.protocol.specs.Hosts.{Config, History, entries}
 use Rattle.configuration.specs.Configs.{index_in}
 use Rattle.network.specs.Decoding.{reading, step_of}
-use Rattle.hoststep.specs.Logs.{IsEntered, IsRefused, Log, extended}
+use Rattle.hoststep.specs.Logs.{IsEntered, IsRefused, Log, with_entry}
 use Rattle.hoststep.specs.declared.world.WorldError.{WorldError}
 use Rattle.hoststep.specs.declared.world.WorldError.TheVariants.{NetTwice, TooManyNets, NoMemory}
 
@@ -61,12 +61,13 @@ configs_with c [] = c ∷ []
 configs_with c (k ∷ ks) = if nat_lt k.number c.number then k ∷ configs_with c ks else c ∷ k ∷ ks
 
 -- a history where one more network is there from the start, without the events that named it
-abbrev pub joined : Config → History → History
-joined c h = record { configs = configs_with c h.configs; calls = filter (λ x. not (x.0 == c.number)) h.calls }
+abbrev pub with_new_network : Config → History → History
+with_new_network c h =
+    record { configs = configs_with c h.configs; calls = filter (λ x. not (x.0 == c.number)) h.calls }
 
 -- a history where one more network is there with what another history does to it, behind all else
-abbrev pub adopted : Config → History → History → History
-adopted c own h = record h {
+abbrev pub with_history_of : Config → History → History → History
+with_history_of c own h = record h {
   configs = configs_with c h.configs;
   calls = filter (λ x. not (x.0 == c.number)) h.calls ++ filter (λ x. x.0 == c.number) own.calls;
 }
@@ -80,7 +81,7 @@ pub record AreJournalsOf (h : History) (logs : List Log) : Type 0 where
 -- what an event of a network is answered, by the journal of the network
 abbrev pub IsAnsweredAt : Option Log → List Log → Step → Result (List Out) Refusal → List Log → Type 0
 IsAnsweredAt None old e r new = (r ≡ Err NoSuchNetwork) × (new ≡ old)
-IsAnsweredAt (Some l) old e (Ok os) new = IsEntered l e os × (new ≡ logs_set (extended l e os) old)
+IsAnsweredAt (Some l) old e (Ok os) new = IsEntered l e os × (new ≡ logs_set (with_entry l e os) old)
 IsAnsweredAt (Some l) old e (Err r) new = IsRefused l e r × (new ≡ old)
 
 abbrev pub items_of : Result (Vec Out Global) Refusal → Result (List Out) Refusal

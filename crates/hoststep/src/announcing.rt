@@ -15,7 +15,7 @@ use types::{Nested, NodeId};
 /// search; so are its slices at the end of the journal, since those at an open slot are the ones that the node
 /// there has, and else they are the configured ones.
 impl<S: Shelf> Announcements for Journal<S> {
-    ghost hosts = { λ j. j.config.hosts };
+    ghost nodes = { λ j. j.config.nodes };
 
     ghost entries = { λ j. j.entries };
 
@@ -56,12 +56,12 @@ impl<S: Shelf> Announcements for Journal<S> {
 
 /// The configured slices of a node, where it is hosted, by a binary search.
 fn configured_slices<'a>(config: &'a NetConfig, node: &NodeId) -> Option<&'a Nested>
-    ensures value { option_map (λ q. q.now) result ≡ slices_of config.now.hosts node.now }
-    ensures ascending { IsAscending (map (λ h. h.name) config.now.hosts) }
+    ensures value { option_map (λ q. q.now) result ≡ slices_of config.now.nodes node.now }
+    ensures ascending { IsAscending (map (λ h. h.name) config.now.nodes) }
 {
-    let hosts = config.hosts();
+    let nodes = config.nodes();
     match config.place(node) {
         None => None,
-        Some(place) => Some(hosts[place].slices()),
+        Some(place) => Some(nodes[place].slices()),
     }
 }

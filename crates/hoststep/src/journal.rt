@@ -5,7 +5,7 @@ ghost use Rattle.protocol.specs.Networks.{is_open, slices_of};
 ghost use Rattle.protocol.specs.Runs.{IsRun, state_of};
 ghost use Rattle.network.specs.Decoding.{step_of};
 ghost use Rattle.network.specs.Standing.{slices_at};
-ghost use Rattle.hoststep.specs.Logs.{IsEntered, IsEntryAt, IsRecorded, IsRefused, extended};
+ghost use Rattle.hoststep.specs.Logs.{IsEntered, IsEntryAt, IsRecorded, IsRefused, with_entry};
 ghost use Rattle.hoststep.specs.Entering.{IsEnteredWith, outs_after};
 ghost use Rattle.hoststep.specs.Lending.{lent_step, outs_at};
 ghost use Rattle.hoststep.specs.Deciding.{decided_by, decisions_at};
@@ -57,7 +57,7 @@ impl<S: Shelf> Model for Journal<S> {
 
     ghost view = { λ j. record { config = j.network.config; entries = map entry_of j.entries.items } };
 
-    ghost invariant = { λ j. IsJournal (machine_of j.network) (map entry_of j.entries.items) × AreKept j.network.config.hosts j.network.archive j.given.items j.entries.items };
+    ghost invariant = { λ j. IsJournal (machine_of j.network) (map entry_of j.entries.items) × AreKept j.network.config.nodes j.network.archive j.given.items j.entries.items };
 }
 
 impl<S: Shelf> Journal<S> {
@@ -106,7 +106,7 @@ impl<S: Shelf> Journal<S> {
     /// not open then, and where the node is not hosted. It takes no memory.
     pub(crate) fn slices_now(&self, slot: u64, node: &NodeId) -> Option<&Nested>
         ensures value { option_map (λ q. q.now) result ≡ slices_at (state_of self.now.config self.now.entries) slot node.now }
-        ensures there { is_some result ≡ (is_open (state_of self.now.config self.now.entries) slot && is_some (slices_of self.now.config.hosts node.now)) }
+        ensures there { is_some result ≡ (is_open (state_of self.now.config self.now.entries) slot && is_some (slices_of self.now.config.nodes node.now)) }
     {
         self.network.slices(slot, node)
     }
@@ -116,7 +116,7 @@ impl<S: Shelf> Journal<S> {
     /// An error is the first refusal that applies, or says that memory is short; the journal is as it was.
     pub fn apply(&mut self, event: Event) -> Result<Vec<Out>, Refusal>
         ensures ok { IfOk result (λ v. IsEntered self.old (step_of event) v.items) }
-        ensures entered { IfOk result (λ v. self.new ≡ extended self.old (step_of event) v.items) }
+        ensures entered { IfOk result (λ v. self.new ≡ with_entry self.old (step_of event) v.items) }
         ensures err { IfErr result (IsRefused self.old (step_of event)) }
         ensures same { OnErr result (self.new ≡ self.old) }
     {
@@ -128,7 +128,7 @@ impl<S: Shelf> Journal<S> {
     /// are named.
     pub fn apply_recorded(&mut self, event: Event) -> Result<Recorded, Refusal>
         ensures ok { IfOk result (λ r. IsEntered self.old (step_of event) r.outs.items) }
-        ensures entered { IfOk result (λ r. self.new ≡ extended self.old (step_of event) r.outs.items) }
+        ensures entered { IfOk result (λ r. self.new ≡ with_entry self.old (step_of event) r.outs.items) }
         ensures recorded { IfOk result (IsRecorded self.old event) }
         ensures err { IfErr result (IsRefused self.old (step_of event)) }
         ensures same { OnErr result (self.new ≡ self.old) }
@@ -153,7 +153,7 @@ impl<S: Shelf> Journal<S> {
     /// is as of [`Journal::apply`].
     fn enter(&mut self, event: Event, copies: usize) -> Result<Entered, Refusal>
         ensures ok { IfOk result (IsEnteredWith self.old (step_of event) copies) }
-        ensures entered { OnOk result (self.new ≡ extended self.old (step_of event) (outs_after self.old (step_of event))) }
+        ensures entered { OnOk result (self.new ≡ with_entry self.old (step_of event) (outs_after self.old (step_of event))) }
         ensures err { IfErr result (IsRefused self.old (step_of event)) }
         ensures same { OnErr result (self.new ≡ self.old) }
     {

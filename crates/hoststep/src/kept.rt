@@ -12,12 +12,12 @@ ghost use Rattle.slot.specs.Filings.{AreFiledOuts, IsFiledOut, out_of, outs_of};
 ghost use Rattle.types.specs.Statements.{Sent};
 ghost use Rattle.network.specs.Answers.{delivered_of};
 ghost use Rattle.network.specs.Decoding.{reading, step_of};
-ghost use Rattle.hoststep.specs.Hosting.{IsHostAt, NamesHosts, host_name};
+ghost use Rattle.hoststep.specs.Hosting.{IsNodePlace, NamesNodes, node_name};
 ghost use Rattle.hoststep.specs.Boxing.{HasBoxFor, is_large, is_wide};
 ghost use Rattle.hoststep.specs.Keeping.{AreKept, IsLentEntry, IsKeptEvent, IsReadable, entry_of, lent_entry, spelled_size, step_in};
 
 use crate::event_room::{EventRoom, is_large};
-use crate::host_place::HostPlace;
+use crate::node_place::NodePlace;
 use crate::outs_list::{EntryOuts, KeptOuts, outs_of_entry};
 use codec::encode;
 use configuration::NetConfig;
@@ -28,8 +28,8 @@ use std::alloc::{AllocError, Global};
 use types::{Bytes, Event, Kind, Out};
 
 /// An applied event, as it is kept: what was delivered lies in the archive of the network, nodes are named by
-/// their places among the hosts, and a large event lies in a box: sixteen bytes. Small fields come first, since fields
-/// lie as they are written here.
+/// their places among the hosted ones, and a large event lies in a box: sixteen bytes. Small fields come first, since
+/// fields lie as they are written here.
 #[derive(Drop)]
 pub(crate) enum KeptEvent {
     /// The slot was opened.
@@ -42,27 +42,27 @@ pub(crate) enum KeptEvent {
     },
     /// The envelope that the bytes were, and how many they were.
     Deliver {
-        node: HostPlace,
+        node: NodePlace,
         size: u32,
         envelope: Filed,
     },
     /// A hosted node heard from another one its emission of a kind with this number; neither it nor the slot is wide.
     Hear {
-        node: HostPlace,
-        from: HostPlace,
+        node: NodePlace,
+        from: NodePlace,
         kind: Kind,
         slot: u32,
         number: u32,
     },
     /// The nomination timer of this round fired.
     NominationTimer {
-        node: HostPlace,
+        node: NodePlace,
         round: u32,
         slot: u64,
     },
     /// The ballot timer for this counter fired.
     BallotTimer {
-        node: HostPlace,
+        node: NodePlace,
         counter: u32,
         slot: u64,
     },
@@ -91,9 +91,9 @@ pub(crate) fn entry_at<'a, S: Shelf>(
     entries: &'a Vec<StoredEntry>,
     number: usize,
 ) -> Option<LentEntry<'a>>
-    requires { AreKept network.now.config.hosts network.now.archive lists.now.items entries.now.items }
+    requires { AreKept network.now.config.nodes network.now.archive lists.now.items entries.now.items }
     ensures at { option_map lent_entry result ≡ option_map entry_of (slice_get entries.now.items number) }
-    ensures kept { IfSome result (IsLentEntry network.now.config.hosts network.now.archive) }
+    ensures kept { IfSome result (IsLentEntry network.now.config.nodes network.now.archive) }
 {
     match entries.get(number) {
         None => None,
@@ -113,11 +113,11 @@ pub(crate) fn kept_event(
     delivered: Option<Filed>,
 ) -> KeptEvent
     requires room { HasBoxFor event room.old }
-    requires hosted { NamesHosts config.now.hosts (step_of event) }
+    requires hosted { NamesNodes config.now.nodes (step_of event) }
     requires delivered { option_map sent_of delivered ≡ delivered_of (step_of event) }
     requires readable { IsReadable (step_of event) }
     ensures step { step_in result ≡ step_of event }
-    ensures filed { (archive : List Sent) → IfSome delivered (IsFiled archive) → IsKeptEvent config.now.hosts archive result }
+    ensures filed { (archive : List Sent) → IfSome delivered (IsFiled archive) → IsKeptEvent config.now.nodes archive result }
 {
     if is_large(&event) {
         return KeptEvent::Large(room.fill(event));
@@ -128,17 +128,17 @@ pub(crate) fn kept_event(
 /// An event that is not large, as it is kept.
 fn kept_small(config: &NetConfig, event: &Event, delivered: Option<Filed>) -> KeptEvent
     requires small { is_large event.now ≡ false }
-    requires hosted { NamesHosts config.now.hosts (step_of event.now) }
+    requires hosted { NamesNodes config.now.nodes (step_of event.now) }
     requires delivered { option_map sent_of delivered ≡ delivered_of (step_of event.now) }
     requires readable { IsReadable (step_of event.now) }
     ensures step { step_in result ≡ step_of event.now }
-    ensures filed { (archive : List Sent) → IfSome delivered (IsFiled archive) → IsKeptEvent config.now.hosts archive result }
+    ensures filed { (archive : List Sent) → IfSome delivered (IsFiled archive) → IsKeptEvent config.now.nodes archive result }
 {
     match event {
         Event::OpenSlot { slot } => KeptEvent::OpenSlot { slot: *slot },
         Event::CloseSlot { slot } => KeptEvent::CloseSlot { slot: *slot },
         Event::Deliver { node, bytes } => {
-            kept_delivery(HostPlace::of(config, node), bytes, delivered)
+            kept_delivery(NodePlace::of(config, node), bytes, delivered)
         }
         Event::Hear {
             slot,
@@ -147,14 +147,14 @@ fn kept_small(config: &NetConfig, event: &Event, delivered: Option<Filed>) -> Ke
             kind,
             number,
         } => KeptEvent::Hear {
-            node: HostPlace::of(config, node),
-            from: HostPlace::of(config, from),
+            node: NodePlace::of(config, node),
+            from: NodePlace::of(config, from),
             kind: *kind,
             slot: narrow(*slot),
             number: narrow(*number),
         },
         Event::NominationTimer { slot, node, round } => KeptEvent::NominationTimer {
-            node: HostPlace::of(config, node),
+            node: NodePlace::of(config, node),
             round: *round,
             slot: *slot,
         },
@@ -163,7 +163,7 @@ fn kept_small(config: &NetConfig, event: &Event, delivered: Option<Filed>) -> Ke
             node,
             counter,
         } => KeptEvent::BallotTimer {
-            node: HostPlace::of(config, node),
+            node: NodePlace::of(config, node),
             counter: *counter,
             slot: *slot,
         },
@@ -172,11 +172,11 @@ fn kept_small(config: &NetConfig, event: &Event, delivered: Option<Filed>) -> Ke
 }
 
 /// A delivery as it is kept, of bytes that are an envelope.
-fn kept_delivery(node: HostPlace, bytes: &Bytes, delivered: Option<Filed>) -> KeptEvent
-    requires delivered { option_map sent_of delivered ≡ delivered_of (Delivers (host_name node) (length bytes.now) (reading bytes.now)) }
-    requires readable { IsReadable (Delivers (host_name node) (length bytes.now) (reading bytes.now)) }
-    ensures step { step_in result ≡ Delivers (host_name node) (length bytes.now) (reading bytes.now) }
-    ensures filed { (hosts : List HostedNode) (archive : List Sent) → IsHostAt hosts node → IfSome delivered (IsFiled archive) → IsKeptEvent hosts archive result }
+fn kept_delivery(node: NodePlace, bytes: &Bytes, delivered: Option<Filed>) -> KeptEvent
+    requires delivered { option_map sent_of delivered ≡ delivered_of (Delivers (node_name node) (length bytes.now) (reading bytes.now)) }
+    requires readable { IsReadable (Delivers (node_name node) (length bytes.now) (reading bytes.now)) }
+    ensures step { step_in result ≡ Delivers (node_name node) (length bytes.now) (reading bytes.now) }
+    ensures filed { (nodes : List HostedNode) (archive : List Sent) → IsNodePlace nodes node → IfSome delivered (IsFiled archive) → IsKeptEvent nodes archive result }
 {
     let Some(envelope) = delivered else {
         unreachable!()
@@ -211,7 +211,7 @@ pub(crate) fn whole_event<S: Shelf>(
     network: &Network<S>,
     event: &KeptEvent,
 ) -> Result<Event, AllocError>
-    requires { IsKeptEvent network.now.config.hosts network.now.archive event.now }
+    requires { IsKeptEvent network.now.config.nodes network.now.archive event.now }
     ensures { IfOk result (λ e. step_of e ≡ step_in event.now) }
 {
     match event {

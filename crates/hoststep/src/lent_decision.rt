@@ -28,7 +28,7 @@ pub(crate) fn lent_decision<'a, S: Shelf>(
     event: &'a KeptEvent,
     outs: &'a [FiledOut],
 ) -> Option<LentDecision<'a>>
-    requires filed { IsKeptEvent network.now.config.hosts network.now.archive event.now }
+    requires filed { IsKeptEvent network.now.config.nodes network.now.archive event.now }
     requires once { length (values_in (outs_of outs.now)) ≤ 1 }
     ensures { option_to_list (option_map decided_by result) ≡ decided_at (slot_and_node_of (step_in event.now)) (values_in (outs_of outs.now)) }
 {
@@ -61,7 +61,7 @@ fn first_value(outs: &[FiledOut]) -> Option<&Value>
 
 /// The slot and the node of an event, where it is one of a node.
 fn slot_and_node_of<S: Shelf>(network: &Network<S>, event: &KeptEvent) -> Option<(u64, NodeId)>
-    requires { IsKeptEvent network.now.config.hosts network.now.archive event.now }
+    requires { IsKeptEvent network.now.config.nodes network.now.archive event.now }
     ensures { result ≡ slot_and_node_of (step_in event.now) }
 {
     let config = network.config();

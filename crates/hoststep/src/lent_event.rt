@@ -72,7 +72,7 @@ pub(crate) fn lent_event<'a, S: Shelf>(
     network: &'a Network<S>,
     event: &'a KeptEvent,
 ) -> LentEvent<'a>
-    requires { IsKeptEvent network.now.config.hosts network.now.archive event.now }
+    requires { IsKeptEvent network.now.config.nodes network.now.archive event.now }
     ensures { lent_step result ≡ step_in event.now }
 {
     match event {

@@ -9,12 +9,12 @@
 mod announcing;
 mod entered;
 mod event_room;
-mod host_place;
 mod journal;
 mod kept;
 mod lent_decision;
 mod lent_event;
 mod machine;
+mod node_place;
 mod outs_list;
 mod recorded;
 mod sizes;

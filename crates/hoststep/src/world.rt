@@ -3,7 +3,7 @@
 ghost use Rattle.std.specs.Prelude.{◌≡◌, ◌<◌, ◌≢◌, [], Err, IfErr, None, OnErr, OnOk, ◌∷◌, length, option_map};
 ghost use Rattle.protocol.specs.Hosts.{History};
 ghost use Rattle.types.specs.declared.event.Refusal.TheVariants.{NoMemory};
-ghost use Rattle.hoststep.specs.Worlds.{IsAnswered, IsNotAdded, IsPlaceOf, AreJournalsOf, adopted, and_then, joined, log_at, logs_with};
+ghost use Rattle.hoststep.specs.Worlds.{IsAnswered, IsNotAdded, IsPlaceOf, AreJournalsOf, with_history_of, and_then, with_new_network, log_at, logs_with};
 
 use crate::journal::Journal;
 use configuration::NetConfig;
@@ -79,7 +79,7 @@ impl<S: Shelf> World<S> {
         ensures fresh { OnOk result (log_at self.old config.number ≡ None) }
         ensures err { IfErr result (IsNotAdded self.old config.number) }
         ensures same { OnErr result (self.new ≡ self.old) }
-        ensures told { (h : History) → AreJournalsOf h self.old → OnOk result (AreJournalsOf (joined config h) self.new) }
+        ensures told { (h : History) → AreJournalsOf h self.old → OnOk result (AreJournalsOf (with_new_network config h) self.new) }
     {
         match self.join(Journal::new(self.alloc, config, shelf)) {
             Ok(()) => Ok(()),
@@ -100,7 +100,7 @@ impl<S: Shelf> World<S> {
         ensures fresh { OnOk result (log_at self.old journal.config.number ≡ None) }
         ensures back { IfErr result (λ j. j ≡ journal) }
         ensures same { OnErr result (self.new ≡ self.old) }
-        ensures told { (h own : History) → AreJournalsOf h self.old → AreJournalsOf own (journal ∷ []) → OnOk result (AreJournalsOf (adopted journal.config own h) self.new) }
+        ensures told { (h own : History) → AreJournalsOf h self.old → AreJournalsOf own (journal ∷ []) → OnOk result (AreJournalsOf (with_history_of journal.config own h) self.new) }
     {
         match self.join(journal) {
             Ok(()) => Ok(()),

@@ -11,7 +11,7 @@ use Rattle.types.specs.Statements.{Sent, kind_of}
 use Rattle.protocol.specs.Rows.{is_kind, is_row_of, row, with_row}
 use Rattle.protocol.proofs.Statements.Offers.{is_row_of-parts, is_row_of-alike}
 use Rattle.latest.specs.Senders.{with_name, senders}
-use Rattle.latest.specs.Places.{Places, place_by, place_of, places_of, index_of, ascends, found, noted, place_in, only_place, with_place}
+use Rattle.latest.specs.Places.{Places, place_by, place_of_row, places_of, index_of, ascends, place_in_index, index_with_place, place_in, only_place, with_place}
 
 -- ---- places in a list
 pub place-within : {X : Type 0} (p : X → Bool) (xs : List X) (i : ℕ) (d : X) → place_by p xs ≡ Some i → (i < length xs) × (find p xs ≡ Some (get_or xs i d)) × (p (get_or xs i d) ≡ true)
@@ -187,13 +187,13 @@ unfolding row
 senders-exactly rows u = senders-have rows u ∙ either rows u
 
 -- where no envelope is the sender's, there is no place
-no_place : (rows : List Sent) (u : ℕ) (k : Kind) → list_any (λ (e : Sent). e.sender == u) rows ≡ false → place_of rows u k ≡ None
+no_place : (rows : List Sent) (u : ℕ) (k : Kind) → list_any (λ (e : Sent). e.sender == u) rows ≡ false → place_of_row rows u k ≡ None
 no_place [] u k h = refl
 no_place (e ∷ es) u k h =
     let p = or_parts (e.sender == u) (list_any (λ (x : Sent). x.sender == u) es) h in
     ap₂ (λ b o. cond (b && is_kind k (kind_of e.body)) (Some 0) (option_map suc o)) p.0 (no_place es u k p.1)
 
-absent : (rows : List Sent) (u : ℕ) (k : Kind) → has_name (senders rows) u ≡ false → place_of rows u k ≡ None
+absent : (rows : List Sent) (u : ℕ) (k : Kind) → has_name (senders rows) u ≡ false → place_of_row rows u k ≡ None
 absent rows u k h = no_place rows u k (sym (senders-have rows u) ∙ h)
 
 -- ---- the index of rows
@@ -211,20 +211,20 @@ pub index-ascends : (rows : List Sent) → ascends (index_of rows) ≡ true
 unfolding index_of
 index-ascends rows = ascends-map rows (senders rows) (senders-rise rows)
 
-place_in-of : (rows : List Sent) (u : ℕ) (k : Kind) → place_in (places_of rows u) k ≡ place_of rows u k
+place_in-of : (rows : List Sent) (u : ℕ) (k : Kind) → place_in (places_of rows u) k ≡ place_of_row rows u k
 place_in-of rows u Nomination = refl
 place_in-of rows u Kind.Ballot = refl
 
-found-map : (rows : List Sent) (u : ℕ) (k : Kind) (ws : List ℕ) → (has_name ws u ≡ false → place_of rows u k ≡ None) → found (map (places_of rows) ws) u k ≡ place_of rows u k
+found-map : (rows : List Sent) (u : ℕ) (k : Kind) (ws : List ℕ) → (has_name ws u ≡ false → place_of_row rows u k ≡ None) → place_in_index (map (places_of rows) ws) u k ≡ place_of_row rows u k
 found-map rows u k [] h = sym (h refl)
 found-map rows u k (w ∷ ws) h = go (w == u) refl h (found-map rows u k ws)
   where
-    go : (b : Bool) → (w == u) ≡ b → ((b || has_name ws u) ≡ false → place_of rows u k ≡ None) → ((has_name ws u ≡ false → place_of rows u k ≡ None) → found (map (places_of rows) ws) u k ≡ place_of rows u k)
-        → (if b then place_in (places_of rows w) k else found (map (places_of rows) ws) u k) ≡ place_of rows u k
-    go true e f ih = place_in-of rows w k ∙ ap (λ v. place_of rows v k) (eqb-true w u e)
+    go : (b : Bool) → (w == u) ≡ b → ((b || has_name ws u) ≡ false → place_of_row rows u k ≡ None) → ((has_name ws u ≡ false → place_of_row rows u k ≡ None) → place_in_index (map (places_of rows) ws) u k ≡ place_of_row rows u k)
+        → (if b then place_in (places_of rows w) k else place_in_index (map (places_of rows) ws) u k) ≡ place_of_row rows u k
+    go true e f ih = place_in-of rows w k ∙ ap (λ v. place_of_row rows v k) (eqb-true w u e)
     go false e f ih = ih f
 
-pub found-index : (rows : List Sent) (u : ℕ) (k : Kind) → found (index_of rows) u k ≡ place_of rows u k
+pub found-index : (rows : List Sent) (u : ℕ) (k : Kind) → place_in_index (index_of rows) u k ≡ place_of_row rows u k
 unfolding index_of
 found-index rows u k = found-map rows u k (senders rows) (absent rows u k)
 
@@ -239,10 +239,10 @@ others rows e w n =
     (sym (place-past (is_row_of w Kind.Ballot) rows e (not_of e w Kind.Ballot n)))
 
 -- the sender's own places, where it had no row of this kind
-own : (rows : List Sent) (e : Sent) → place_of rows e.sender (kind_of e.body) ≡ None → with_place (places_of rows e.sender) (kind_of e.body) (length rows) ≡ places_of (rows ++ e ∷ []) e.sender
+own : (rows : List Sent) (e : Sent) → place_of_row rows e.sender (kind_of e.body) ≡ None → with_place (places_of rows e.sender) (kind_of e.body) (length rows) ≡ places_of (rows ++ e ∷ []) e.sender
 own rows e n = go (kind_of e.body) refl n
   where
-    go : (k : Kind) → kind_of e.body ≡ k → place_of rows e.sender k ≡ None → with_place (places_of rows e.sender) k (length rows) ≡ places_of (rows ++ e ∷ []) e.sender
+    go : (k : Kind) → kind_of e.body ≡ k → place_of_row rows e.sender k ≡ None → with_place (places_of rows e.sender) k (length rows) ≡ places_of (rows ++ e ∷ []) e.sender
     go Nomination h n =
         ap₂ (λ a b. let p : Places = record { sender = e.sender; nomination = a; ballot = b } in p)
         (sym (place-new (is_row_of e.sender Nomination) rows e (and_from (e.sender == e.sender) (is_kind Nomination (kind_of e.body)) (eq-eqb e.sender e.sender refl) (ap (is_kind Nomination) h)) n))
@@ -266,9 +266,9 @@ none_above u (w ∷ ws) h =
     let l : u < w = ltb-true u w p.0 in
     ap₂ (λ a b. a || b) (ne_eqb w u (λ q. omega arith)) (none_above u ws p.1)
 
-noted-map : (rows : List Sent) (e : Sent) → place_of rows e.sender (kind_of e.body) ≡ None → (ws : List ℕ) → rises ws ≡ true
+noted-map : (rows : List Sent) (e : Sent) → place_of_row rows e.sender (kind_of e.body) ≡ None → (ws : List ℕ) → rises ws ≡ true
     → (has_name ws e.sender ≡ false → only_place e.sender (kind_of e.body) (length rows) ≡ places_of (rows ++ e ∷ []) e.sender)
-    → noted (map (places_of rows) ws) e.sender (kind_of e.body) (length rows) ≡ map (places_of (rows ++ e ∷ [])) (with_name ws e.sender)
+    → index_with_place (map (places_of rows) ws) e.sender (kind_of e.body) (length rows) ≡ map (places_of (rows ++ e ∷ [])) (with_name ws e.sender)
 noted-map rows e n [] r h = ap (λ (x : Places). x ∷ []) (h refl)
 noted-map rows e n (w ∷ ws) r h =
     let p = and_parts (list_all (λ v. ltb w v) ws) (rises ws) r in
@@ -279,8 +279,8 @@ noted-map rows e n (w ∷ ws) r h =
 
     go : (a b : Bool) → ltb w e.sender ≡ a → (w == e.sender) ≡ b → list_all (λ v. ltb w v) ws ≡ true
         → ((b || has_name ws e.sender) ≡ false → only_place e.sender (kind_of e.body) (length rows) ≡ places_of (rows ++ e ∷ []) e.sender)
-        → ((has_name ws e.sender ≡ false → only_place e.sender (kind_of e.body) (length rows) ≡ places_of (rows ++ e ∷ []) e.sender) → noted (map (places_of rows) ws) e.sender (kind_of e.body) (length rows) ≡ map (places_of (rows ++ e ∷ [])) (with_name ws e.sender))
-        → (if a then places_of rows w ∷ noted (map (places_of rows) ws) e.sender (kind_of e.body) (length rows) else (if b then with_place (places_of rows w) (kind_of e.body) (length rows) ∷ map (places_of rows) ws else only_place e.sender (kind_of e.body) (length rows) ∷ places_of rows w ∷ map (places_of rows) ws))
+        → ((has_name ws e.sender ≡ false → only_place e.sender (kind_of e.body) (length rows) ≡ places_of (rows ++ e ∷ []) e.sender) → index_with_place (map (places_of rows) ws) e.sender (kind_of e.body) (length rows) ≡ map (places_of (rows ++ e ∷ [])) (with_name ws e.sender))
+        → (if a then places_of rows w ∷ index_with_place (map (places_of rows) ws) e.sender (kind_of e.body) (length rows) else (if b then with_place (places_of rows w) (kind_of e.body) (length rows) ∷ map (places_of rows) ws else only_place e.sender (kind_of e.body) (length rows) ∷ places_of rows w ∷ map (places_of rows) ws))
         ≡ map (places_of (rows ++ e ∷ [])) (if a then w ∷ with_name ws e.sender else (if b then w ∷ ws else e.sender ∷ w ∷ ws))
     go true true l q up h ih = let m : w < e.sender = ltb-true w e.sender l in let s : w ≡ e.sender = eqb-true w e.sender q in absurd (omega arith)
     go true false l q up h ih = let m : w < e.sender = ltb-true w e.sender l in ap₂ (λ (x : Places) xs. x ∷ xs) (others rows e w (λ s. omega arith)) (ih h)
@@ -297,12 +297,12 @@ noted-map rows e n (w ∷ ws) r h =
         ap₂ (λ (x : Places) xs. x ∷ xs) (h (none_above e.sender ws far)) (ap₂ (λ (x : Places) xs. x ∷ xs) (others rows e w d) (same_above rows e ws far))
 
 -- a sender's places where it has no row
-lone : (rows : List Sent) (e : Sent) → place_of rows e.sender (kind_of e.body) ≡ None → has_name (senders rows) e.sender ≡ false → only_place e.sender (kind_of e.body) (length rows) ≡ places_of (rows ++ e ∷ []) e.sender
+lone : (rows : List Sent) (e : Sent) → place_of_row rows e.sender (kind_of e.body) ≡ None → has_name (senders rows) e.sender ≡ false → only_place e.sender (kind_of e.body) (length rows) ≡ places_of (rows ++ e ∷ []) e.sender
 lone rows e n h =
     ap (λ (p : Places). with_place p (kind_of e.body) (length rows)) (ap₂ (λ a b. let p : Places = record { sender = e.sender; nomination = a; ballot = b } in p) (sym (absent rows e.sender Nomination h)) (sym (absent rows e.sender Kind.Ballot h)))
     ∙ own rows e n
 
-pub index-push : (rows : List Sent) (e : Sent) → place_of rows e.sender (kind_of e.body) ≡ None → noted (index_of rows) e.sender (kind_of e.body) (length rows) ≡ index_of (rows ++ e ∷ [])
+pub index-push : (rows : List Sent) (e : Sent) → place_of_row rows e.sender (kind_of e.body) ≡ None → index_with_place (index_of rows) e.sender (kind_of e.body) (length rows) ≡ index_of (rows ++ e ∷ [])
 unfolding index_of senders
 index-push rows e n =
     noted-map rows e n (senders rows) (senders-rise rows) (lone rows e n)
@@ -329,22 +329,22 @@ index-set rows i e d h =
     (place-set (is_row_of w Kind.Ballot) rows i e d (is_row_of-alike w Kind.Ballot (get_or rows i d) e h))) (senders rows)
 
 -- ---- a table with a row, by its place
-pub with_row-set : (rows : List Sent) (e : Sent) (i : ℕ) → place_of rows e.sender (kind_of e.body) ≡ Some i → with_row e rows ≡ set rows i e
+pub with_row-set : (rows : List Sent) (e : Sent) (i : ℕ) → place_of_row rows e.sender (kind_of e.body) ≡ Some i → with_row e rows ≡ set rows i e
 unfolding with_row
 with_row-set [] e i h = cc
-with_row-set (x ∷ xs) e i h = go (is_row_of e.sender (kind_of e.body) x) (place_of xs e.sender (kind_of e.body)) refl h (with_row-set xs e)
+with_row-set (x ∷ xs) e i h = go (is_row_of e.sender (kind_of e.body) x) (place_of_row xs e.sender (kind_of e.body)) refl h (with_row-set xs e)
   where
-    go : (b : Bool) (o : Option ℕ) → place_of xs e.sender (kind_of e.body) ≡ o → cond b (Some 0) (option_map suc o) ≡ Some i → ((j : ℕ) → place_of xs e.sender (kind_of e.body) ≡ Some j → with_row e xs ≡ set xs j e) → (if b then e ∷ xs else x ∷ with_row e xs) ≡ set (x ∷ xs) i e
+    go : (b : Bool) (o : Option ℕ) → place_of_row xs e.sender (kind_of e.body) ≡ o → cond b (Some 0) (option_map suc o) ≡ Some i → ((j : ℕ) → place_of_row xs e.sender (kind_of e.body) ≡ Some j → with_row e xs ≡ set xs j e) → (if b then e ∷ xs else x ∷ with_row e xs) ≡ set (x ∷ xs) i e
     go true o f g ih = let z : 0 ≡ i = cc in subst (λ j. e ∷ xs ≡ set (x ∷ xs) j e) z refl
     go false None f g ih = cc
     go false (Some j) f g ih = let z : suc j ≡ i = cc in subst (λ k. x ∷ with_row e xs ≡ set (x ∷ xs) k e) z (ap (λ ys. x ∷ ys) (ih j f))
 
-pub with_row-push : (rows : List Sent) (e : Sent) → place_of rows e.sender (kind_of e.body) ≡ None → with_row e rows ≡ rows ++ e ∷ []
+pub with_row-push : (rows : List Sent) (e : Sent) → place_of_row rows e.sender (kind_of e.body) ≡ None → with_row e rows ≡ rows ++ e ∷ []
 unfolding with_row
 with_row-push [] e h = refl
-with_row-push (x ∷ xs) e h = go (is_row_of e.sender (kind_of e.body) x) (place_of xs e.sender (kind_of e.body)) refl h (with_row-push xs e)
+with_row-push (x ∷ xs) e h = go (is_row_of e.sender (kind_of e.body) x) (place_of_row xs e.sender (kind_of e.body)) refl h (with_row-push xs e)
   where
-    go : (b : Bool) (o : Option ℕ) → place_of xs e.sender (kind_of e.body) ≡ o → cond b (Some 0) (option_map suc o) ≡ None → (place_of xs e.sender (kind_of e.body) ≡ None → with_row e xs ≡ xs ++ e ∷ []) → (if b then e ∷ xs else x ∷ with_row e xs) ≡ (x ∷ xs) ++ e ∷ []
+    go : (b : Bool) (o : Option ℕ) → place_of_row xs e.sender (kind_of e.body) ≡ o → cond b (Some 0) (option_map suc o) ≡ None → (place_of_row xs e.sender (kind_of e.body) ≡ None → with_row e xs ≡ xs ++ e ∷ []) → (if b then e ∷ xs else x ∷ with_row e xs) ≡ (x ∷ xs) ++ e ∷ []
     go true o f g ih = cc
     go false None f g ih = ap (λ ys. x ∷ ys) (ih f)
     go false (Some j) f g ih = cc

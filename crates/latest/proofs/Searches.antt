@@ -14,7 +14,7 @@ use Rattle.types.proofs.NameOrder.{name_cmp_is}
 use Rattle.types.specs.declared.kind.Kind.{Kind}
 use Rattle.types.specs.declared.kind.Kind.TheVariants.{Nomination}
 use Rattle.latest.specs.declared.places.RowPlaces.{RowPlaces}
-use Rattle.latest.specs.Places.{Places, ascends, forgotten, found, found_places, is_vacant, listed, noted, of_sender, only_place, place_in, with_place, without_place}
+use Rattle.latest.specs.Places.{Places, ascends, index_without_place, place_in_index, places_in_index, is_vacant, index_of_entries, index_with_place, of_sender, only_place, place_in, with_place, without_place}
 
 -- ---- the order of names
 pub cmps : ord.cmp ≡ nat_cmp
@@ -33,12 +33,12 @@ at-is : (e u : ℕ) → is_at (nat_cmp u) e ≡ (e == u)
 at-is e u = grind (arith, nat_tests)
 
 -- ---- found
-pub place-found : (ps : List Places) (u : ℕ) (k : Kind) → place_in (found_places ps u) k ≡ found ps u k
+pub place-found : (ps : List Places) (u : ℕ) (k : Kind) → place_in (places_in_index ps u) k ≡ place_in_index ps u k
 place-found [] u Nomination = refl
 place-found [] u Kind.Ballot = refl
 place-found (p ∷ ps) u k = go (p.sender == u) (place-found ps u k)
   where
-    go : (b : Bool) → place_in (found_places ps u) k ≡ found ps u k → place_in (if b then p else found_places ps u) k ≡ (if b then place_in p k else found ps u k)
+    go : (b : Bool) → place_in (places_in_index ps u) k ≡ place_in_index ps u k → place_in (if b then p else places_in_index ps u) k ≡ (if b then place_in p k else place_in_index ps u k)
     go true ih = refl
     go false ih = ih
 
@@ -46,29 +46,29 @@ place-found (p ∷ ps) u k = go (p.sender == u) (place-found ps u k)
 abbrev pub no_places : ℕ → Places
 no_places u = record { sender = u; nomination = None; ballot = None }
 
-pub got : (es : List (ℕ × RowPlaces)) (u : ℕ) (p : RowPlaces) → lookup (is_at (nat_cmp u)) es ≡ Some p → of_sender u p ≡ found_places (listed es) u
+pub got : (es : List (ℕ × RowPlaces)) (u : ℕ) (p : RowPlaces) → lookup (is_at (nat_cmp u)) es ≡ Some p → of_sender u p ≡ places_in_index (index_of_entries es) u
 got [] u p h = cc
 got (e ∷ es) u p h = go (e.0 == u) refl (ap (λ b. cond b (Some e.1) (lookup (is_at (nat_cmp u)) es)) (sym (at-is e.0 u)) ∙ h) (got es u p)
   where
-    go : (b : Bool) → (e.0 == u) ≡ b → cond b (Some e.1) (lookup (is_at (nat_cmp u)) es) ≡ Some p → (lookup (is_at (nat_cmp u)) es ≡ Some p → of_sender u p ≡ found_places (listed es) u) → of_sender u p ≡ (if b then of_sender e.0 e.1 else found_places (listed es) u)
+    go : (b : Bool) → (e.0 == u) ≡ b → cond b (Some e.1) (lookup (is_at (nat_cmp u)) es) ≡ Some p → (lookup (is_at (nat_cmp u)) es ≡ Some p → of_sender u p ≡ places_in_index (index_of_entries es) u) → of_sender u p ≡ (if b then of_sender e.0 e.1 else places_in_index (index_of_entries es) u)
     go true q h ih = let s : e.1 ≡ p = cc in ap₂ of_sender (sym (eqb-true e.0 u q)) (sym s)
     go false q h ih = ih h
 
-pub absent : (es : List (ℕ × RowPlaces)) (u : ℕ) → lookup (is_at (nat_cmp u)) es ≡ None → found_places (listed es) u ≡ no_places u
+pub absent : (es : List (ℕ × RowPlaces)) (u : ℕ) → lookup (is_at (nat_cmp u)) es ≡ None → places_in_index (index_of_entries es) u ≡ no_places u
 absent [] u h = refl
 absent (e ∷ es) u h = go (e.0 == u) (ap (λ b. cond b (Some e.1) (lookup (is_at (nat_cmp u)) es)) (sym (at-is e.0 u)) ∙ h) (absent es u)
   where
-    go : (b : Bool) → cond b (Some e.1) (lookup (is_at (nat_cmp u)) es) ≡ None → (lookup (is_at (nat_cmp u)) es ≡ None → found_places (listed es) u ≡ no_places u) → (if b then of_sender e.0 e.1 else found_places (listed es) u) ≡ no_places u
+    go : (b : Bool) → cond b (Some e.1) (lookup (is_at (nat_cmp u)) es) ≡ None → (lookup (is_at (nat_cmp u)) es ≡ None → places_in_index (index_of_entries es) u ≡ no_places u) → (if b then of_sender e.0 e.1 else places_in_index (index_of_entries es) u) ≡ no_places u
     go true h ih = cc
     go false h ih = ih h
 
 -- a sender below all others is not among them
-above-nowhere : (u : ℕ) (ps : List Places) → list_all (λ q. ltb u q.sender) ps ≡ true → found_places ps u ≡ no_places u
+above-nowhere : (u : ℕ) (ps : List Places) → list_all (λ q. ltb u q.sender) ps ≡ true → places_in_index ps u ≡ no_places u
 above-nowhere u [] h = refl
 above-nowhere u (p ∷ ps) h =
     let a = and_parts (ltb u p.sender) (list_all (λ q. ltb u q.sender) ps) h in
     let l : u < p.sender = ltb-true u p.sender a.0 in
-    ap (λ b. if b then p else found_places ps u) (ne_eqb p.sender u (λ e. omega arith)) ∙ above-nowhere u ps a.1
+    ap (λ b. if b then p else places_in_index ps u) (ne_eqb p.sender u (λ e. omega arith)) ∙ above-nowhere u ps a.1
 
 above-further : (u w : ℕ) → u < w → (ps : List Places) → list_all (λ q. ltb w q.sender) ps ≡ true → list_all (λ q. ltb u q.sender) ps ≡ true
 above-further u w l [] h = refl
@@ -77,7 +77,7 @@ above-further u w l (p ∷ ps) h =
     let m : w < p.sender = ltb-true w p.sender a.0 in
     and_from (ltb u p.sender) (list_all (λ q. ltb u q.sender) ps) (lt-ltb u p.sender (omega arith)) (above-further u w l ps a.1)
 
-between-nowhere : (p : Places) (ps : List Places) (u : ℕ) → ltb p.sender u ≡ false → (p.sender == u) ≡ false → list_all (λ q. ltb p.sender q.sender) ps ≡ true → found_places ps u ≡ no_places u
+between-nowhere : (p : Places) (ps : List Places) (u : ℕ) → ltb p.sender u ≡ false → (p.sender == u) ≡ false → list_all (λ q. ltb p.sender q.sender) ps ≡ true → places_in_index ps u ≡ no_places u
 between-nowhere p ps u l n h =
     let m : u < p.sender = grind (arith, nat_tests) in above-nowhere u ps (above-further u p.sender m ps h)
 
@@ -86,118 +86,118 @@ vacant-none : (u : ℕ) (k : Kind) → is_vacant (without_place (no_places u) k)
 vacant-none u Nomination = refl
 vacant-none u Kind.Ballot = refl
 
-pub absent-vacant : (es : List (ℕ × RowPlaces)) (u : ℕ) (k : Kind) → lookup (is_at (nat_cmp u)) es ≡ None → is_vacant (without_place (found_places (listed es) u) k) ≡ true
+pub absent-vacant : (es : List (ℕ × RowPlaces)) (u : ℕ) (k : Kind) → lookup (is_at (nat_cmp u)) es ≡ None → is_vacant (without_place (places_in_index (index_of_entries es) u) k) ≡ true
 absent-vacant es u k h = ap (λ p. is_vacant (without_place p k)) (absent es u h) ∙ vacant-none u k
 
 -- ---- put
 -- the entries with one put, as they are listed, by where its key is
-put-below : (e : ℕ × RowPlaces) (es : List (ℕ × RowPlaces)) (u : ℕ) (p : RowPlaces) → ltb e.0 u ≡ true → listed (insert_entry nat_cmp (e ∷ es) u p) ≡ of_sender e.0 e.1 ∷ listed (insert_entry nat_cmp es u p)
-put-below e es u p l = ap (λ c. listed (match_ordering c ((u, p) ∷ e ∷ es) ((e.0, p) ∷ es) (e ∷ insert_entry nat_cmp es u p))) (cmp-below e.0 u l)
+put-below : (e : ℕ × RowPlaces) (es : List (ℕ × RowPlaces)) (u : ℕ) (p : RowPlaces) → ltb e.0 u ≡ true → index_of_entries (insert_entry nat_cmp (e ∷ es) u p) ≡ of_sender e.0 e.1 ∷ index_of_entries (insert_entry nat_cmp es u p)
+put-below e es u p l = ap (λ c. index_of_entries (match_ordering c ((u, p) ∷ e ∷ es) ((e.0, p) ∷ es) (e ∷ insert_entry nat_cmp es u p))) (cmp-below e.0 u l)
 
-put-same : (e : ℕ × RowPlaces) (es : List (ℕ × RowPlaces)) (u : ℕ) (p : RowPlaces) → (e.0 == u) ≡ true → listed (insert_entry nat_cmp (e ∷ es) u p) ≡ of_sender u p ∷ listed es
+put-same : (e : ℕ × RowPlaces) (es : List (ℕ × RowPlaces)) (u : ℕ) (p : RowPlaces) → (e.0 == u) ≡ true → index_of_entries (insert_entry nat_cmp (e ∷ es) u p) ≡ of_sender u p ∷ index_of_entries es
 put-same e es u p q =
-    ap (λ c. listed (match_ordering c ((u, p) ∷ e ∷ es) ((e.0, p) ∷ es) (e ∷ insert_entry nat_cmp es u p))) (cmp-same e.0 u q)
-    ∙ ap (λ w. of_sender w p ∷ listed es) (eqb-true e.0 u q)
+    ap (λ c. index_of_entries (match_ordering c ((u, p) ∷ e ∷ es) ((e.0, p) ∷ es) (e ∷ insert_entry nat_cmp es u p))) (cmp-same e.0 u q)
+    ∙ ap (λ w. of_sender w p ∷ index_of_entries es) (eqb-true e.0 u q)
 
-put-above : (e : ℕ × RowPlaces) (es : List (ℕ × RowPlaces)) (u : ℕ) (p : RowPlaces) → ltb e.0 u ≡ false → (e.0 == u) ≡ false → listed (insert_entry nat_cmp (e ∷ es) u p) ≡ of_sender u p ∷ listed (e ∷ es)
-put-above e es u p l n = ap (λ c. listed (match_ordering c ((u, p) ∷ e ∷ es) ((e.0, p) ∷ es) (e ∷ insert_entry nat_cmp es u p))) (cmp-above e.0 u l n)
+put-above : (e : ℕ × RowPlaces) (es : List (ℕ × RowPlaces)) (u : ℕ) (p : RowPlaces) → ltb e.0 u ≡ false → (e.0 == u) ≡ false → index_of_entries (insert_entry nat_cmp (e ∷ es) u p) ≡ of_sender u p ∷ index_of_entries (e ∷ es)
+put-above e es u p l n = ap (λ c. index_of_entries (match_ordering c ((u, p) ∷ e ∷ es) ((e.0, p) ∷ es) (e ∷ insert_entry nat_cmp es u p))) (cmp-above e.0 u l n)
 
 below-other : (e u : ℕ) → ltb e u ≡ true → (e == u) ≡ false
 below-other e u h = grind (arith, nat_tests)
 
-pub noted-put : (es : List (ℕ × RowPlaces)) (u : ℕ) (k : Kind) (n : ℕ) (p : RowPlaces) → ascends (listed es) ≡ true → of_sender u p ≡ with_place (found_places (listed es) u) k n → listed (insert_entry nat_cmp es u p) ≡ noted (listed es) u k n
+pub noted-put : (es : List (ℕ × RowPlaces)) (u : ℕ) (k : Kind) (n : ℕ) (p : RowPlaces) → ascends (index_of_entries es) ≡ true → of_sender u p ≡ with_place (places_in_index (index_of_entries es) u) k n → index_of_entries (insert_entry nat_cmp es u p) ≡ index_with_place (index_of_entries es) u k n
 noted-put [] u k n p a h = ap (λ (q : Places). q ∷ []) h
 noted-put (e ∷ es) u k n p a h =
-    let parts = and_parts (list_all (λ q. ltb e.0 q.sender) (listed es)) (ascends (listed es)) a in
+    let parts = and_parts (list_all (λ q. ltb e.0 q.sender) (index_of_entries es)) (ascends (index_of_entries es)) a in
     go (ltb e.0 u) (e.0 == u) refl refl parts.0 h (noted-put es u k n p parts.1)
   where
     first : Places
     first = of_sender e.0 e.1
 
-    go : (b c : Bool) → ltb e.0 u ≡ b → (e.0 == u) ≡ c → list_all (λ q. ltb e.0 q.sender) (listed es) ≡ true → of_sender u p ≡ with_place (if c then first else found_places (listed es) u) k n
-        → (of_sender u p ≡ with_place (found_places (listed es) u) k n → listed (insert_entry nat_cmp es u p) ≡ noted (listed es) u k n)
-        → listed (insert_entry nat_cmp (e ∷ es) u p) ≡ (if b then first ∷ noted (listed es) u k n else (if c then with_place first k n ∷ listed es else only_place u k n ∷ first ∷ listed es))
+    go : (b c : Bool) → ltb e.0 u ≡ b → (e.0 == u) ≡ c → list_all (λ q. ltb e.0 q.sender) (index_of_entries es) ≡ true → of_sender u p ≡ with_place (if c then first else places_in_index (index_of_entries es) u) k n
+        → (of_sender u p ≡ with_place (places_in_index (index_of_entries es) u) k n → index_of_entries (insert_entry nat_cmp es u p) ≡ index_with_place (index_of_entries es) u k n)
+        → index_of_entries (insert_entry nat_cmp (e ∷ es) u p) ≡ (if b then first ∷ index_with_place (index_of_entries es) u k n else (if c then with_place first k n ∷ index_of_entries es else only_place u k n ∷ first ∷ index_of_entries es))
     go true true l q up h ih = absurd (false≢true (sym (below-other e.0 u l) ∙ q))
     go true false l q up h ih = put-below e es u p l ∙ ap (λ (ps : List Places). first ∷ ps) (ih h)
-    go false true l q up h ih = put-same e es u p q ∙ ap (λ (x : Places). x ∷ listed es) h
-    go false false l q up h ih = put-above e es u p l q ∙ ap (λ (x : Places). x ∷ first ∷ listed es) (h ∙ ap (λ x. with_place x k n) (between-nowhere first (listed es) u l q up))
+    go false true l q up h ih = put-same e es u p q ∙ ap (λ (x : Places). x ∷ index_of_entries es) h
+    go false false l q up h ih = put-above e es u p l q ∙ ap (λ (x : Places). x ∷ first ∷ index_of_entries es) (h ∙ ap (λ x. with_place x k n) (between-nowhere first (index_of_entries es) u l q up))
 
-pub forgotten-put : (es : List (ℕ × RowPlaces)) (u : ℕ) (k : Kind) (p : RowPlaces) → ascends (listed es) ≡ true → of_sender u p ≡ without_place (found_places (listed es) u) k → is_vacant (of_sender u p) ≡ false → listed (insert_entry nat_cmp es u p) ≡ forgotten (listed es) u k
+pub forgotten-put : (es : List (ℕ × RowPlaces)) (u : ℕ) (k : Kind) (p : RowPlaces) → ascends (index_of_entries es) ≡ true → of_sender u p ≡ without_place (places_in_index (index_of_entries es) u) k → is_vacant (of_sender u p) ≡ false → index_of_entries (insert_entry nat_cmp es u p) ≡ index_without_place (index_of_entries es) u k
 forgotten-put [] u k p a h v = absurd (false≢true (sym v ∙ (ap is_vacant h ∙ vacant-none u k)))
 forgotten-put (e ∷ es) u k p a h v =
-    let parts = and_parts (list_all (λ q. ltb e.0 q.sender) (listed es)) (ascends (listed es)) a in
+    let parts = and_parts (list_all (λ q. ltb e.0 q.sender) (index_of_entries es)) (ascends (index_of_entries es)) a in
     go (ltb e.0 u) (e.0 == u) refl refl parts.0 h (λ i. forgotten-put es u k p parts.1 i v)
   where
     first : Places
     first = of_sender e.0 e.1
 
-    go : (b c : Bool) → ltb e.0 u ≡ b → (e.0 == u) ≡ c → list_all (λ q. ltb e.0 q.sender) (listed es) ≡ true → of_sender u p ≡ without_place (if c then first else found_places (listed es) u) k
-        → (of_sender u p ≡ without_place (found_places (listed es) u) k → listed (insert_entry nat_cmp es u p) ≡ forgotten (listed es) u k)
-        → listed (insert_entry nat_cmp (e ∷ es) u p) ≡ (if c then (if is_vacant (without_place first k) then listed es else without_place first k ∷ listed es) else first ∷ forgotten (listed es) u k)
+    go : (b c : Bool) → ltb e.0 u ≡ b → (e.0 == u) ≡ c → list_all (λ q. ltb e.0 q.sender) (index_of_entries es) ≡ true → of_sender u p ≡ without_place (if c then first else places_in_index (index_of_entries es) u) k
+        → (of_sender u p ≡ without_place (places_in_index (index_of_entries es) u) k → index_of_entries (insert_entry nat_cmp es u p) ≡ index_without_place (index_of_entries es) u k)
+        → index_of_entries (insert_entry nat_cmp (e ∷ es) u p) ≡ (if c then (if is_vacant (without_place first k) then index_of_entries es else without_place first k ∷ index_of_entries es) else first ∷ index_without_place (index_of_entries es) u k)
     go true true l q up h ih = absurd (false≢true (sym (below-other e.0 u l) ∙ q))
     go true false l q up h ih = put-below e es u p l ∙ ap (λ (ps : List Places). first ∷ ps) (ih h)
     go false true l q up h ih =
         put-same e es u p q
-        ∙ (ap (λ (x : Places). x ∷ listed es) h
-        ∙ ap (λ b. if b then listed es else without_place first k ∷ listed es) (sym (ap is_vacant (sym h) ∙ v)))
-    go false false l q up h ih = absurd (false≢true (sym v ∙ (ap is_vacant h ∙ (ap (λ x. is_vacant (without_place x k)) (between-nowhere first (listed es) u l q up) ∙ vacant-none u k))))
+        ∙ (ap (λ (x : Places). x ∷ index_of_entries es) h
+        ∙ ap (λ b. if b then index_of_entries es else without_place first k ∷ index_of_entries es) (sym (ap is_vacant (sym h) ∙ v)))
+    go false false l q up h ih = absurd (false≢true (sym v ∙ (ap is_vacant h ∙ (ap (λ x. is_vacant (without_place x k)) (between-nowhere first (index_of_entries es) u l q up) ∙ vacant-none u k))))
 
 -- ---- removed
-pub forgotten-removed : (es : List (ℕ × RowPlaces)) (u : ℕ) (k : Kind) → is_vacant (without_place (found_places (listed es) u) k) ≡ true → listed (remove_entry (is_at (nat_cmp u)) es) ≡ forgotten (listed es) u k
+pub forgotten-removed : (es : List (ℕ × RowPlaces)) (u : ℕ) (k : Kind) → is_vacant (without_place (places_in_index (index_of_entries es) u) k) ≡ true → index_of_entries (remove_entry (is_at (nat_cmp u)) es) ≡ index_without_place (index_of_entries es) u k
 forgotten-removed [] u k v = refl
 forgotten-removed (e ∷ es) u k v =
-    ap (λ b. listed (cond b es (e ∷ remove_entry (is_at (nat_cmp u)) es))) (at-is e.0 u) ∙ go (e.0 == u) v (forgotten-removed es u k)
+    ap (λ b. index_of_entries (cond b es (e ∷ remove_entry (is_at (nat_cmp u)) es))) (at-is e.0 u) ∙ go (e.0 == u) v (forgotten-removed es u k)
   where
     first : Places
     first = of_sender e.0 e.1
 
-    go : (c : Bool) → is_vacant (without_place (if c then first else found_places (listed es) u) k) ≡ true
-        → (is_vacant (without_place (found_places (listed es) u) k) ≡ true → listed (remove_entry (is_at (nat_cmp u)) es) ≡ forgotten (listed es) u k)
-        → listed (cond c es (e ∷ remove_entry (is_at (nat_cmp u)) es)) ≡ (if c then (if is_vacant (without_place first k) then listed es else without_place first k ∷ listed es) else first ∷ forgotten (listed es) u k)
-    go true v ih = ap (λ b. if b then listed es else without_place first k ∷ listed es) (sym v)
+    go : (c : Bool) → is_vacant (without_place (if c then first else places_in_index (index_of_entries es) u) k) ≡ true
+        → (is_vacant (without_place (places_in_index (index_of_entries es) u) k) ≡ true → index_of_entries (remove_entry (is_at (nat_cmp u)) es) ≡ index_without_place (index_of_entries es) u k)
+        → index_of_entries (cond c es (e ∷ remove_entry (is_at (nat_cmp u)) es)) ≡ (if c then (if is_vacant (without_place first k) then index_of_entries es else without_place first k ∷ index_of_entries es) else first ∷ index_without_place (index_of_entries es) u k)
+    go true v ih = ap (λ b. if b then index_of_entries es else without_place first k ∷ index_of_entries es) (sym v)
     go false v ih = ap (λ (ps : List Places). first ∷ ps) (ih v)
 
 -- ---- as the code reads them: by the derived order of names, which is that of the numbers
 looked_up : (es : List (ℕ × RowPlaces)) (u : ℕ) (o : Option RowPlaces) → o ≡ lookup (is_at (ord.cmp u)) es → lookup (is_at (nat_cmp u)) es ≡ o
 looked_up es u o h = ap (λ c. lookup (is_at (c u)) es) (sym cmps) ∙ sym h
 
-pub got-read : (es : List (ℕ × RowPlaces)) (now : List Places) (u : ℕ) (p : RowPlaces) → listed es ≡ now → Some p ≡ lookup (is_at (ord.cmp u)) es → of_sender u p ≡ found_places now u
-got-read es now u p v h = got es u p (looked_up es u (Some p) h) ∙ ap (λ ps. found_places ps u) v
+pub got-read : (es : List (ℕ × RowPlaces)) (now : List Places) (u : ℕ) (p : RowPlaces) → index_of_entries es ≡ now → Some p ≡ lookup (is_at (ord.cmp u)) es → of_sender u p ≡ places_in_index now u
+got-read es now u p v h = got es u p (looked_up es u (Some p) h) ∙ ap (λ ps. places_in_index ps u) v
 
-pub absent-read : (es : List (ℕ × RowPlaces)) (now : List Places) (u : ℕ) (p : RowPlaces) → listed es ≡ now → None ≡ lookup (is_at (ord.cmp u)) es → p.nomination ≡ None → p.ballot ≡ None → of_sender u p ≡ found_places now u
+pub absent-read : (es : List (ℕ × RowPlaces)) (now : List Places) (u : ℕ) (p : RowPlaces) → index_of_entries es ≡ now → None ≡ lookup (is_at (ord.cmp u)) es → p.nomination ≡ None → p.ballot ≡ None → of_sender u p ≡ places_in_index now u
 absent-read es now u p v h a b =
     ap₂ (λ m n. let q : Places = record { sender = u; nomination = m; ballot = n } in q) a b
-    ∙ (sym (absent es u (looked_up es u None h)) ∙ ap (λ ps. found_places ps u) v)
+    ∙ (sym (absent es u (looked_up es u None h)) ∙ ap (λ ps. places_in_index ps u) v)
 
 pub noted-read : (es : List (ℕ × RowPlaces)) (now : List Places) (u : ℕ) (k : Kind) (n : ℕ) (q p : RowPlaces)
-    → listed es ≡ now → ascends now ≡ true → of_sender u q ≡ found_places now u → of_sender u p ≡ with_place (of_sender u q) k n
-    → listed (insert_entry ord.cmp es u p) ≡ noted now u k n
+    → index_of_entries es ≡ now → ascends now ≡ true → of_sender u q ≡ places_in_index now u → of_sender u p ≡ with_place (of_sender u q) k n
+    → index_of_entries (insert_entry ord.cmp es u p) ≡ index_with_place now u k n
 noted-read es now u k n q p v a f h =
-    ap (λ c. listed (insert_entry c es u p)) cmps
-    ∙ (noted-put es u k n p (ap ascends v ∙ a) (h ∙ ap (λ x. with_place x k n) (f ∙ ap (λ ps. found_places ps u) (sym v))) ∙ ap (λ ps. noted ps u k n) v)
+    ap (λ c. index_of_entries (insert_entry c es u p)) cmps
+    ∙ (noted-put es u k n p (ap ascends v ∙ a) (h ∙ ap (λ x. with_place x k n) (f ∙ ap (λ ps. places_in_index ps u) (sym v))) ∙ ap (λ ps. index_with_place ps u k n) v)
 
 pub removed-read : (es : List (ℕ × RowPlaces)) (now : List Places) (u : ℕ) (k : Kind) (q p : RowPlaces)
-    → listed es ≡ now → of_sender u q ≡ found_places now u → of_sender u p ≡ without_place (of_sender u q) k → is_vacant (of_sender u p) ≡ true
-    → listed (remove_entry (is_at (ord.cmp u)) es) ≡ forgotten now u k
+    → index_of_entries es ≡ now → of_sender u q ≡ places_in_index now u → of_sender u p ≡ without_place (of_sender u q) k → is_vacant (of_sender u p) ≡ true
+    → index_of_entries (remove_entry (is_at (ord.cmp u)) es) ≡ index_without_place now u k
 removed-read es now u k q p v f h w =
-    ap (λ c. listed (remove_entry (is_at (c u)) es)) cmps
-    ∙ (forgotten-removed es u k (ap (λ ps. is_vacant (without_place (found_places ps u) k)) v ∙ (ap (λ x. is_vacant (without_place x k)) (sym f) ∙ (ap is_vacant (sym h) ∙ w)))
-    ∙ ap (λ ps. forgotten ps u k) v)
+    ap (λ c. index_of_entries (remove_entry (is_at (c u)) es)) cmps
+    ∙ (forgotten-removed es u k (ap (λ ps. is_vacant (without_place (places_in_index ps u) k)) v ∙ (ap (λ x. is_vacant (without_place x k)) (sym f) ∙ (ap is_vacant (sym h) ∙ w)))
+    ∙ ap (λ ps. index_without_place ps u k) v)
 
 pub kept-read : {A B : Type 0} (r : Result A B) (es new : List (ℕ × RowPlaces)) (now : List Places) (u : ℕ) (k : Kind) (q p : RowPlaces)
     → OnOk r (new ≡ insert_entry ord.cmp es u p) → OnErr r (lookup (is_at (ord.cmp u)) es ≡ None)
-    → listed es ≡ now → ascends now ≡ true → of_sender u q ≡ found_places now u → of_sender u p ≡ without_place (of_sender u q) k → is_vacant (of_sender u p) ≡ false
-    → listed new ≡ forgotten now u k
+    → index_of_entries es ≡ now → ascends now ≡ true → of_sender u q ≡ places_in_index now u → of_sender u p ≡ without_place (of_sender u q) k → is_vacant (of_sender u p) ≡ false
+    → index_of_entries new ≡ index_without_place now u k
 kept-read {A} {B} r es new now u k q p put none v a f h w = go r put none
   where
-    left : of_sender u p ≡ without_place (found_places (listed es) u) k
-    left = h ∙ ap (λ x. without_place x k) (f ∙ ap (λ ps. found_places ps u) (sym v))
+    left : of_sender u p ≡ without_place (places_in_index (index_of_entries es) u) k
+    left = h ∙ ap (λ x. without_place x k) (f ∙ ap (λ ps. places_in_index ps u) (sym v))
 
-    go : (r : Result A B) → OnOk r (new ≡ insert_entry ord.cmp es u p) → OnErr r (lookup (is_at (ord.cmp u)) es ≡ None) → listed new ≡ forgotten now u k
+    go : (r : Result A B) → OnOk r (new ≡ insert_entry ord.cmp es u p) → OnErr r (lookup (is_at (ord.cmp u)) es ≡ None) → index_of_entries new ≡ index_without_place now u k
     go (Ok x) put none =
-        ap listed put ∙ (ap (λ c. listed (insert_entry c es u p)) cmps ∙ (forgotten-put es u k p (ap ascends v ∙ a) left w ∙ ap (λ ps. forgotten ps u k) v))
+        ap index_of_entries put ∙ (ap (λ c. index_of_entries (insert_entry c es u p)) cmps ∙ (forgotten-put es u k p (ap ascends v ∙ a) left w ∙ ap (λ ps. index_without_place ps u k) v))
     go (Err x) put none = absurd (false≢true (sym w ∙ (ap is_vacant left ∙ absent-vacant es u k (looked_up es u None (sym none)))))
 
-pub listed-keys : (es : List (ℕ × RowPlaces)) → keys_of es ≡ map (λ (p : Places). p.sender) (listed es)
+pub listed-keys : (es : List (ℕ × RowPlaces)) → keys_of es ≡ map (λ (p : Places). p.sender) (index_of_entries es)
 listed-keys [] = refl
 listed-keys (e ∷ es) = ap (λ us. e.0 ∷ us) (listed-keys es)

@@ -15,7 +15,7 @@ use Rattle.latest.specs.declared.table.Offer.TheVariants.{Replaced, Stale, NoMem
 use Rattle.latest.specs.declared.table.Put.{Put}
 use Rattle.latest.specs.Puts.{IsPut, offer_of}
 use Rattle.latest.specs.Senders.{senders}
-use Rattle.latest.specs.Places.{Places, IsIndexed, ascends, found, index_of, noted, place_of, places_of}
+use Rattle.latest.specs.Places.{Places, IsIndexed, ascends, place_in_index, index_of, index_with_place, place_of_row, places_of}
 use Rattle.latest.proofs.Indexes.{place-within, place-nowhere, index-ascends, found-index, index-push, index-set, with_row-set, with_row-push}
 
 pub indexed-empty : IsIndexed [] []
@@ -25,8 +25,8 @@ indexed-empty = record { single = refl; indexed = refl }
 pub indexed-ascends : (rows : List Sent) (index : List Places) → IsIndexed rows index → ascends index ≡ true
 indexed-ascends rows index h = ap ascends h.indexed ∙ index-ascends rows
 
-pub indexed-found : (rows : List Sent) (index : List Places) (u : ℕ) (k : Kind) → IsIndexed rows index → found index u k ≡ place_of rows u k
-indexed-found rows index u k h = ap (λ ps. found ps u k) h.indexed ∙ found-index rows u k
+pub indexed-found : (rows : List Sent) (index : List Places) (u : ℕ) (k : Kind) → IsIndexed rows index → place_in_index index u k ≡ place_of_row rows u k
+indexed-found rows index u k h = ap (λ ps. place_in_index ps u k) h.indexed ∙ found-index rows u k
 
 pub indexed-senders : (rows : List Sent) (index : List Places) → IsIndexed rows index → map (λ (p : Places). p.sender) index ≡ senders rows
 unfolding index_of
@@ -37,20 +37,20 @@ indexed-senders rows index h = ap (map (λ (p : Places). p.sender)) h.indexed �
     back (w ∷ ws) = ap (λ vs. w ∷ vs) (back ws)
 
 -- ---- a row by its place
-pub placed-within : (rows : List Sent) (u : ℕ) (k : Kind) (o : Option ℕ) → o ≡ place_of rows u k → IfSome o (λ i. i < length rows)
+pub placed-within : (rows : List Sent) (u : ℕ) (k : Kind) (o : Option ℕ) → o ≡ place_of_row rows u k → IfSome o (λ i. i < length rows)
 placed-within rows u k None e = tt
 placed-within [] u k (Some i) e = cc
 placed-within (x ∷ xs) u k (Some i) e = (place-within (is_row_of u k) (x ∷ xs) i x (sym e)).0
 
-pub row-placed : (rows : List Sent) (u : ℕ) (k : Kind) (i : ℕ) (x : Sent) → place_of rows u k ≡ Some i → x ≡ get_or rows i x → row rows u k ≡ Some x
+pub row-placed : (rows : List Sent) (u : ℕ) (k : Kind) (i : ℕ) (x : Sent) → place_of_row rows u k ≡ Some i → x ≡ get_or rows i x → row rows u k ≡ Some x
 unfolding row
 row-placed rows u k i x h e = (place-within (is_row_of u k) rows i x h).1 ∙ ap (λ (y : Sent). Some y) (sym e)
 
-pub row-nowhere : (rows : List Sent) (u : ℕ) (k : Kind) → place_of rows u k ≡ None → row rows u k ≡ None
+pub row-nowhere : (rows : List Sent) (u : ℕ) (k : Kind) → place_of_row rows u k ≡ None → row rows u k ≡ None
 unfolding row
 row-nowhere rows u k h = place-nowhere (is_row_of u k) rows h
 
-pub taken-placed : (rows : List Sent) (e : Sent) (i : ℕ) (x : Sent) → place_of rows e.sender (kind_of e.body) ≡ Some i → x ≡ get_or rows i x → is_taken rows e ≡ is_newer e.body x.body
+pub taken-placed : (rows : List Sent) (e : Sent) (i : ℕ) (x : Sent) → place_of_row rows e.sender (kind_of e.body) ≡ Some i → x ≡ get_or rows i x → is_taken rows e ≡ is_newer e.body x.body
 unfolding is_taken
 taken-placed rows e i x h s = ap (replaces e) (row-placed rows e.sender (kind_of e.body) i x h s)
 
@@ -58,7 +58,7 @@ taken-first : (rows : List Sent) (e : Sent) → row rows e.sender (kind_of e.bod
 unfolding is_taken
 taken-first rows e h = ap (replaces e) h
 
-pub taken-nowhere : (rows : List Sent) (e : Sent) → place_of rows e.sender (kind_of e.body) ≡ None → is_taken rows e ≡ true
+pub taken-nowhere : (rows : List Sent) (e : Sent) → place_of_row rows e.sender (kind_of e.body) ≡ None → is_taken rows e ≡ true
 unfolding is_taken
 taken-nowhere rows e h = ap (replaces e) (row-nowhere rows e.sender (kind_of e.body) h)
 
@@ -71,39 +71,39 @@ unfolding table_with_offer
 table_with_offer-stale rows e h = ap (λ b. if b then with_row e rows else rows) h
 
 -- ---- what a row more, and a row replaced, leave indexed
-pub indexed-set : (rows : List Sent) (index : List Places) (e : Sent) (i : ℕ) → IsIndexed rows index → place_of rows e.sender (kind_of e.body) ≡ Some i → IsIndexed (set rows i e) index
+pub indexed-set : (rows : List Sent) (index : List Places) (e : Sent) (i : ℕ) → IsIndexed rows index → place_of_row rows e.sender (kind_of e.body) ≡ Some i → IsIndexed (set rows i e) index
 indexed-set rows index e i h p = record {
   single = ap has_single_rows (sym (with_row-set rows e i p)) ∙ single-with e rows h.single;
   indexed = h.indexed ∙ sym (index-set rows i e e (place-within (is_row_of e.sender (kind_of e.body)) rows i e p).2);
 }
 
-pub indexed-push : (rows : List Sent) (index : List Places) (e : Sent) → IsIndexed rows index → place_of rows e.sender (kind_of e.body) ≡ None → IsIndexed (rows ++ e ∷ []) (noted index e.sender (kind_of e.body) (length rows))
+pub indexed-push : (rows : List Sent) (index : List Places) (e : Sent) → IsIndexed rows index → place_of_row rows e.sender (kind_of e.body) ≡ None → IsIndexed (rows ++ e ∷ []) (index_with_place index e.sender (kind_of e.body) (length rows))
 indexed-push rows index e h p = record {
   single = ap has_single_rows (sym (with_row-push rows e p)) ∙ single-with e rows h.single;
-  indexed = ap (λ ps. noted ps e.sender (kind_of e.body) (length rows)) h.indexed ∙ index-push rows e p;
+  indexed = ap (λ ps. index_with_place ps e.sender (kind_of e.body) (length rows)) h.indexed ∙ index-push rows e p;
 }
 
 -- ---- as the code reads them, where the rows are what the table is now
-pub found-read : (rows now : List Sent) (index : List Places) (u : ℕ) (k : Kind) → IsIndexed rows index → rows ≡ now → found index u k ≡ place_of now u k
-found-read rows now index u k h r = indexed-found rows index u k h ∙ ap (λ xs. place_of xs u k) r
+pub found-read : (rows now : List Sent) (index : List Places) (u : ℕ) (k : Kind) → IsIndexed rows index → rows ≡ now → place_in_index index u k ≡ place_of_row now u k
+found-read rows now index u k h r = indexed-found rows index u k h ∙ ap (λ xs. place_of_row xs u k) r
 
 pub senders-read : (rows now : List Sent) (index : List Places) → IsIndexed rows index → rows ≡ now → map (λ (p : Places). p.sender) index ≡ senders now
 senders-read rows now index h r = indexed-senders rows index h ∙ ap senders r
 
-pub taken-read : (rows now : List Sent) (e x : Sent) (i : ℕ) → rows ≡ now → place_of now e.sender (kind_of e.body) ≡ Some i → x ≡ get_or rows i x → is_newer e.body x.body ≡ is_taken now e
+pub taken-read : (rows now : List Sent) (e x : Sent) (i : ℕ) → rows ≡ now → place_of_row now e.sender (kind_of e.body) ≡ Some i → x ≡ get_or rows i x → is_newer e.body x.body ≡ is_taken now e
 taken-read rows now e x i r h s = sym (taken-placed now e i x h (s ∙ ap (λ xs. get_or xs i x) r))
 
-pub set-read : (rows now : List Sent) (index : List Places) (e : Sent) (i : ℕ) → IsIndexed rows index → rows ≡ now → place_of now e.sender (kind_of e.body) ≡ Some i → IsIndexed (set rows i e) index
-set-read rows now index e i h r p = indexed-set rows index e i h (ap (λ xs. place_of xs e.sender (kind_of e.body)) r ∙ p)
+pub set-read : (rows now : List Sent) (index : List Places) (e : Sent) (i : ℕ) → IsIndexed rows index → rows ≡ now → place_of_row now e.sender (kind_of e.body) ≡ Some i → IsIndexed (set rows i e) index
+set-read rows now index e i h r p = indexed-set rows index e i h (ap (λ xs. place_of_row xs e.sender (kind_of e.body)) r ∙ p)
 
 pub push-read : (rows now more : List Sent) (index noted_index : List Places) (e : Sent) (u : ℕ) (k : Kind) (n : ℕ)
-    → IsIndexed rows index → rows ≡ now → place_of now e.sender (kind_of e.body) ≡ None
-    → u ≡ e.sender → k ≡ kind_of e.body → n ≡ length rows → more ≡ rows ++ e ∷ [] → noted_index ≡ noted index u k n → IsIndexed more noted_index
+    → IsIndexed rows index → rows ≡ now → place_of_row now e.sender (kind_of e.body) ≡ None
+    → u ≡ e.sender → k ≡ kind_of e.body → n ≡ length rows → more ≡ rows ++ e ∷ [] → noted_index ≡ index_with_place index u k n → IsIndexed more noted_index
 push-read rows now more index noted_index e u k n h r p a b c d f =
-    subst (λ xs. IsIndexed xs noted_index) (sym d) (subst (λ ps. IsIndexed (rows ++ e ∷ []) ps) (sym (f ∙ same)) (indexed-push rows index e h (ap (λ xs. place_of xs e.sender (kind_of e.body)) r ∙ p)))
+    subst (λ xs. IsIndexed xs noted_index) (sym d) (subst (λ ps. IsIndexed (rows ++ e ∷ []) ps) (sym (f ∙ same)) (indexed-push rows index e h (ap (λ xs. place_of_row xs e.sender (kind_of e.body)) r ∙ p)))
   where
-    same : noted index u k n ≡ noted index e.sender (kind_of e.body) (length rows)
-    same = ap (λ w. noted index w k n) a ∙ (ap (λ j. noted index e.sender j n) b ∙ ap (noted index e.sender (kind_of e.body)) c)
+    same : index_with_place index u k n ≡ index_with_place index e.sender (kind_of e.body) (length rows)
+    same = ap (λ w. index_with_place index w k n) a ∙ (ap (λ j. index_with_place index e.sender j n) b ∙ ap (index_with_place index e.sender (kind_of e.body)) c)
 
 -- ---- what an answer to an offer says
 abbrev pub IsAnswer : List Sent → Sent → Offer → List Sent → Type 0

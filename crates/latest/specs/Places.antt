@@ -20,12 +20,13 @@ place_by test [] = None
 place_by test (x ∷ xs) = cond (test x) (Some 0) (option_map suc (place_by test xs))
 
 -- the place of a sender's row of a kind
-abbrev pub place_of : List Sent → ℕ → Kind → Option ℕ
-place_of rows u k = place_by (is_row_of u k) rows
+abbrev pub place_of_row : List Sent → ℕ → Kind → Option ℕ
+place_of_row rows u k = place_by (is_row_of u k) rows
 
 -- the places of both its rows
 abbrev pub places_of : List Sent → ℕ → Places
-places_of rows u = record { sender = u; nomination = place_of rows u Nomination; ballot = place_of rows u Kind.Ballot }
+places_of rows u =
+    record { sender = u; nomination = place_of_row rows u Nomination; ballot = place_of_row rows u Kind.Ballot }
 
 -- the places of all senders, ascending by name
 unfoldable pub index_of : List Sent → List Places
@@ -50,16 +51,16 @@ ascends [] = true
 ascends (p ∷ ps) = list_all (λ q. nat_lt p.sender q.sender) ps && ascends ps
 
 -- the place that an index has for a sender's row of a kind
-abbrev pub found : List Places → ℕ → Kind → Option ℕ
-found [] u k = None
-found (p ∷ ps) u k = if p.sender == u then place_in p k else found ps u k
+abbrev pub place_in_index : List Places → ℕ → Kind → Option ℕ
+place_in_index [] u k = None
+place_in_index (p ∷ ps) u k = if p.sender == u then place_in p k else place_in_index ps u k
 
 -- an index in which a sender's row of a kind has this place
-abbrev pub noted : List Places → ℕ → Kind → ℕ → List Places
-noted [] u k n = only_place u k n ∷ []
-noted (p ∷ ps) u k n =
+abbrev pub index_with_place : List Places → ℕ → Kind → ℕ → List Places
+index_with_place [] u k n = only_place u k n ∷ []
+index_with_place (p ∷ ps) u k n =
     if nat_lt p.sender u then p
-    ∷ noted ps u k n else (if p.sender == u then with_place p k n ∷ ps else only_place u k n ∷ p ∷ ps)
+    ∷ index_with_place ps u k n else (if p.sender == u then with_place p k n ∷ ps else only_place u k n ∷ p ∷ ps)
 
 -- ---- one place less
 abbrev pub without_place : Places → Kind → Places
@@ -71,11 +72,11 @@ abbrev pub is_vacant : Places → Bool
 is_vacant p = is_none p.nomination && is_none p.ballot
 
 -- an index without the place of a sender's row of a kind; a sender that has no other row leaves it
-abbrev pub forgotten : List Places → ℕ → Kind → List Places
-forgotten [] u k = []
-forgotten (p ∷ ps) u k =
+abbrev pub index_without_place : List Places → ℕ → Kind → List Places
+index_without_place [] u k = []
+index_without_place (p ∷ ps) u k =
     if p.sender == u then (if is_vacant (without_place p k) then ps else without_place p k ∷ ps) else p
-    ∷ forgotten ps u k
+    ∷ index_without_place ps u k
 
 -- ---- an index as the code keeps it
 -- these places, as those of a sender
@@ -83,13 +84,13 @@ abbrev pub of_sender : ℕ → RowPlaces → Places
 of_sender u p = record { sender = u; nomination = p.nomination; ballot = p.ballot }
 
 -- the index that a map from senders to places stands for
-abbrev pub listed : List (ℕ × RowPlaces) → List Places
-listed entries = map (λ e. of_sender e.0 e.1) entries
+abbrev pub index_of_entries : List (ℕ × RowPlaces) → List Places
+index_of_entries entries = map (λ e. of_sender e.0 e.1) entries
 
 -- the places that an index has for a sender: none, where it does not have the sender
-abbrev pub found_places : List Places → ℕ → Places
-found_places [] u = record { sender = u; nomination = None; ballot = None }
-found_places (p ∷ ps) u = if p.sender == u then p else found_places ps u
+abbrev pub places_in_index : List Places → ℕ → Places
+places_in_index [] u = record { sender = u; nomination = None; ballot = None }
+places_in_index (p ∷ ps) u = if p.sender == u then p else places_in_index ps u
 
 -- rows with their index
 pub record IsIndexed (rows : List Sent) (index : List Places) : Type 0 where

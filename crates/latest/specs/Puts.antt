@@ -7,7 +7,7 @@ use Rattle.protocol.specs.Rows.{row, with_row, is_taken}
 use Rattle.latest.specs.declared.table.Offer.{Offer}
 use Rattle.latest.specs.declared.table.Put.{Put}
 use Rattle.latest.specs.declared.table.Put.TheVariants.{Stale, NoMemory, Added, Replaced}
-use Rattle.latest.specs.Places.{place_of}
+use Rattle.latest.specs.Places.{place_of_row}
 
 -- what the answer says of the table before and of the table after
 abbrev pub IsPut : List Filed → Sent → Put → List Filed → Type 0
@@ -47,7 +47,8 @@ with_row_at (Some i) r table = slice_set table i r
 
 -- a row in the place of its sender's row of that kind; where there is none, the table as it is
 abbrev pub with_known_row : Filed → List Filed → List Filed
-with_known_row r table = with_row_at (place_of (sents_of table) (sent_of r).sender (kind_of (sent_of r).body)) r table
+with_known_row r table =
+    with_row_at (place_of_row (sents_of table) (sent_of r).sender (kind_of (sent_of r).body)) r table
 
 -- the table from which this answer led to that one
 abbrev pub undone : Put → List Filed → List Filed

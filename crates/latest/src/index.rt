@@ -1,7 +1,7 @@
 //! Where the rows of each sender stand: an index ordered by name.
 
 ghost use Rattle.std.specs.Prelude.{◌≡◌, ◌<◌, ◌-◌, ◌^◌, [], IfOk, OnErr, OnOk, length, map, true};
-ghost use Rattle.latest.specs.Places.{Places, ascends, forgotten, found, found_places, noted, of_sender};
+ghost use Rattle.latest.specs.Places.{Places, ascends, index_without_place, place_in_index, places_in_index, index_with_place, of_sender};
 
 use crate::places::{RowPlace, RowPlaces};
 use crate::sender_names::SenderNames;
@@ -22,13 +22,13 @@ pub struct Index {
 impl Model for Index {
     ghost use Rattle.std.specs.Coded.{codes};
     ghost use Rattle.std.specs.Prelude.{List};
-    ghost use Rattle.latest.specs.Places.{Places, listed};
+    ghost use Rattle.latest.specs.Places.{Places, index_of_entries};
 
     ghost Value = { List Places };
 
     ghost coded = { Prim.hlevel codes };
 
-    ghost view = { λ a. listed a.by_sender.entries };
+    ghost view = { λ a. index_of_entries a.by_sender.entries };
 }
 
 impl Index {
@@ -43,14 +43,14 @@ impl Index {
 
     /// The place of a sender's row of a kind.
     pub fn place(&self, sender: &NodeId, kind: Kind) -> RowPlace
-        ensures { result ≡ found self.now sender.now kind }
+        ensures { result ≡ place_in_index self.now sender.now kind }
     {
         self.places(sender).place(kind)
     }
 
     /// The places of a sender's rows; none, where it has no row.
     pub fn places(&self, sender: &NodeId) -> RowPlaces
-        ensures { of_sender sender.now result ≡ found_places self.now sender.now }
+        ensures { of_sender sender.now result ≡ places_in_index self.now sender.now }
     {
         match self.by_sender.get(sender) {
             Some(places) => *places,
@@ -62,7 +62,7 @@ impl Index {
     pub fn note(&mut self, sender: NodeId, kind: Kind, place: usize) -> Result<(), AllocError>
         requires ascends { ascends self.old ≡ true }
         requires small { place < 2 ^ 64 - 1 }
-        ensures ok { OnOk result (self.new ≡ noted self.old sender kind place) }
+        ensures ok { OnOk result (self.new ≡ index_with_place self.old sender kind place) }
         ensures err { OnErr result (self.new ≡ self.old) }
     {
         let places = self.places(&sender).with_place(kind, place);
@@ -73,7 +73,7 @@ impl Index {
     /// Forgets the place of a row, and its sender where it has no other. It takes no memory.
     pub fn forget(&mut self, sender: &NodeId, kind: Kind)
         requires { ascends self.old ≡ true }
-        ensures { self.new ≡ forgotten self.old sender.now kind }
+        ensures { self.new ≡ index_without_place self.old sender.now kind }
     {
         let places = self.places(sender).without_place(kind);
         if places.is_vacant() {

@@ -20,11 +20,11 @@ const _: () = prove!(size_of::<RowPlace>() <= 8);
 impl Model for RowPlace {
     ghost use Rattle.std.specs.Prelude.{ℕ, Option};
     ghost use Rattle.latest.specs.NumberBack.{numbered_back};
-    ghost use Rattle.latest.specs.Numbers.{number_of, numbered};
+    ghost use Rattle.latest.specs.Numbers.{number_of, place_from_number};
 
     ghost Value = { Option ℕ };
 
-    ghost view = { λ a. numbered a.number };
+    ghost view = { λ a. place_from_number a.number };
 
     ghost inverse = { λ o. record { number = number_of o } };
 

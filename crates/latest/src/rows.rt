@@ -2,7 +2,7 @@
 
 ghost use Rattle.std.specs.Prelude.{◌≡◌, ℕ, Some, length, option_map, slice_get, true};
 ghost use Rattle.envstore.specs.Archives.{AreFiled, sents_of};
-ghost use Rattle.latest.specs.Places.{place_of};
+ghost use Rattle.latest.specs.Places.{place_of_row};
 ghost use Rattle.latest.specs.Senders.{senders};
 ghost use Rattle.protocol.specs.Rows.{has_single_rows, is_taken, row};
 ghost use Rattle.types.specs.declared.kind.Kind.{Kind};
@@ -69,7 +69,7 @@ impl<'a, S: envstore::Places> Rows<'a, S> {
     /// The place of the sender's row of a kind among all rows. A newer row stands in its place, and a first
     /// one behind all others, so a place stays as long as the table only takes envelopes. It takes no memory.
     pub fn place(&self, sender: &NodeId, kind: Kind) -> RowPlace
-        ensures { result ≡ place_of self.now sender.now kind }
+        ensures { result ≡ place_of_row self.now sender.now kind }
     {
         let places = self.places(sender);
         match kind {
@@ -87,8 +87,8 @@ impl<'a, S: envstore::Places> Rows<'a, S> {
 
     /// The places of the sender's rows of both kinds, by one look-up. It takes no memory.
     pub fn places(&self, sender: &NodeId) -> RowPlaces
-        ensures nomination { result.nomination ≡ place_of self.now sender.now Nomination }
-        ensures ballot { result.ballot ≡ place_of self.now sender.now Kind.Ballot }
+        ensures nomination { result.nomination ≡ place_of_row self.now sender.now Nomination }
+        ensures ballot { result.ballot ≡ place_of_row self.now sender.now Kind.Ballot }
     {
         self.table.places(sender)
     }
@@ -107,7 +107,7 @@ impl<'a, S: envstore::Places> Rows<'a, S> {
 
     /// The row at the place of a sender's row of a kind, if it has one. It takes no memory.
     pub fn row_where(&self, place: RowPlace) -> Option<&'a Envelope>
-        ensures { (u : ℕ) (kind : Kind) → place ≡ place_of self.now u kind → option_map (λ r. r.now) result ≡ row self.now u kind }
+        ensures { (u : ℕ) (kind : Kind) → place ≡ place_of_row self.now u kind → option_map (λ r. r.now) result ≡ row self.now u kind }
     {
         match place.get() {
             None => None,

@@ -2,7 +2,7 @@
 
 ghost use Rattle.std.specs.Prelude.{◌≡◌, ◌≢◌, ◌↔◌, ◌++◌, ◌∷◌, [], ◌<◌, ◌^◌, List, IfOk, IfSome, OnErr, OnOk, IsTrue, None, Some, false, length, option_map, slice_get, slice_index_or, slice_set, true, vec_capacity, vec_len};
 ghost use Rattle.envstore.specs.Archives.{AreFiled, IsFiled, sent_of, sents_of};
-ghost use Rattle.latest.specs.Places.{ascends, forgotten, place_of};
+ghost use Rattle.latest.specs.Places.{ascends, index_without_place, place_of_row};
 ghost use Rattle.latest.specs.Puts.{IsFiledPut, IsPut, offer_of, undone, with_known_row, without_last};
 ghost use Rattle.latest.specs.Senders.{senders};
 ghost use Rattle.protocol.specs.Rows.{has_single_rows, is_taken, table_with_offer, row, table_after};
@@ -244,7 +244,7 @@ impl Table {
 
     /// The place of the sender's row of a kind.
     pub(crate) fn place(&self, sender: &NodeId, kind: Kind) -> Option<usize>
-        ensures value { result ≡ place_of (sents_of self.now) sender.now kind }
+        ensures value { result ≡ place_of_row (sents_of self.now) sender.now kind }
         ensures within { IfSome result (λ place. place < length self.now) }
     {
         self.index.place(sender, kind).get()
@@ -252,8 +252,8 @@ impl Table {
 
     /// The places of a sender's rows of both kinds, by one look-up.
     pub(crate) fn places(&self, sender: &NodeId) -> RowPlaces
-        ensures nomination { result.nomination ≡ place_of (sents_of self.now) sender.now Nomination }
-        ensures ballot { result.ballot ≡ place_of (sents_of self.now) sender.now Kind.Ballot }
+        ensures nomination { result.nomination ≡ place_of_row (sents_of self.now) sender.now Nomination }
+        ensures ballot { result.ballot ≡ place_of_row (sents_of self.now) sender.now Kind.Ballot }
     {
         self.index.places(sender)
     }
@@ -267,7 +267,7 @@ impl Table {
     ) -> bool
         requires rows { AreFiled archive.now self.now }
         requires within { place < length self.now }
-        requires row { place_of (sents_of self.now) envelope.now.sender (kind_of envelope.now.body) ≡ Some place }
+        requires row { place_of_row (sents_of self.now) envelope.now.sender (kind_of envelope.now.body) ≡ Some place }
         ensures { result ≡ is_taken (sents_of self.now) envelope.now }
     {
         is_newer(envelope.body(), archive.read(&self.rows[place]).body())
@@ -276,7 +276,7 @@ impl Table {
     /// Puts an envelope in the place of its sender's row of its kind, and answers that row.
     fn replace(&mut self, place: usize, envelope: Filed) -> Filed
         requires within { place < length self.old }
-        requires row { place_of (sents_of self.old) (sent_of envelope).sender (kind_of (sent_of envelope).body) ≡ Some place }
+        requires row { place_of_row (sents_of self.old) (sent_of envelope).sender (kind_of (sent_of envelope).body) ≡ Some place }
         ensures table { self.new ≡ slice_set self.old place envelope }
         ensures row { result ≡ slice_index_or self.old place result }
     {
@@ -308,7 +308,7 @@ impl Table {
     /// Adds an envelope whose sender has no row of its kind. Where memory is wanting the table stays
     /// as it was.
     fn add(&mut self, sender: NodeId, kind: Kind, envelope: Filed) -> Result<(), AllocError>
-        requires none { place_of (sents_of self.old) (sent_of envelope).sender (kind_of (sent_of envelope).body) ≡ None }
+        requires none { place_of_row (sents_of self.old) (sent_of envelope).sender (kind_of (sent_of envelope).body) ≡ None }
         requires sender { sender ≡ (sent_of envelope).sender }
         requires kind { kind ≡ kind_of (sent_of envelope).body }
         ensures ok { OnOk result (self.new ≡ self.old ++ envelope ∷ []) }

@@ -26,13 +26,13 @@ is_some-map f [] k l = absurd (omega (arith, l))
 is_some-map f (x ∷ xs) zero l = refl
 is_some-map f (x ∷ xs) (suc k) l = is_some-map f xs k (omega (arith, l))
 
-pub hosted : (net : Net) (u h : ℕ) → index_in (names_of net.hosts) u ≡ Some h → is_hosted net u ≡ true
+pub hosted : (net : Net) (u h : ℕ) → index_in (names_of net.nodes) u ≡ Some h → is_hosted net u ≡ true
 hosted net u h q =
-    let l : h < length net.hosts = subst (λ n. h < n) (mapped-length (λ (x : HostedNode). x.name) net.hosts) (index-within (names_of net.hosts) u h q) in
-    ap is_some (slices_of-is net.hosts u ∙ at-index (λ (x : HostedNode). x.name) (λ (x : HostedNode). x.slices) net.hosts u h q) ∙ is_some-map (λ (x : HostedNode). x.slices) net.hosts h l
+    let l : h < length net.nodes = subst (λ n. h < n) (mapped-length (λ (x : HostedNode). x.name) net.nodes) (index-within (names_of net.nodes) u h q) in
+    ap is_some (slices_of-is net.nodes u ∙ at-index (λ (x : HostedNode). x.name) (λ (x : HostedNode). x.slices) net.nodes u h q) ∙ is_some-map (λ (x : HostedNode). x.slices) net.nodes h l
 
-pub hosted-not : (net : Net) (u : ℕ) → index_in (names_of net.hosts) u ≡ None → is_hosted net u ≡ false
-hosted-not net u q = ap is_some (slices_of-is net.hosts u ∙ at-none (λ (x : HostedNode). x.name) (λ (x : HostedNode). x.slices) net.hosts u q)
+pub hosted-not : (net : Net) (u : ℕ) → index_in (names_of net.nodes) u ≡ None → is_hosted net u ≡ false
+hosted-not net u q = ap is_some (slices_of-is net.nodes u ∙ at-none (λ (x : HostedNode). x.name) (λ (x : HostedNode). x.slices) net.nodes u q)
 
 pub opened_at : (net : Net) (i k : ℕ) → index_of_slot net.slots i ≡ Some k → is_open net i ≡ true
 opened_at net i k q =
@@ -43,18 +43,18 @@ pub opened_not : (net : Net) (i : ℕ) → index_of_slot net.slots i ≡ None �
 opened_not net i q = ap is_some (instances_at-is net.slots i ∙ at-none (λ (x : Slot). x.number) (λ (x : Slot). x.instances) net.slots i q)
 
 -- ---- the networks for which a machine stands
-pub host-in : (m : Standing) (net : Net) (u : ℕ) → StandsFor (machine_of m) net → index_in (names_of net.hosts) u ≡ index_of_name m.config.hosts u
-host-in m net u s = ap (λ (n : Net). index_in (names_of n.hosts) u) s.is
+pub node_place-in : (m : Standing) (net : Net) (u : ℕ) → StandsFor (machine_of m) net → index_in (names_of net.nodes) u ≡ index_of_name m.config.nodes u
+node_place-in m net u s = ap (λ (n : Net). index_in (names_of n.nodes) u) s.is
 
 pub slot-in : (m : Standing) (net : Net) (i : ℕ) → StandsFor (machine_of m) net → index_of_slot net.slots i ≡ index_of_slot (map slot_of (machine_of m).slots) i
 slot-in m net i s = ap (λ (n : Net). index_of_slot n.slots i) s.is
 
 -- ---- the tests that many events share
-pub no_host : (m : Standing) (net : Net) (u : ℕ) (ts : List (Bool × Refusal)) → StandsFor (machine_of m) net → index_of_name m.config.hosts u ≡ None → first_that (hosted_test net u ∷ ts) ≡ Some NoSuchNode
-no_host m net u ts s h = refuses (not (is_hosted net u)) NoSuchNode ts (ap not (hosted-not net u (host-in m net u s ∙ h)))
+pub no_node : (m : Standing) (net : Net) (u : ℕ) (ts : List (Bool × Refusal)) → StandsFor (machine_of m) net → index_of_name m.config.nodes u ≡ None → first_that (hosted_test net u ∷ ts) ≡ Some NoSuchNode
+no_node m net u ts s h = refuses (not (is_hosted net u)) NoSuchNode ts (ap not (hosted-not net u (node_place-in m net u s ∙ h)))
 
-pub host_then : (m : Standing) (net : Net) (u h : ℕ) (ts : List (Bool × Refusal)) → StandsFor (machine_of m) net → index_of_name m.config.hosts u ≡ Some h → first_that (hosted_test net u ∷ ts) ≡ first_that ts
-host_then m net u h ts s q = passes (hosted_test net u) ts (ap not (hosted net u h (host-in m net u s ∙ q)))
+pub node_then : (m : Standing) (net : Net) (u h : ℕ) (ts : List (Bool × Refusal)) → StandsFor (machine_of m) net → index_of_name m.config.nodes u ≡ Some h → first_that (hosted_test net u ∷ ts) ≡ first_that ts
+node_then m net u h ts s q = passes (hosted_test net u) ts (ap not (hosted net u h (node_place-in m net u s ∙ q)))
 
 pub not_open : (m : Standing) (net : Net) (i : ℕ) (ts : List (Bool × Refusal)) → StandsFor (machine_of m) net → index_of_slot (map slot_of (machine_of m).slots) i ≡ None → first_that (open_test net i ∷ ts) ≡ Some SlotNotOpen
 not_open m net i ts s h = refuses (not (is_open net i)) SlotNotOpen ts (ap not (opened_not net i (slot-in m net i s ∙ h)))

@@ -25,10 +25,10 @@ use Rattle.configuration.specs.Budgets.{AreShares}
 use Rattle.network.specs.Answers.{IsApplied}
 use Rattle.network.specs.Changes.{IsChangedAt, changed_at}
 use Rattle.network.specs.Charges.{HasRoomInCounts, HasRoomOnNetwork, IsActed, IsReady, IsSlotActed, on_budgets_of, on_opens_of}
-use Rattle.network.specs.Deeds.{IsDrawn, IsEventOf, IsNodeOf, IsPlan, IsThere, acted, handed, node_at, outs_after, slots_after}
+use Rattle.network.specs.Deeds.{IsDrawn, IsEventOf, IsNodeOf, IsPlan, IsThere, slots_after_event, envelope_to_file, instance_at, outs_after, slots_after}
 use Rattle.network.specs.Doings.{IsAnswer, IsDoable, IsDone, marks_after, slots_of}
 use Rattle.network.specs.Lodgings.{AreTallied, IsLodged, IsTallied, IsUncounted, Lodging, Lodgings, Seat, Seats, bytes_from, events_from, instance_in, seat_of, seats_of, slot_of}
-use Rattle.network.specs.Marks.{marks_in, numbered, slot_and_node_of, emitted_at, emitted_before}
+use Rattle.network.specs.Marks.{marks_in, numbers_by_kind, slot_and_node_of, emitted_at, emitted_before}
 use Rattle.network.specs.Standing.{IsStanding, IsStep, IsTidy, Machine, Standing, StandsFor, machine_of, net_of}
 use Rattle.network.specs.declared.applied.Outcome.{Outcome}
 use Rattle.network.specs.declared.plan.Charge.{Charge}
@@ -119,7 +119,7 @@ acted-instances c e h (x ∷ xs) [] r = absurd r
 acted-instances c e zero (x ∷ xs) (y ∷ ys) r = ap₂ (λ (p : Instance) (ps : List Instance). p ∷ ps) r.0.instance (sym (ap (λ (zs : List Lodging). map node_of (map seat_of zs)) r.1))
 acted-instances c e (suc h) (x ∷ xs) (y ∷ ys) r = ap₂ (λ (p : Instance) (ps : List Instance). p ∷ ps) (sym (ap instance_in r.0)) (acted-instances c e h xs ys r.1)
 
-acted-slots : (c : Charge) (e : NodeEvent) (h k : ℕ) (old new : List Lodgings) → IsChangedAt (IsSlotActed c h e) k old new → slots_of new ≡ acted (slots_of old) k h e
+acted-slots : (c : Charge) (e : NodeEvent) (h k : ℕ) (old new : List Lodgings) → IsChangedAt (IsSlotActed c h e) k old new → slots_of new ≡ slots_after_event (slots_of old) k h e
 acted-slots c e h k [] new r = absurd r
 acted-slots c e h k (x ∷ xs) [] r = absurd r
 acted-slots c e h zero (x ∷ xs) (y ∷ ys) r =
@@ -245,7 +245,7 @@ opens-none (Reslices i u q) at h n = refl
 
 -- the node that an event names
 abbrev pub IsAtNode : Machine → Step → ℕ → ℕ → Type 0
-IsAtNode m e k h = (i : ℕ) × (u : ℕ) × (slot_and_node_of e ≡ Some (pair_of i u)) × (index_in (map (λ (s : Slot). s.number) (map slot_of m.slots)) i ≡ Some k) × (index_in (names_of m.config.hosts) u ≡ Some h)
+IsAtNode m e k h = (i : ℕ) × (u : ℕ) × (slot_and_node_of e ≡ Some (pair_of i u)) × (index_in (map (λ (s : Slot). s.number) (map slot_of m.slots)) i ≡ Some k) × (index_in (names_of m.config.nodes) u ≡ Some h)
 
 pub node-named : (m : Machine) (e : Step) (k h : ℕ) → IsNodeOf m (slot_and_node_of e) k h → IsAtNode m e k h
 node-named m e k h n = go (slot_and_node_of e) refl n
@@ -271,15 +271,15 @@ slots-numbers : (ss : List Seats) → slot_numbers (map slot_of ss) ≡ map (λ 
 slots-numbers [] = refl
 slots-numbers (s ∷ ss) = ap (λ (ns : List ℕ). s.number ∷ ns) (slots-numbers ss)
 
-pub neat-of : (m : Machine) → IsTidy m → Neat m.config.hosts (map slot_of m.slots)
-neat-of m t = record { names = to-names (names_of m.config.hosts) m.slots t.names; apart = ap all_differ (slots-numbers m.slots) ∙ t.apart }
+pub neat-of : (m : Machine) → IsTidy m → Neat m.config.nodes (map slot_of m.slots)
+neat-of m t = record { names = to-names (names_of m.config.nodes) m.slots t.names; apart = ap all_differ (slots-numbers m.slots) ∙ t.apart }
 
 -- ---- looking up
 abbrev number_of : Slot → ℕ
 number_of s = s.number
 
-abbrev nodes_of : Slot → List Instance
-nodes_of s = s.instances
+abbrev instances_of : Slot → List Instance
+instances_of s = s.instances
 
 abbrev name_of : Instance → ℕ
 name_of p = p.node.name
@@ -287,10 +287,10 @@ name_of p = p.node.name
 known-instance : (ns : List ℕ) (ps : List Instance) (u h : ℕ) → names_at ps ≡ ns → index_in ns u ≡ Some h → node_named ps u ≡ slice_get ps h
 known-instance ns ps u h e q = node_named-is ps u ∙ at-index name_of (λ p. p) ps u h (ap (λ ms. index_in ms u) e ∙ q) ∙ same-option (slice_get ps h)
 
-node_where_open-at : (ns : List ℕ) (slots : List Slot) (i u k h : ℕ) → AllByRecursion (λ (s : Slot). names_at s.instances ≡ ns) slots → index_in (slot_numbers slots) i ≡ Some k → index_in ns u ≡ Some h → node_where_open (instances_at slots i) u ≡ node_at (slice_get slots k) h
-node_where_open-at ns slots i u k h names q r = ap (λ o. node_where_open o u) (instances_at-is slots i ∙ at-index number_of nodes_of slots i k q) ∙ go (slice_get slots k) refl
+node_where_open-at : (ns : List ℕ) (slots : List Slot) (i u k h : ℕ) → AllByRecursion (λ (s : Slot). names_at s.instances ≡ ns) slots → index_in (slot_numbers slots) i ≡ Some k → index_in ns u ≡ Some h → node_where_open (instances_at slots i) u ≡ instance_at (slice_get slots k) h
+node_where_open-at ns slots i u k h names q r = ap (λ o. node_where_open o u) (instances_at-is slots i ∙ at-index number_of instances_of slots i k q) ∙ go (slice_get slots k) refl
   where
-    go : (o : Option Slot) → slice_get slots k ≡ o → node_where_open (option_map nodes_of o) u ≡ node_at o h
+    go : (o : Option Slot) → slice_get slots k ≡ o → node_where_open (option_map instances_of o) u ≡ instance_at o h
     go None e = refl
     go (Some s) e = known-instance ns s.instances u h (at-place (λ (s : Slot). names_at s.instances ≡ ns) slots k s names e) r
 
@@ -309,11 +309,11 @@ unfolding net_step
 stepped net e h = ap (state_and_reply net e) h
 
 open-marks : (net : Net) (i : ℕ) → [] ≡ marks_in net (Opens i)
-unfolding effect numbered
+unfolding effect numbers_by_kind
 open-marks net i = refl
 
 close-marks : (net : Net) (i : ℕ) → [] ≡ marks_in net (Closes i)
-unfolding effect numbered
+unfolding effect numbers_by_kind
 close-marks net i = refl
 
 module _ (m : Standing) (e : Step) (p : Plan) (t : IsStanding m) (plan : IsPlan m e p) (draws : List Draw) (tallied : AreTallied draws (map seats_of m.slots)) where
@@ -349,12 +349,12 @@ module _ (m : Standing) (e : Step) (p : Plan) (t : IsStanding m) (plan : IsPlan 
         let a = node-named (machine_of m) e k h nm in
         let q = source-of m.config.roster e a.0 a.1 a.2 in
         counted-act net (net_step net e).0 e counted-after a.0 a.1 (opens-none e (pair_of a.0 a.1) a.2) q (charge_of p) (event_of x) plan.size (agrees (machine_of m) p.drawn (source m.config.roster e) a.0 a.1 plan.drawn q)
-        (names_of m.config.hosts) h k m.slots new (slots-index a.0 k a.3) (only-at (names_of m.config.hosts) a.1 h a.4 t.tidy.single) (names-all (names_of m.config.hosts) m.slots t.tidy.names) dn (counted-from draws m.slots tallied)
+        (names_of m.config.nodes) h k m.slots new (slots-index a.0 k a.3) (only-at (names_of m.config.nodes) a.1 h a.4 t.tidy.single) (names-all (names_of m.config.nodes) m.slots t.tidy.names) dn (counted-from draws m.slots tallied)
     by-deed (Hand k h x) dn nm th =
         let a = node-named (machine_of m) e k h nm in
         let q = source-of m.config.roster e a.0 a.1 a.2 in
         counted-act net (net_step net e).0 e counted-after a.0 a.1 (opens-none e (pair_of a.0 a.1) a.2) q (charge_of p) (NodeEvent.Take x) plan.size (agrees (machine_of m) p.drawn (source m.config.roster e) a.0 a.1 plan.drawn q)
-        (names_of m.config.hosts) h k m.slots new (slots-index a.0 k a.3) (only-at (names_of m.config.hosts) a.1 h a.4 t.tidy.single) (names-all (names_of m.config.hosts) m.slots t.tidy.names) dn (counted-from draws m.slots tallied)
+        (names_of m.config.nodes) h k m.slots new (slots-index a.0 k a.3) (only-at (names_of m.config.nodes) a.1 h a.4 t.tidy.single) (names-all (names_of m.config.nodes) m.slots t.tidy.names) dn (counted-from draws m.slots tallied)
 
     module _ (done : IsDone (charge_of p) p.deed m.slots new) where
       slots-are : (effect net e).0.slots ≡ map slot_of (map seats_of new)
@@ -372,7 +372,7 @@ module _ (m : Standing) (e : Step) (p : Plan) (t : IsStanding m) (plan : IsPlan 
       next-is : next net e ≡ net_of (carried m p new) (next net e).draws
       next-is = λ j. record {
         number = (effect-keeps net e).number j;
-        hosts = (effect-keeps net e).hosts j;
+        nodes = (effect-keeps net e).nodes j;
         budgets = (effect-keeps net e).budgets j;
         roster = (effect-keeps net e).roster j;
         slots = slots-are j;
@@ -391,8 +391,8 @@ module _ (m : Standing) (e : Step) (p : Plan) (t : IsStanding m) (plan : IsPlan 
       pub given-after : (net_step net e).1 ≡ Done (outs_after (slots_of m.slots) p.deed)
       given-after = ap (λ (z : Net × Reply). z.1) (stepped net e allowed) ∙ ap Done (sym (plan.outs net stands-for))
 
-      neat-after : Neat m.config.hosts (map slot_of (map seats_of new))
-      neat-after = subst (λ ss. Neat m.config.hosts ss) slots-are (neat net e (fresh-of net e allowed) (neat-of (machine_of m) t.tidy))
+      neat-after : Neat m.config.nodes (map slot_of (map seats_of new))
+      neat-after = subst (λ ss. Neat m.config.nodes ss) slots-are (neat net e (fresh-of net e allowed) (neat-of (machine_of m) t.tidy))
 
   marks-by : (d : Deed) → IsEventOf (machine_of m) e d → outs_after (slots_of m.slots) d ≡ (effect net e).1 → marks_after (slots_of m.slots) d ≡ marks_in net e
   marks-by (Open s) nm os = open-marks net s.number ∙ ap (marks_in net) (sym nm)
@@ -400,13 +400,13 @@ module _ (m : Standing) (e : Step) (p : Plan) (t : IsStanding m) (plan : IsPlan 
   marks-by (Act k h x) nm os =
       let a = node-named (machine_of m) e k h nm in
       let n = neat-of (machine_of m) t.tidy in
-      let emitted = ap (emitted_before net) a.2 ∙ ap emitted_at (node_where_open-at (names_of m.config.hosts) (slots_of m.slots) a.0 a.1 k h n.names a.3 a.4) in
-      ap₂ (λ (ts : List Sent) (ys : List Out). numbered ts (emissions ys)) (sym emitted) os
+      let emitted = ap (emitted_before net) a.2 ∙ ap emitted_at (node_where_open-at (names_of m.config.nodes) (slots_of m.slots) a.0 a.1 k h n.names a.3 a.4) in
+      ap₂ (λ (ts : List Sent) (ys : List Out). numbers_by_kind ts (emissions ys)) (sym emitted) os
   marks-by (Hand k h x) nm os =
       let a = node-named (machine_of m) e k h nm in
       let n = neat-of (machine_of m) t.tidy in
-      let emitted = ap (emitted_before net) a.2 ∙ ap emitted_at (node_where_open-at (names_of m.config.hosts) (slots_of m.slots) a.0 a.1 k h n.names a.3 a.4) in
-      ap₂ (λ (ts : List Sent) (ys : List Out). numbered ts (emissions ys)) (sym emitted) os
+      let emitted = ap (emitted_before net) a.2 ∙ ap emitted_at (node_where_open-at (names_of m.config.nodes) (slots_of m.slots) a.0 a.1 k h n.names a.3 a.4) in
+      ap₂ (λ (ts : List Sent) (ys : List Out). numbers_by_kind ts (emissions ys)) (sym emitted) os
 
   pub marks-after : marks_after (slots_of m.slots) p.deed ≡ marks_in net e
   marks-after = marks-by p.deed plan.named (plan.outs net stands-for)
@@ -529,7 +529,7 @@ module _ {m : Standing} {e : Step} {p : Plan} (known : IsCarriable m e p) where
   ready k h nm =
       let a = node-named (machine_of m) e k h nm in
       let x = keyed number_at m.slots k a.0 (index-gives (map number_at m.slots) a.0 k (ap (λ ns. index_in ns a.0) (sym (numbers-are m.slots)) ∙ a.3)) in
-      let names = all-at (λ (s : Lodgings). map name_at s.instances ≡ names_of m.config.hosts) m.slots k x.it (names-all (names_of m.config.hosts) m.slots known.standing.tidy.names) x.is in
+      let names = all-at (λ (s : Lodgings). map name_at s.instances ≡ names_of m.config.nodes) m.slots k x.it (names-all (names_of m.config.nodes) m.slots known.standing.tidy.names) x.is in
       let y = keyed name_at x.it.instances h a.1 (index-gives (map name_at x.it.instances) a.1 h (ap (λ ns. index_in ns a.1) names ∙ a.4)) in
       let tl = all-at (λ (l : Lodging). IsTallied x.it.number known.standing.stood.0 (seat_of l)) x.it.instances h y.it (all-at (AreCounted known.standing.stood.0) m.slots k x.it (counted-from known.standing.stood.0 m.slots known.standing.stood.1) x.is) y.is in
       record { slot = x.it; instance = y.it; slot_is = x.is; instance_is = y.is; room = node-room p.drawn a.0 a.1 x.it y.it known.plan.drawn (source-of m.config.roster e a.0 a.1 a.2) x.named y.named tl }
@@ -553,7 +553,7 @@ module _ {m : Standing} {e : Step} {p : Plan} (known : IsCarriable m e p) where
         let n = neat-after m e p known.standing known.plan known.standing.stood.0 known.standing.stood.1 new done in
         record {
           single = known.standing.tidy.single;
-          names = from-names (names_of m.config.hosts) (map seats_of new) n.names;
+          names = from-names (names_of m.config.nodes) (map seats_of new) n.names;
           apart = ap all_differ (sym (slots-numbers (map seats_of new))) ∙ n.apart;
           bytes = bytes-kept p.drawn known.plan.drawn;
         }
@@ -567,7 +567,7 @@ module _ {m : Standing} {e : Step} {p : Plan} (known : IsCarriable m e p) where
 -- ---- what carrying out leaves
 pub applied : (m : Standing) (e : Step) (p : Plan) (new : List Lodgings) (archive : List Sent) (events bytes opens count : ℕ) (a : Outcome) → IsStanding m → IsPlan m e p → IsDone (charge_of p) p.deed m.slots new
     → events ≡ m.events + on_budgets_of p.drawn 1 → bytes ≡ m.bytes + on_budgets_of p.drawn p.size → opens ≡ m.opens + on_opens_of p.drawn
-    → IsAnswer (outs_after (slots_of m.slots) p.deed) (marks_after (slots_of m.slots) p.deed) (handed p.deed) count archive a
+    → IsAnswer (outs_after (slots_of m.slots) p.deed) (marks_after (slots_of m.slots) p.deed) (envelope_to_file p.deed) count archive a
     → IsApplied m e count (record { config = m.config; archive = archive; slots = new; events = events; bytes = bytes; opens = opens }) a
 applied m e p new archive events bytes opens count a t plan done x y z answer = record {
   step = subst (λ (w : Machine). IsStep (machine_of m) e (outs_of a.outs.items) w) (λ j. record { config = m.config; slots = map seats_of new; events = sym x j; bytes = sym y j; opens = sym z j })

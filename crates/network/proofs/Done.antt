@@ -7,10 +7,10 @@ use Rattle.types.specs.declared.event.NodeEvent.{NodeEvent}
 use Rattle.protocol.specs.Networks.{Instance, emissions, outs_at}
 use Rattle.envstore.specs.Archives.{Keeps}
 use Rattle.network.specs.Charges.{HasRoomFor, IsReady}
-use Rattle.network.specs.Deeds.{node_at}
+use Rattle.network.specs.Deeds.{instance_at}
 use Rattle.network.specs.Doings.{slots_of}
 use Rattle.network.specs.Lodgings.{AreLodged, IsGiven, IsLodged, Lodging, Lodgings, Seat, instance_in, seat_of}
-use Rattle.network.specs.Marks.{numbered, emitted_at}
+use Rattle.network.specs.Marks.{numbers_by_kind, emitted_at}
 use Rattle.network.specs.declared.plan.Charge.{Charge}
 use Rattle.network.specs.declared.emission_log.NumberedOuts.{NumberedOuts}
 use Rattle.network.proofs.Placed.{lodged-still}
@@ -29,7 +29,7 @@ nodes-are : (ps : List Lodging) → map (λ (x : Seat). x.instance) (map seat_of
 nodes-are [] = refl
 nodes-are (p ∷ ps) = ap (λ (qs : List Instance). instance_in p ∷ qs) (nodes-are ps)
 
-seen-at : (items : List Lodgings) (k h : ℕ) (s : Lodgings) → slice_get items k ≡ Some s → node_at (slice_get (slots_of items) k) h ≡ slice_get (map instance_in s.instances) h
+seen-at : (items : List Lodgings) (k h : ℕ) (s : Lodgings) → slice_get items k ≡ Some s → instance_at (slice_get (slots_of items) k) h ≡ slice_get (map instance_in s.instances) h
 seen-at [] k h s q = absurd (cc)
 seen-at (x ∷ xs) zero h s q = let e : x ≡ s = cc in ap (λ (ps : List Instance). slice_get ps h) (nodes-are x.instances) ∙ ap (λ (y : Lodgings). slice_get (map instance_in y.instances) h) e
 seen-at (x ∷ xs) (suc k) h s q = seen-at xs k h s q
@@ -65,10 +65,10 @@ instance-room c items k h y r is =
     subst (λ (s : Lodgings). IfSome (slice_get s.instances h) (HasRoomFor c)) (sym q) (subst (λ (o : Option Lodging). IfSome o (HasRoomFor c)) (sym r.instance_is) r.room)
 
 abbrev pub IsSeen : NodeEvent → ℕ → Option Instance → NumberedOuts → Type 0
-IsSeen e count o n = IsGiven (outs_at e o) (numbered (emitted_at o) (emissions (outs_at e o))) count n
+IsSeen e count o n = IsGiven (outs_at e o) (numbers_by_kind (emitted_at o) (emissions (outs_at e o))) count n
 
 -- what its event answers
-pub given-seen : (c : Charge) (items : List Lodgings) (k h : ℕ) (y : Lodgings) (e : NodeEvent) (count : ℕ) (n : NumberedOuts) → (r : IsReady c items k h) → y ≡ get_or items k y → IsSeen e count (slice_get (map instance_in y.instances) h) n → IsSeen e count (node_at (slice_get (slots_of items) k) h) n
+pub given-seen : (c : Charge) (items : List Lodgings) (k h : ℕ) (y : Lodgings) (e : NodeEvent) (count : ℕ) (n : NumberedOuts) → (r : IsReady c items k h) → y ≡ get_or items k y → IsSeen e count (slice_get (map instance_in y.instances) h) n → IsSeen e count (instance_at (slice_get (slots_of items) k) h) n
 given-seen c items k h y e count n r is g =
     let q = at-get items k r.slot y r.slot_is is in
     subst (λ (o : Option Instance). IsSeen e count o n) (ap (λ (s : Lodgings). slice_get (map instance_in s.instances) h) q ∙ sym (seen-at items k h r.slot r.slot_is)) g

@@ -19,20 +19,20 @@ use Rattle.network.specs.Standing.{IsRefusal, IsStanding, Standing, StandsFor, m
 use Rattle.network.specs.EmissionsByKind.{nth_of}
 use Rattle.network.specs.declared.plan.Deed.TheVariants.{Act, Hand}
 use Rattle.network.specs.declared.plan.Drawn.{Drawn}
-use Rattle.network.proofs.Allowed.{host_then, host-in, hosted, hosted-not, no_host, not_open, open_then, passes, refuses, stops}
+use Rattle.network.proofs.Allowed.{node_then, node_place-in, hosted, hosted-not, no_node, not_open, open_then, passes, refuses, stops}
 use Rattle.network.proofs.Openings.{none-so}
 use Rattle.network.proofs.Planned.{act-plan, hand-plan, node_where_open-seat, roster-in}
 
 -- ---- bytes
-pub bytes-nowhere : (m : Standing) (u size : ℕ) (d : Reading) → index_of_name m.config.hosts u ≡ None → IsRefusal (machine_of m) (Delivers u size d) NoSuchNode
+pub bytes-nowhere : (m : Standing) (u size : ℕ) (d : Reading) → index_of_name m.config.nodes u ≡ None → IsRefusal (machine_of m) (Delivers u size d) NoSuchNode
 bytes-nowhere m u size (Read e) q =
     inr (λ net s.
     let src = source net.roster (Delivers u size (Read e)) in
-    no_host m net u ((is_hosted net e.sender, HostedSender) ∷ open_test net e.slot ∷ room_test net src ∷ bytes_test net src size ∷ []) s q)
-bytes-nowhere m u size (Fault n) q = inr (λ net s. no_host m net u ((true, BadEnvelope n) ∷ []) s q)
+    no_node m net u ((is_hosted net e.sender, HostedSender) ∷ open_test net e.slot ∷ room_test net src ∷ bytes_test net src size ∷ []) s q)
+bytes-nowhere m u size (Fault n) q = inr (λ net s. no_node m net u ((true, BadEnvelope n) ∷ []) s q)
 
-pub bytes-bad : (m : Standing) (u h size n : ℕ) → index_of_name m.config.hosts u ≡ Some h → IsRefusal (machine_of m) (Delivers u size (Fault n)) (BadEnvelope n)
-bytes-bad m u h size n q = inr (λ net s. host_then m net u h ((true, BadEnvelope n) ∷ []) s q)
+pub bytes-bad : (m : Standing) (u h size n : ℕ) → index_of_name m.config.nodes u ≡ Some h → IsRefusal (machine_of m) (Delivers u size (Fault n)) (BadEnvelope n)
+bytes-bad m u h size n q = inr (λ net s. node_then m net u h ((true, BadEnvelope n) ∷ []) s q)
 
 -- ---- an envelope
 delivers-source : (o : Option Roster) (u size : ℕ) (e : Sent) → source o (Delivers u size (Read e)) ≡ pair_source o e.slot u e.sender
@@ -43,30 +43,30 @@ abbrev after_sender : Net → ℕ → Sent → Source → List (Bool × Refusal)
 after_sender net size e src = open_test net e.slot ∷ room_test net src ∷ bytes_test net src size ∷ []
 
 -- what is tested once the node is there
-envelope-there : (m : Standing) (net : Net) (u h size : ℕ) (e : Sent) → index_of_name m.config.hosts u ≡ Some h → StandsFor (machine_of m) net
+envelope-there : (m : Standing) (net : Net) (u h size : ℕ) (e : Sent) → index_of_name m.config.nodes u ≡ Some h → StandsFor (machine_of m) net
     → first_that (tests net (Delivers u size (Read e))) ≡ first_that ((is_hosted net e.sender, HostedSender) ∷ after_sender net size e (pair_source net.roster e.slot u e.sender))
 envelope-there m net u h size e q s =
     ap (λ src. first_that (hosted_test net u ∷ (is_hosted net e.sender, HostedSender) ∷ after_sender net size e src)) (delivers-source net.roster u size e)
-    ∙ host_then m net u h ((is_hosted net e.sender, HostedSender) ∷ after_sender net size e (pair_source net.roster e.slot u e.sender)) s q
+    ∙ node_then m net u h ((is_hosted net e.sender, HostedSender) ∷ after_sender net size e (pair_source net.roster e.slot u e.sender)) s q
 
-pub sender-hosted : (m : Standing) (u h j size : ℕ) (e : Sent) → index_of_name m.config.hosts u ≡ Some h → index_of_name m.config.hosts e.sender ≡ Some j → IsRefusal (machine_of m) (Delivers u size (Read e)) HostedSender
+pub sender-hosted : (m : Standing) (u h j size : ℕ) (e : Sent) → index_of_name m.config.nodes u ≡ Some h → index_of_name m.config.nodes e.sender ≡ Some j → IsRefusal (machine_of m) (Delivers u size (Read e)) HostedSender
 sender-hosted m u h j size e q r =
-    inr (λ net s. envelope-there m net u h size e q s ∙ refuses (is_hosted net e.sender) HostedSender (after_sender net size e (pair_source net.roster e.slot u e.sender)) (hosted net e.sender j (host-in m net e.sender s ∙ r)))
+    inr (λ net s. envelope-there m net u h size e q s ∙ refuses (is_hosted net e.sender) HostedSender (after_sender net size e (pair_source net.roster e.slot u e.sender)) (hosted net e.sender j (node_place-in m net e.sender s ∙ r)))
 
-pub sender-hosted-so : (m : Standing) (u h size : ℕ) (e : Sent) → index_of_name m.config.hosts u ≡ Some h → is_some (index_of_name m.config.hosts e.sender) ≡ true → IsRefusal (machine_of m) (Delivers u size (Read e)) HostedSender
-sender-hosted-so m u h size e q t = go (index_of_name m.config.hosts e.sender) refl t
+pub sender-hosted-so : (m : Standing) (u h size : ℕ) (e : Sent) → index_of_name m.config.nodes u ≡ Some h → is_some (index_of_name m.config.nodes e.sender) ≡ true → IsRefusal (machine_of m) (Delivers u size (Read e)) HostedSender
+sender-hosted-so m u h size e q t = go (index_of_name m.config.nodes e.sender) refl t
   where
-    go : (o : Option ℕ) → index_of_name m.config.hosts e.sender ≡ o → is_some o ≡ true → IsRefusal (machine_of m) (Delivers u size (Read e)) HostedSender
+    go : (o : Option ℕ) → index_of_name m.config.nodes e.sender ≡ o → is_some o ≡ true → IsRefusal (machine_of m) (Delivers u size (Read e)) HostedSender
     go None r t = absurd (cc)
     go (Some j) r t = sender-hosted m u h j size e q r
 
 -- and its sender is not hosted
-from-stranger : (m : Standing) (net : Net) (u h size : ℕ) (e : Sent) → index_of_name m.config.hosts u ≡ Some h → index_of_name m.config.hosts e.sender ≡ None → StandsFor (machine_of m) net
+from-stranger : (m : Standing) (net : Net) (u h size : ℕ) (e : Sent) → index_of_name m.config.nodes u ≡ Some h → index_of_name m.config.nodes e.sender ≡ None → StandsFor (machine_of m) net
     → first_that (tests net (Delivers u size (Read e))) ≡ first_that (after_sender net size e (pair_source net.roster e.slot u e.sender))
 from-stranger m net u h size e q r s =
-    envelope-there m net u h size e q s ∙ passes (is_hosted net e.sender, HostedSender) (after_sender net size e (pair_source net.roster e.slot u e.sender)) (hosted-not net e.sender (host-in m net e.sender s ∙ r))
+    envelope-there m net u h size e q s ∙ passes (is_hosted net e.sender, HostedSender) (after_sender net size e (pair_source net.roster e.slot u e.sender)) (hosted-not net e.sender (node_place-in m net e.sender s ∙ r))
 
-pub envelope-closed : (m : Standing) (u h size : ℕ) (e : Sent) → index_of_name m.config.hosts u ≡ Some h → index_of_name m.config.hosts e.sender ≡ None → index_of_slot (map slot_of (machine_of m).slots) e.slot ≡ None → IsRefusal (machine_of m) (Delivers u size (Read e)) SlotNotOpen
+pub envelope-closed : (m : Standing) (u h size : ℕ) (e : Sent) → index_of_name m.config.nodes u ≡ Some h → index_of_name m.config.nodes e.sender ≡ None → index_of_slot (map slot_of (machine_of m).slots) e.slot ≡ None → IsRefusal (machine_of m) (Delivers u size (Read e)) SlotNotOpen
 envelope-closed m u h size e q r c =
     inr (λ net s.
     let src = pair_source net.roster e.slot u e.sender in
@@ -74,12 +74,12 @@ envelope-closed m u h size e q r c =
 
 -- and the slot is open
 pub record IsReaching (m : Standing) (u h k : ℕ) (e : Sent) : Type 0 where
-  pub host : index_of_name m.config.hosts u ≡ Some h
-  pub stranger : index_of_name m.config.hosts e.sender ≡ None
+  pub node : index_of_name m.config.nodes u ≡ Some h
+  pub stranger : index_of_name m.config.nodes e.sender ≡ None
   pub slot : IsSlotThere m e.slot k
 
-pub reaching : (m : Standing) (u h k i : ℕ) (e : Sent) → index_of_name m.config.hosts u ≡ Some h → is_some (index_of_name m.config.hosts e.sender) ≡ false → i ≡ e.slot → IsSlotThere m i k → IsReaching m u h k e
-reaching m u h k i e q f same c = record { host = q; stranger = none-so (index_of_name m.config.hosts e.sender) f; slot = subst (λ j. IsSlotThere m j k) same c }
+pub reaching : (m : Standing) (u h k i : ℕ) (e : Sent) → index_of_name m.config.nodes u ≡ Some h → is_some (index_of_name m.config.nodes e.sender) ≡ false → i ≡ e.slot → IsSlotThere m i k → IsReaching m u h k e
+reaching m u h k i e q f same c = record { node = q; stranger = none-so (index_of_name m.config.nodes e.sender) f; slot = subst (λ j. IsSlotThere m j k) same c }
 
 -- room for what comes from its sender
 pub sender-room : {m : Standing} {u h k w : ℕ} {e : Sent} → IsReaching m u h k e → (r : Result Drawn Refusal) → w ≡ e.sender → ((i : ℕ) → IsSlotThere m i k → IsRoom m (λ o. pair_source o i u w) r) → IsRoom m (λ o. pair_source o e.slot u e.sender) r
@@ -89,7 +89,7 @@ at-slot : (m : Standing) (net : Net) (u h k size : ℕ) (e : Sent) → IsReachin
     → first_that (tests net (Delivers u size (Read e))) ≡ first_that (room_test net (pair_source net.roster e.slot u e.sender) ∷ bytes_test net (pair_source net.roster e.slot u e.sender) size ∷ [])
 at-slot m net u h k size e r s =
     let src = pair_source net.roster e.slot u e.sender in
-    from-stranger m net u h size e r.host r.stranger s ∙ open_then m net e.slot k (room_test net src ∷ bytes_test net src size ∷ []) s r.slot
+    from-stranger m net u h size e r.node r.stranger s ∙ open_then m net e.slot k (room_test net src ∷ bytes_test net src size ∷ []) s r.slot
 
 pub envelope-full : {m : Standing} {u h k : ℕ} {e : Sent} (size : ℕ) (x : Refusal) → IsReaching m u h k e → IsRoom m (λ o. pair_source o e.slot u e.sender) (Err x) → IsRefusal (machine_of m) (Delivers u size (Read e)) x
 envelope-full {m} {u} {h} {k} {e} size x r full =
@@ -113,7 +113,7 @@ pub envelope-plan : {m : Standing} {u h k : ℕ} {e : Sent} (size : ℕ) (d : Dr
     → IsPlan m (Delivers u size (Read e)) (record { deed = Hand k h e; drawn = d; size = size })
 unfolding effect
 envelope-plan {m} {u} {h} {k} {e} size d st r room fits =
-    hand-plan m (Delivers u size (Read e)) e.slot u k h size e d st r.slot r.host (subst (IsDrawn (machine_of m) d) (sym (delivers-source m.config.roster u size e)) room.0) refl refl refl (λ net. refl)
+    hand-plan m (Delivers u size (Read e)) e.slot u k h size e d st r.slot r.node (subst (IsDrawn (machine_of m) d) (sym (delivers-source m.config.roster u size e)) room.0) refl refl refl (λ net. refl)
     (λ net s.
     let src = pair_source net.roster e.slot u e.sender in
     at-slot m net u h k size e r s ∙ passes (room_test net src) (bytes_test net src size ∷ []) (room.1 net s)
@@ -149,24 +149,24 @@ none-holds true true true h k l = absurd (cc)
 none-holds true false c h k l = absurd (cc)
 none-holds false b c h k l = absurd (cc)
 
-pub hears-nowhere : (m : Standing) (i u w : ℕ) (kind : Kind) (n : ℕ) → index_of_name m.config.hosts u ≡ None → IsRefusal (machine_of m) (Hears i u w kind n) NoSuchNode
+pub hears-nowhere : (m : Standing) (i u w : ℕ) (kind : Kind) (n : ℕ) → index_of_name m.config.nodes u ≡ None → IsRefusal (machine_of m) (Hears i u w kind n) NoSuchNode
 hears-nowhere m i u w kind n q =
-    inr (λ net s. hears-are net i u w kind n ∙ refuses (apart net u w) NoSuchNode (after_nodes net i w kind n (pair_source net.roster i u w)) (first-holds (is_hosted net u) (is_hosted net w) (u == w) (hosted-not net u (host-in m net u s ∙ q))))
+    inr (λ net s. hears-are net i u w kind n ∙ refuses (apart net u w) NoSuchNode (after_nodes net i w kind n (pair_source net.roster i u w)) (first-holds (is_hosted net u) (is_hosted net w) (u == w) (hosted-not net u (node_place-in m net u s ∙ q))))
 
-pub hears-nobody : (m : Standing) (i u w : ℕ) (kind : Kind) (n : ℕ) → index_of_name m.config.hosts w ≡ None → IsRefusal (machine_of m) (Hears i u w kind n) NoSuchNode
+pub hears-nobody : (m : Standing) (i u w : ℕ) (kind : Kind) (n : ℕ) → index_of_name m.config.nodes w ≡ None → IsRefusal (machine_of m) (Hears i u w kind n) NoSuchNode
 hears-nobody m i u w kind n q =
-    inr (λ net s. hears-are net i u w kind n ∙ refuses (apart net u w) NoSuchNode (after_nodes net i w kind n (pair_source net.roster i u w)) (second-holds (is_hosted net u) (is_hosted net w) (u == w) (hosted-not net w (host-in m net w s ∙ q))))
+    inr (λ net s. hears-are net i u w kind n ∙ refuses (apart net u w) NoSuchNode (after_nodes net i w kind n (pair_source net.roster i u w)) (second-holds (is_hosted net u) (is_hosted net w) (u == w) (hosted-not net w (node_place-in m net w s ∙ q))))
 
 -- two hosted nodes
 pub record AreTwo (m : Standing) (u h w j : ℕ) : Type 0 where
-  pub node : index_of_name m.config.hosts u ≡ Some h
-  pub from : index_of_name m.config.hosts w ≡ Some j
+  pub node : index_of_name m.config.nodes u ≡ Some h
+  pub from : index_of_name m.config.nodes w ≡ Some j
   pub differ : (u == w) ≡ false
 
 two-there : (m : Standing) (net : Net) (i u h w j : ℕ) (kind : Kind) (n : ℕ) → AreTwo m u h w j → StandsFor (machine_of m) net → first_that (tests net (Hears i u w kind n)) ≡ first_that (after_nodes net i w kind n (pair_source net.roster i u w))
 two-there m net i u h w j kind n two s =
     hears-are net i u w kind n
-    ∙ passes (apart net u w, NoSuchNode) (after_nodes net i w kind n (pair_source net.roster i u w)) (none-holds (is_hosted net u) (is_hosted net w) (u == w) (hosted net u h (host-in m net u s ∙ two.node)) (hosted net w j (host-in m net w s ∙ two.from)) two.differ)
+    ∙ passes (apart net u w, NoSuchNode) (after_nodes net i w kind n (pair_source net.roster i u w)) (none-holds (is_hosted net u) (is_hosted net w) (u == w) (hosted net u h (node_place-in m net u s ∙ two.node)) (hosted net w j (node_place-in m net w s ∙ two.from)) two.differ)
 
 pub hears-closed : (m : Standing) (i u h w j : ℕ) (kind : Kind) (n : ℕ) → AreTwo m u h w j → index_of_slot (map slot_of (machine_of m).slots) i ≡ None → IsRefusal (machine_of m) (Hears i u w kind n) SlotNotOpen
 hears-closed m i u h w j kind n two c =
@@ -177,7 +177,7 @@ emitted-nth : (p : Instance) (kind : Kind) (n : ℕ) → emission (Some p) kind 
 emitted-nth p kind zero = refl
 emitted-nth p kind (suc n) = refl
 
-emission-is : (m : Standing) (net : Net) (i w k j : ℕ) (kind : Kind) (n : ℕ) (y : Seat) (o : Option (Bor Filed)) → IsStanding m → StandsFor (machine_of m) net → IsSlotThere m i k → index_of_name m.config.hosts w ≡ Some j → IsSeat (machine_of m) k j y
+emission-is : (m : Standing) (net : Net) (i w k j : ℕ) (kind : Kind) (n : ℕ) (y : Seat) (o : Option (Bor Filed)) → IsStanding m → StandsFor (machine_of m) net → IsSlotThere m i k → index_of_name m.config.nodes w ≡ Some j → IsSeat (machine_of m) k j y
     → option_map (λ f. sent_of f.now) o ≡ nth_of kind n y.instance.emitted → emission (node_where_open (instances_at net.slots i) w) kind n ≡ option_map (λ f. sent_of f.now) o
 emission-is m net i w k j kind n y o st s q r is e = ap (λ x. emission x kind n) (node_where_open-seat m net i w k j y st s q r is) ∙ emitted-nth y.instance kind n ∙ sym e
 
@@ -189,7 +189,7 @@ pub record IsHearing (m : Standing) (i u h w j k : ℕ) (kind : Kind) (n : ℕ) 
   pub seat : IsSeat (machine_of m) k j y
   pub sent : option_map (λ f. sent_of f.now) o ≡ nth_of kind n y.instance.emitted
 
-pub hearing : {s : Standing} (m : Standing) (i u h w j k : ℕ) (kind : Kind) (n : ℕ) (y : Seat) (o : Option (Bor Filed)) → s ≡ m → IsStanding s → index_of_name m.config.hosts u ≡ Some h → index_of_name m.config.hosts w ≡ Some j → (u == w) ≡ false → IsSlotThere m i k → IsSeat (machine_of m) k j y
+pub hearing : {s : Standing} (m : Standing) (i u h w j k : ℕ) (kind : Kind) (n : ℕ) (y : Seat) (o : Option (Bor Filed)) → s ≡ m → IsStanding s → index_of_name m.config.nodes u ≡ Some h → index_of_name m.config.nodes w ≡ Some j → (u == w) ≡ false → IsSlotThere m i k → IsSeat (machine_of m) k j y
     → option_map (λ f. sent_of f.now) o ≡ nth_of kind n y.instance.emitted → IsHearing m i u h w j k kind n y o
 hearing m i u h w j k kind n y o seen st q r differ c is e = record { standing = subst IsStanding seen st; two = record { node = q; from = r; differ = differ }; slot = c; seat = is; sent = e }
 

@@ -11,7 +11,7 @@ use Rattle.types.specs.Statements.{Sent, kind_of}
 use Rattle.envstore.specs.declared.filed.Filed.{Filed}
 use Rattle.envstore.specs.Archives.{sent_of, sents_of}
 use Rattle.protocol.specs.Rows.{is_kind}
-use Rattle.network.specs.Marks.{numbered}
+use Rattle.network.specs.Marks.{numbers_by_kind}
 use Rattle.protocol.specs.Networks.{emissions}
 use Rattle.slot.specs.Filings.{outs_of}
 use Rattle.slot.specs.declared.filed.FiledOut.{FiledOut}
@@ -49,8 +49,8 @@ by-kind old new k es all f at same length_is is before n b =
 
 pub counted : (k : Kind) (es : List Filed) (f : Filed) (places : PlacesByKind) (mark : ℕ)
     → k ≡ kind_of (sent_of f).body → AreByKind places (sents_of es) → mark ≡ (if is_kind Nomination k then length places.nominations.items else length places.ballots.items) + 1
-    → mark ∷ [] ≡ numbered (sents_of es) (sent_of f ∷ [])
-unfolding numbered
+    → mark ∷ [] ≡ numbers_by_kind (sents_of es) (sent_of f ∷ [])
+unfolding numbers_by_kind
 counted k es f places mark same by is = ap (λ m. m ∷ []) (go k is ∙ ap (λ j. suc (length (of_kind j (sents_of es)))) same)
   where
     go : (j : Kind) → mark ≡ (if is_kind Nomination j then length places.nominations.items else length places.ballots.items) + 1 → mark ≡ suc (length (of_kind j (sents_of es)))
@@ -58,14 +58,14 @@ counted k es f places mark same by is = ap (λ m. m ∷ []) (go k is ∙ ap (λ 
     go Ballot h = let l = ap length by.1 ∙ count_of_kind Ballot (sents_of es) in omega (arith, h, l)
 
 -- marks one after another
-pub numbered-joined : (emitted xs ys : List Sent) → numbered emitted (xs ++ ys) ≡ numbered emitted xs ++ numbered (emitted ++ xs) ys
-unfolding numbered
-numbered-joined emitted [] ys = sym (ap (λ ts. numbered ts ys) (append-nil emitted))
+pub numbered-joined : (emitted xs ys : List Sent) → numbers_by_kind emitted (xs ++ ys) ≡ numbers_by_kind emitted xs ++ numbers_by_kind (emitted ++ xs) ys
+unfolding numbers_by_kind
+numbered-joined emitted [] ys = sym (ap (λ ts. numbers_by_kind ts ys) (append-nil emitted))
   where
     append-nil : (ts : List Sent) → ts ++ [] ≡ ts
     append-nil [] = refl
     append-nil (t ∷ ts) = ap (λ us. t ∷ us) (append-nil ts)
-numbered-joined emitted (x ∷ xs) ys = ap (λ ms. suc (length (of_kind (kind_of x.body) emitted)) ∷ ms) (numbered-joined (emitted ++ x ∷ []) xs ys ∙ ap (λ ts. numbered (emitted ++ x ∷ []) xs ++ numbered ts ys) (joined emitted))
+numbered-joined emitted (x ∷ xs) ys = ap (λ ms. suc (length (of_kind (kind_of x.body) emitted)) ∷ ms) (numbered-joined (emitted ++ x ∷ []) xs ys ∙ ap (λ ts. numbers_by_kind (emitted ++ x ∷ []) xs ++ numbers_by_kind ts ys) (joined emitted))
   where
     joined : (ts : List Sent) → (ts ++ x ∷ []) ++ xs ≡ ts ++ x ∷ xs
     joined [] = refl
@@ -100,14 +100,14 @@ emitted-more so sn start outs i x l is more before =
     ap (λ ts. ts ++ rest) more ∙ append_assoc so (emissions (outs_of (x ∷ []))) rest ∙ sym (ap (λ ts. so ++ ts) (next-out outs i x l is)) ∙ before
 
 pub marks-more : (so sn : List Sent) (mo mn start : List ℕ) (outs : List FiledOut) (i : ℕ) (x : FiledOut) → i < length outs → x ≡ get_or outs i x
-    → sn ≡ so ++ emissions (outs_of (x ∷ [])) → mn ≡ mo ++ numbered so (emissions (outs_of (x ∷ []))) → mo ++ numbered so (emissions (outs_of (drop i outs))) ≡ start
-    → mn ++ numbered sn (emissions (outs_of (drop (i + 1) outs))) ≡ start
+    → sn ≡ so ++ emissions (outs_of (x ∷ [])) → mn ≡ mo ++ numbers_by_kind so (emissions (outs_of (x ∷ []))) → mo ++ numbers_by_kind so (emissions (outs_of (drop i outs))) ≡ start
+    → mn ++ numbers_by_kind sn (emissions (outs_of (drop (i + 1) outs))) ≡ start
 marks-more so sn mo mn start outs i x l is more marked before =
     let first = emissions (outs_of (x ∷ [])) in
     let rest = emissions (outs_of (drop (i + 1) outs)) in
-    (λ j. marked j ++ numbered (more j) rest)
-    ∙ append_assoc mo (numbered so first) (numbered (so ++ first) rest)
-    ∙ sym (ap (λ ms. mo ++ ms) (ap (numbered so) (next-out outs i x l is) ∙ numbered-joined so first rest))
+    (λ j. marked j ++ numbers_by_kind (more j) rest)
+    ∙ append_assoc mo (numbers_by_kind so first) (numbers_by_kind (so ++ first) rest)
+    ∙ sym (ap (λ ms. mo ++ ms) (ap (numbers_by_kind so) (next-out outs i x l is) ∙ numbered-joined so first rest))
     ∙ before
 
 sents-joined : (xs ys : List Sent) → length (xs ++ ys) ≡ length xs + length ys

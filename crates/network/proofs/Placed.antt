@@ -65,21 +65,21 @@ one-more-uncounted xs ys x is own heard all =
     let one : IsUncounted x = record { own = own; heard = heard } in
     subst (λ (zs : List Lodging). All IsUncounted zs) (sym is) (All-append IsUncounted xs (x ∷ []) all (All-cons IsUncounted x [] one (All-nil IsUncounted)))
 
--- one host more
-pub nodes_of_new_slot-more : (old new : List Lodging) (start : List Instance) (hosts : List HostedNode) (i n : ℕ) (h : HostedNode) (x : Lodging) → i < length hosts → h ≡ get_or hosts i h → new ≡ old ++ x ∷ []
-    → instance_in x ≡ record { node = fresh n h.name h.slices; emitted = [] } → map instance_in old ++ nodes_of_new_slot (drop i hosts) n ≡ start → map instance_in new ++ nodes_of_new_slot (drop (i + 1) hosts) n ≡ start
+-- one hosted node more
+pub nodes_of_new_slot-more : (old new : List Lodging) (start : List Instance) (nodes : List HostedNode) (i n : ℕ) (h : HostedNode) (x : Lodging) → i < length nodes → h ≡ get_or nodes i h → new ≡ old ++ x ∷ []
+    → instance_in x ≡ record { node = fresh n h.name h.slices; emitted = [] } → map instance_in old ++ nodes_of_new_slot (drop i nodes) n ≡ start → map instance_in new ++ nodes_of_new_slot (drop (i + 1) nodes) n ≡ start
 unfolding nodes_of_new_slot
-nodes_of_new_slot-more old new start hosts i n h x l is more made before =
+nodes_of_new_slot-more old new start nodes i n h x l is more made before =
     let z : suc i ≡ i + 1 = omega arith in
-    let rest = nodes_of_new_slot (drop (i + 1) hosts) n in
-    let next : nodes_of_new_slot (drop i hosts) n ≡ instance_in x ∷ rest = ap (λ (hs : List HostedNode). nodes_of_new_slot hs n) (drop-cons hosts i h l ∙ (λ j. sym is j ∷ drop (z j) hosts)) ∙ ap (λ (q : Instance). q ∷ rest) (sym made) in
+    let rest = nodes_of_new_slot (drop (i + 1) nodes) n in
+    let next : nodes_of_new_slot (drop i nodes) n ≡ instance_in x ∷ rest = ap (λ (hs : List HostedNode). nodes_of_new_slot hs n) (drop-cons nodes i h l ∙ (λ j. sym is j ∷ drop (z j) nodes)) ∙ ap (λ (q : Instance). q ∷ rest) (sym made) in
     ap (λ (ls : List Lodging). map instance_in ls ++ rest) more ∙ ap (λ (ps : List Instance). ps ++ rest) (map-append instance_in old (x ∷ [])) ∙ append_assoc (map instance_in old) (instance_in x ∷ []) rest
     ∙ sym (ap (λ (ps : List Instance). map instance_in old ++ ps) next) ∙ before
 
 -- a network where nothing has happened
-pub fresh-standing : (config : Config) (archive : List Sent) (slots : List Lodgings) → slots ≡ [] → IsAscending (names_of config.hosts) → IsStanding (record { config = config; archive = archive; slots = slots; events = 0; bytes = 0; opens = 0 })
+pub fresh-standing : (config : Config) (archive : List Sent) (slots : List Lodgings) → slots ≡ [] → IsAscending (names_of config.nodes) → IsStanding (record { config = config; archive = archive; slots = slots; events = 0; bytes = 0; opens = 0 })
 fresh-standing config archive slots none up = subst (λ (ss : List Lodgings). IsStanding (record { config = config; archive = archive; slots = ss; events = 0; bytes = 0; opens = 0 })) (sym none) (record {
   lodged = All-nil (λ (s : Lodgings). All (IsLodged archive) s.instances);
-  tidy = record { single = names-differ (names_of config.hosts) up; names = tt; apart = refl; bytes = omega arith };
+  tidy = record { single = names-differ (names_of config.nodes) up; names = tt; apart = refl; bytes = omega arith };
   stood = ([], All-nil (λ (s : Seats). All (IsTallied s.number []) s.seats));
 })

@@ -8,7 +8,7 @@ use Rattle.types.specs.declared.event.NodeEvent.{NodeEvent}
 use Rattle.protocol.specs.Networks.{HostedNode, Net, Instance, Slot, act, act_in, node_where_open, after_event, outs_at, node_named, instances_at, slices_of}
 use Rattle.configuration.specs.Configs.{index_in, index_of_name, names_of}
 use Rattle.network.specs.Changes.{changed_at}
-use Rattle.network.specs.Deeds.{IsNodeThere, IsSeat, acted, index_of_slot, node_at}
+use Rattle.network.specs.Deeds.{IsNodeThere, IsSeat, slots_after_event, index_of_slot, instance_at}
 use Rattle.network.specs.Lodgings.{Seat, Seats, slot_of}
 use Rattle.network.specs.Standing.{IsTidy, Machine, StandsFor}
 use Rattle.network.specs.Keyed.{at_key}
@@ -46,7 +46,7 @@ pub node_named-is : (ps : List Instance) (u : ℕ) → node_named ps u ≡ at_ke
 node_named-is [] u = refl
 node_named-is (p ∷ ps) u = ap (λ o. if p.node.name == u then Some p else o) (node_named-is ps u)
 
-pub slices_of-is : (hosts : List HostedNode) (u : ℕ) → slices_of hosts u ≡ at_key (λ (h : HostedNode). h.name) (λ (h : HostedNode). h.slices) hosts u
+pub slices_of-is : (nodes : List HostedNode) (u : ℕ) → slices_of nodes u ≡ at_key (λ (h : HostedNode). h.name) (λ (h : HostedNode). h.slices) nodes u
 slices_of-is [] u = refl
 slices_of-is (h ∷ hs) u = ap (λ o. if h.name == u then Some h.slices else o) (slices_of-is hs u)
 
@@ -62,9 +62,9 @@ at-place P (y ∷ ys) (suc k) x a h = at-place P ys k x a.1 h
 
 -- ---- machines and the networks for which they stand
 -- no name is hosted twice; the hosted nodes stand in their order at each open slot; no slot is open twice
-pub record IsNeat (hosts : List HostedNode) (slots : List Slot) : Type 0 where
-  pub single : all_differ (names_of hosts) ≡ true
-  pub names : AllByRecursion (λ s. map name_of s.instances ≡ names_of hosts) slots
+pub record IsNeat (nodes : List HostedNode) (slots : List Slot) : Type 0 where
+  pub single : all_differ (names_of nodes) ≡ true
+  pub names : AllByRecursion (λ s. map name_of s.instances ≡ names_of nodes) slots
   pub apart : all_differ (map number_of slots) ≡ true
 
 pub numbers-same : (slots : List Seats) → map number_of (map slot_of slots) ≡ map (λ s. s.number) slots
@@ -79,28 +79,28 @@ all-names : (ns : List ℕ) (slots : List Seats) → AllByRecursion (λ s. map s
 all-names ns [] a = tt
 all-names ns (s ∷ ss) a = (names-same s.seats ∙ a.0, all-names ns ss a.1)
 
-pub neat-machine : (m : Machine) → IsTidy m → IsNeat m.config.hosts (map slot_of m.slots)
+pub neat-machine : (m : Machine) → IsTidy m → IsNeat m.config.nodes (map slot_of m.slots)
 neat-machine m t = record {
   single = t.single;
-  names = all-names (names_of m.config.hosts) m.slots t.names;
+  names = all-names (names_of m.config.nodes) m.slots t.names;
   apart = ap all_differ (numbers-same m.slots) ∙ t.apart;
 }
 
-pub neat-net : (m : Machine) (net : Net) → IsTidy m → StandsFor m net → IsNeat net.hosts net.slots
-neat-net m net t s = subst (λ (n : Net). IsNeat n.hosts n.slots) (sym s.is) (neat-machine m t)
+pub neat-net : (m : Machine) (net : Net) → IsTidy m → StandsFor m net → IsNeat net.nodes net.slots
+neat-net m net t s = subst (λ (n : Net). IsNeat n.nodes n.slots) (sym s.is) (neat-machine m t)
 
 -- the node at the place of a hosted name and an open slot
-pub seat-there : (m : Machine) (i u k h : ℕ) → IsTidy m → index_of_slot (map slot_of m.slots) i ≡ Some k → index_of_name m.config.hosts u ≡ Some h
+pub seat-there : (m : Machine) (i u k h : ℕ) → IsTidy m → index_of_slot (map slot_of m.slots) i ≡ Some k → index_of_name m.config.nodes u ≡ Some h
     → (x : Seats) × (y : Seat) × (slice_get m.slots k ≡ Some x) × (slice_get x.seats h ≡ Some y) × (x.number ≡ i) × (y.instance.node.name ≡ u)
 seat-there m i u k h t q r =
     let a = index-get (λ (s : Seats). s.number) m.slots i k (ap (λ ns. index_in ns i) (sym (numbers-same m.slots)) ∙ q) in
-    let b = index-get seat_name a.0.seats u h (ap (λ ns. index_in ns u) (at-place (λ (s : Seats). map seat_name s.seats ≡ names_of m.config.hosts) m.slots k a.0 t.names a.1) ∙ r) in
+    let b = index-get seat_name a.0.seats u h (ap (λ ns. index_in ns u) (at-place (λ (s : Seats). map seat_name s.seats ≡ names_of m.config.nodes) m.slots k a.0 t.names a.1) ∙ r) in
     (a.0, b.0, a.1, b.1, a.2, b.2)
 
 -- a seat is an instance of the slot
-pub seat-instance : (m : Machine) (k h : ℕ) (y : Seat) → IsSeat m k h y → node_at (slice_get (map slot_of m.slots) k) h ≡ Some y.instance
+pub seat-instance : (m : Machine) (k h : ℕ) (y : Seat) → IsSeat m k h y → instance_at (slice_get (map slot_of m.slots) k) h ≡ Some y.instance
 seat-instance m k h y is =
-    ap (λ o. node_at o h) (slice_get-map slot_of m.slots k ∙ ap (option_map slot_of) is.1)
+    ap (λ o. instance_at o h) (slice_get-map slot_of m.slots k ∙ ap (option_map slot_of) is.1)
     ∙ slice_get-map (λ (x : Seat). x.instance) is.0.seats h ∙ ap (option_map (λ (x : Seat). x.instance)) is.2
 
 pub node-there : (m : Machine) (k h : ℕ) (y : Seat) → IsSeat m k h y → IsNodeThere (map slot_of m.slots) k h
@@ -110,34 +110,34 @@ node-there m k h y is =
     (slot_of is.0, at, slice_get_within (map (λ (x : Seat). x.instance) is.0.seats) h y.instance (slice_get-map (λ (x : Seat). x.instance) is.0.seats h ∙ ap (option_map (λ (x : Seat). x.instance)) is.2))
 
 -- ---- the node of a name at a slot
-pub known-instance : (hosts : List HostedNode) (ps : List Instance) (u h : ℕ) → map name_of ps ≡ names_of hosts → index_in (names_of hosts) u ≡ Some h → node_named ps u ≡ slice_get ps h
-known-instance hosts ps u h e q = node_named-is ps u ∙ at-index name_of (λ p. p) ps u h (ap (λ ns. index_in ns u) e ∙ q) ∙ same-option (slice_get ps h)
+pub known-instance : (nodes : List HostedNode) (ps : List Instance) (u h : ℕ) → map name_of ps ≡ names_of nodes → index_in (names_of nodes) u ≡ Some h → node_named ps u ≡ slice_get ps h
+known-instance nodes ps u h e q = node_named-is ps u ∙ at-index name_of (λ p. p) ps u h (ap (λ ns. index_in ns u) e ∙ q) ∙ same-option (slice_get ps h)
 
-pub node_where_open-node : (hosts : List HostedNode) (slots : List Slot) (i u k h : ℕ) → IsNeat hosts slots → index_of_slot slots i ≡ Some k → index_in (names_of hosts) u ≡ Some h → node_where_open (instances_at slots i) u ≡ node_at (slice_get slots k) h
-node_where_open-node hosts slots i u k h t q r = ap (λ o. node_where_open o u) (instances_at-is slots i ∙ at-index number_of places_of slots i k q) ∙ go (slice_get slots k) refl
+pub node_where_open-node : (nodes : List HostedNode) (slots : List Slot) (i u k h : ℕ) → IsNeat nodes slots → index_of_slot slots i ≡ Some k → index_in (names_of nodes) u ≡ Some h → node_where_open (instances_at slots i) u ≡ instance_at (slice_get slots k) h
+node_where_open-node nodes slots i u k h t q r = ap (λ o. node_where_open o u) (instances_at-is slots i ∙ at-index number_of places_of slots i k q) ∙ go (slice_get slots k) refl
   where
-    go : (o : Option Slot) → slice_get slots k ≡ o → node_where_open (option_map places_of o) u ≡ node_at o h
+    go : (o : Option Slot) → slice_get slots k ≡ o → node_where_open (option_map places_of o) u ≡ instance_at o h
     go None e = refl
-    go (Some s) e = known-instance hosts s.instances u h (at-place (λ (s : Slot). map name_of s.instances ≡ names_of hosts) slots k s t.names e) r
+    go (Some s) e = known-instance nodes s.instances u h (at-place (λ (s : Slot). map name_of s.instances ≡ names_of nodes) slots k s t.names e) r
 
 -- ---- one event of one node
-same-nodes : (hosts : List HostedNode) (ps : List Instance) (u h : ℕ) (e : NodeEvent) → all_differ (names_of hosts) ≡ true → map name_of ps ≡ names_of hosts → index_in (names_of hosts) u ≡ Some h → changed_at h (after_event e) ps ≡ act_in u e ps
-same-nodes hosts ps u h e d q r = changed-map name_of (after_event e) ps u h (ap (λ ns. index_in ns u) q ∙ r) (ap all_differ q ∙ d)
+same-nodes : (nodes : List HostedNode) (ps : List Instance) (u h : ℕ) (e : NodeEvent) → all_differ (names_of nodes) ≡ true → map name_of ps ≡ names_of nodes → index_in (names_of nodes) u ≡ Some h → changed_at h (after_event e) ps ≡ act_in u e ps
+same-nodes nodes ps u h e d q r = changed-map name_of (after_event e) ps u h (ap (λ ns. index_in ns u) q ∙ r) (ap all_differ q ∙ d)
 
-same-slots : (hosts : List HostedNode) (slots : List Slot) (i u h : ℕ) (e : NodeEvent) → all_differ (names_of hosts) ≡ true → AllByRecursion (λ s. map name_of s.instances ≡ names_of hosts) slots → index_in (names_of hosts) u ≡ Some h
+same-slots : (nodes : List HostedNode) (slots : List Slot) (i u h : ℕ) (e : NodeEvent) → all_differ (names_of nodes) ≡ true → AllByRecursion (λ s. map name_of s.instances ≡ names_of nodes) slots → index_in (names_of nodes) u ≡ Some h
     → map {B = Slot} (λ (s : Slot). if s.number == i then record s { instances = changed_at h (after_event e) s.instances } else s) slots ≡ map {B = Slot} (λ (s : Slot). if s.number == i then record s { instances = act_in u e s.instances } else s) slots
-same-slots hosts [] i u h e d a r = refl
-same-slots hosts (s ∷ ss) i u h e d a r =
-    ap₂ {C = List Slot} (λ (ps : List Instance) (ts : List Slot). (if s.number == i then record s { instances = ps } else s) ∷ ts) (same-nodes hosts s.instances u h e d a.0 r) (same-slots hosts ss i u h e d a.1 r)
+same-slots nodes [] i u h e d a r = refl
+same-slots nodes (s ∷ ss) i u h e d a r =
+    ap₂ {C = List Slot} (λ (ps : List Instance) (ts : List Slot). (if s.number == i then record s { instances = ps } else s) ∷ ts) (same-nodes nodes s.instances u h e d a.0 r) (same-slots nodes ss i u h e d a.1 r)
 
-pub acted-is : (net : Net) (i u k h : ℕ) (e : NodeEvent) → IsNeat net.hosts net.slots → index_of_slot net.slots i ≡ Some k → index_in (names_of net.hosts) u ≡ Some h → acted net.slots k h e ≡ (act net i u e).0.slots
+pub acted-is : (net : Net) (i u k h : ℕ) (e : NodeEvent) → IsNeat net.nodes net.slots → index_of_slot net.slots i ≡ Some k → index_in (names_of net.nodes) u ≡ Some h → slots_after_event net.slots k h e ≡ (act net i u e).0.slots
 unfolding act
 acted-is net i u k h e t q r =
-    changed-map number_of (λ (s : Slot). record s { instances = changed_at h (after_event e) s.instances }) net.slots i k q t.apart ∙ same-slots net.hosts net.slots i u h e t.single t.names r
+    changed-map number_of (λ (s : Slot). record s { instances = changed_at h (after_event e) s.instances }) net.slots i k q t.apart ∙ same-slots net.nodes net.slots i u h e t.single t.names r
 
-pub outs-are : (net : Net) (i u k h : ℕ) (e : NodeEvent) → IsNeat net.hosts net.slots → index_of_slot net.slots i ≡ Some k → index_in (names_of net.hosts) u ≡ Some h → outs_at e (node_at (slice_get net.slots k) h) ≡ (act net i u e).1
+pub outs-are : (net : Net) (i u k h : ℕ) (e : NodeEvent) → IsNeat net.nodes net.slots → index_of_slot net.slots i ≡ Some k → index_in (names_of net.nodes) u ≡ Some h → outs_at e (instance_at (slice_get net.slots k) h) ≡ (act net i u e).1
 unfolding act
-outs-are net i u k h e t q r = ap (outs_at e) (sym (node_where_open-node net.hosts net.slots i u k h t q r))
+outs-are net i u k h e t q r = ap (outs_at e) (sym (node_where_open-node net.nodes net.slots i u k h t q r))
 
 -- ---- closing
 -- nothing else has the key, so nothing else goes

@@ -5,12 +5,12 @@ use Rattle.codec.specs.declared.error.Fault.{Fault as Wrong}
 use Rattle.codec.specs.declared.error.Fault.TheVariants.{Truncated, TrailingBytes, Version, Kind, Limit, BadSlices, BadStatement, SpareVersion}
 use Rattle.codec.specs.Answers.{fault_number}
 use Rattle.codec.specs.Grammar.{IsFault}
-use Rattle.codec.specs.Reading.{decoded}
+use Rattle.codec.specs.Reading.{decoding}
 use Rattle.codec.specs.Spelling.{Spells}
 use Rattle.codec.specs.Steps.{IsBytes}
 use Rattle.codec.proofs.EnvelopeLaws.{is_spelled, is_read, is_fault, fault_is}
 use Rattle.protocol.specs.Networks.Reading.{Read, Fault}
-use Rattle.network.specs.Decoding.{said, reading, ReadingsAreExact}
+use Rattle.network.specs.Decoding.{reading_of_result, reading, ReadingsAreExact}
 
 -- the number of a fault tells it
 fault_by : ℕ → Wrong
@@ -31,26 +31,26 @@ numbers-differ : (f g : Wrong) → fault_number f ≡ fault_number g → f ≡ g
 numbers-differ f g e = sym (fault_by-number f) ∙ ap fault_by e ∙ fault_by-number g
 
 -- what was said is told apart
-said-read : (r : Result Sent Wrong) (e : Sent) → said r ≡ Read e → r ≡ Ok e
+said-read : (r : Result Sent Wrong) (e : Sent) → reading_of_result r ≡ Read e → r ≡ Ok e
 said-read (Ok x) e h = let q : x ≡ e = cc in ap (λ y. Ok y) q
 said-read (Err f) e h = absurd (cc)
 
-said-fault : (r : Result Sent Wrong) (f : Wrong) → said r ≡ Fault (fault_number f) → r ≡ Err f
+said-fault : (r : Result Sent Wrong) (f : Wrong) → reading_of_result r ≡ Fault (fault_number f) → r ≡ Err f
 said-fault (Ok x) f h = absurd (cc)
 said-fault (Err g) f h = let q : fault_number g ≡ fault_number f = cc in ap (λ y. Err y) (numbers-differ g f q)
 
 -- an envelope is read exactly where the bytes spell it
 pub reads : (bytes : List ℕ) (e : Sent) → Spells bytes e → reading bytes ≡ Read e
 unfolding reading
-reads bytes e h = ap said (is_read bytes e h)
+reads bytes e h = ap reading_of_result (is_read bytes e h)
 
 pub reads-fault : (bytes : List ℕ) (f : Wrong) → IsBytes bytes → IsFault bytes f → reading bytes ≡ Fault (fault_number f)
 unfolding reading
-reads-fault bytes f fits h = ap said (fault_is bytes f fits h)
+reads-fault bytes f fits h = ap reading_of_result (fault_is bytes f fits h)
 
 pub readings_are_exact : ReadingsAreExact
 unfolding reading
 readings_are_exact bytes fits = record {
-  envelope = λ e. (λ h. is_spelled bytes e fits (said-read (decoded bytes) e h), λ h. reads bytes e h);
-  fault = λ f. (λ h. is_fault bytes f fits (said-fault (decoded bytes) f h), λ h. reads-fault bytes f fits h);
+  envelope = λ e. (λ h. is_spelled bytes e fits (said-read (decoding bytes) e h), λ h. reads bytes e h);
+  fault = λ f. (λ h. is_fault bytes f fits (said-fault (decoding bytes) f h), λ h. reads-fault bytes f fits h);
 }

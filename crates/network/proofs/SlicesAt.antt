@@ -5,24 +5,24 @@ use Rattle.std.proofs.lemmas.Bool.{and_from, and_left, and_right}
 use Rattle.types.specs.Trees.{Slices}
 use Rattle.protocol.specs.Networks.{Net, Instance, Slot, is_hosted, is_open, node_where_open, instances_at, slices_of}
 use Rattle.configuration.specs.Configs.{index_in, index_of_name, names_of}
-use Rattle.network.specs.Deeds.{IsSeat, index_of_slot, node_at}
+use Rattle.network.specs.Deeds.{IsSeat, index_of_slot, instance_at}
 use Rattle.network.specs.Lodgings.{Seat, slot_of}
 use Rattle.network.specs.Standing.{IsStanding, Standing, StandsFor, machine_of, slices_at}
 use Rattle.network.proofs.Indexes.{at-none}
 use Rattle.network.proofs.Plans.{node_where_open-node, neat-net, node_named-is, instances_at-is, seat-instance}
-use Rattle.network.proofs.Allowed.{host-in, hosted, hosted-not, opened_at, opened_not, slot-in}
+use Rattle.network.proofs.Allowed.{node_place-in, hosted, hosted-not, opened_at, opened_not, slot-in}
 
 -- the hosted names are those of the configuration
-same-hosts : (m : Standing) (net : Net) (u : ℕ) → StandsFor (machine_of m) net → is_hosted net u ≡ is_some (slices_of m.config.hosts u)
-same-hosts m net u s = ap (λ (n : Net). is_hosted n u) s.is
+same-hosted : (m : Standing) (net : Net) (u : ℕ) → StandsFor (machine_of m) net → is_hosted net u ≡ is_some (slices_of m.config.nodes u)
+same-hosted m net u s = ap (λ (n : Net). is_hosted n u) s.is
 
 -- ---- the slot is not open
 pub closed-none : (m : Standing) (i u : ℕ) → index_of_slot (map slot_of (machine_of m).slots) i ≡ None → (net : Net) → StandsFor (machine_of m) net → None ≡ slices_at net i u
 closed-none m i u h net s =
     sym (ap (λ (o : Option (List Instance)). option_map (λ (p : Instance). p.node.slices) (node_where_open o u)) (instances_at-is net.slots i ∙ at-none (λ (x : Slot). x.number) (λ (x : Slot). x.instances) net.slots i (slot-in m net i s ∙ h)))
 
-pub closed-not : (m : Standing) (i u : ℕ) → index_of_slot (map slot_of (machine_of m).slots) i ≡ None → (net : Net) → StandsFor (machine_of m) net → false ≡ (is_open net i && is_some (slices_of m.config.hosts u))
-closed-not m i u h net s = sym (and_left (is_open net i) (is_some (slices_of m.config.hosts u)) (opened_not net i (slot-in m net i s ∙ h)))
+pub closed-not : (m : Standing) (i u : ℕ) → index_of_slot (map slot_of (machine_of m).slots) i ≡ None → (net : Net) → StandsFor (machine_of m) net → false ≡ (is_open net i && is_some (slices_of m.config.nodes u))
+closed-not m i u h net s = sym (and_left (is_open net i) (is_some (slices_of m.config.nodes u)) (opened_not net i (slot-in m net i s ∙ h)))
 
 -- ---- the node is not hosted
 unknown : (ns : List ℕ) (slots : List Slot) (i u : ℕ) → AllByRecursion (λ s. map (λ x. x.node.name) s.instances ≡ ns) slots → index_in ns u ≡ None → node_where_open (instances_at slots i) u ≡ None
@@ -33,22 +33,22 @@ unknown ns (s ∷ ss) i u a h = go (s.number == i) (unknown ns ss i u a.1 h)
     go true ih = node_named-is s.instances u ∙ at-none (λ (x : Instance). x.node.name) (λ (x : Instance). x) s.instances u (ap (λ xs. index_in xs u) a.0 ∙ h)
     go false ih = ih
 
-pub stranger-none : (m : Standing) (i u : ℕ) → IsStanding m → index_of_name m.config.hosts u ≡ None → (net : Net) → StandsFor (machine_of m) net → None ≡ slices_at net i u
+pub stranger-none : (m : Standing) (i u : ℕ) → IsStanding m → index_of_name m.config.nodes u ≡ None → (net : Net) → StandsFor (machine_of m) net → None ≡ slices_at net i u
 stranger-none m i u st h net s =
-    sym (ap (option_map (λ (p : Instance). p.node.slices)) (unknown (names_of net.hosts) net.slots i u (neat-net (machine_of m) net st.tidy s).names (host-in m net u s ∙ h)))
+    sym (ap (option_map (λ (p : Instance). p.node.slices)) (unknown (names_of net.nodes) net.slots i u (neat-net (machine_of m) net st.tidy s).names (node_place-in m net u s ∙ h)))
 
-pub stranger-not : (m : Standing) (i u : ℕ) → index_of_name m.config.hosts u ≡ None → (net : Net) → StandsFor (machine_of m) net → false ≡ (is_open net i && is_some (slices_of m.config.hosts u))
-stranger-not m i u h net s = sym (and_right (is_open net i) (is_some (slices_of m.config.hosts u)) (sym (same-hosts m net u s) ∙ hosted-not net u (host-in m net u s ∙ h)))
+pub stranger-not : (m : Standing) (i u : ℕ) → index_of_name m.config.nodes u ≡ None → (net : Net) → StandsFor (machine_of m) net → false ≡ (is_open net i && is_some (slices_of m.config.nodes u))
+stranger-not m i u h net s = sym (and_right (is_open net i) (is_some (slices_of m.config.nodes u)) (sym (same-hosted m net u s) ∙ hosted-not net u (node_place-in m net u s ∙ h)))
 
 -- ---- a hosted node at an open slot
-pub found-value : (m : Standing) (i u k h : ℕ) (y : Seat) (q : Slices) → IsStanding m → index_of_slot (map slot_of (machine_of m).slots) i ≡ Some k → index_of_name m.config.hosts u ≡ Some h → IsSeat (machine_of m) k h y → q ≡ y.instance.node.slices
+pub found-value : (m : Standing) (i u k h : ℕ) (y : Seat) (q : Slices) → IsStanding m → index_of_slot (map slot_of (machine_of m).slots) i ≡ Some k → index_of_name m.config.nodes u ≡ Some h → IsSeat (machine_of m) k h y → q ≡ y.instance.node.slices
     → (net : Net) → StandsFor (machine_of m) net → Some q ≡ slices_at net i u
-found-value m i u k h y q st slot host seat is net s =
+found-value m i u k h y q st slot node seat is net s =
     ap (λ (x : Slices). Some x) is
     ∙ sym (ap (option_map (λ (p : Instance). p.node.slices))
-    (node_where_open-node net.hosts net.slots i u k h (neat-net (machine_of m) net st.tidy s) (slot-in m net i s ∙ slot) (host-in m net u s ∙ host)
-    ∙ ap (λ (n : Net). node_at (slice_get n.slots k) h) s.is ∙ seat-instance (machine_of m) k h y seat))
+    (node_where_open-node net.nodes net.slots i u k h (neat-net (machine_of m) net st.tidy s) (slot-in m net i s ∙ slot) (node_place-in m net u s ∙ node)
+    ∙ ap (λ (n : Net). instance_at (slice_get n.slots k) h) s.is ∙ seat-instance (machine_of m) k h y seat))
 
-pub found-there : (m : Standing) (i u k h : ℕ) → index_of_slot (map slot_of (machine_of m).slots) i ≡ Some k → index_of_name m.config.hosts u ≡ Some h → (net : Net) → StandsFor (machine_of m) net → true ≡ (is_open net i && is_some (slices_of m.config.hosts u))
-found-there m i u k h slot host net s =
-    sym (and_from (is_open net i) (is_some (slices_of m.config.hosts u)) (opened_at net i k (slot-in m net i s ∙ slot)) (sym (same-hosts m net u s) ∙ hosted net u h (host-in m net u s ∙ host)))
+pub found-there : (m : Standing) (i u k h : ℕ) → index_of_slot (map slot_of (machine_of m).slots) i ≡ Some k → index_of_name m.config.nodes u ≡ Some h → (net : Net) → StandsFor (machine_of m) net → true ≡ (is_open net i && is_some (slices_of m.config.nodes u))
+found-there m i u k h slot node net s =
+    sym (and_from (is_open net i) (is_some (slices_of m.config.nodes u)) (opened_at net i k (slot-in m net i s ∙ slot)) (sym (same-hosted m net u s) ∙ hosted net u h (node_place-in m net u s ∙ node)))

@@ -22,8 +22,8 @@ abbrev pub slot_numbers : List Slot → List ℕ
 slot_numbers ss = map (λ (s : Slot). s.number) ss
 
 -- the names at each slot, and the numbers of the slots
-pub record Neat (hosts : List HostedNode) (slots : List Slot) : Type 0 where
-  pub names : AllByRecursion (λ s. names_at s.instances ≡ names_of hosts) slots
+pub record Neat (nodes : List HostedNode) (slots : List Slot) : Type 0 where
+  pub names : AllByRecursion (λ s. names_at s.instances ≡ names_of nodes) slots
   pub apart : all_differ (slot_numbers slots) ≡ true
 
 -- ---- an event of one node
@@ -58,16 +58,16 @@ acted-names ns i u e (s ∷ ss) h = (one (s.number == i), acted-names ns i u e s
     one true = act-names u e s.instances ∙ h.0
     one false = h.0
 
-neat-act : (net : Net) (i u : ℕ) (e : NodeEvent) → Neat net.hosts net.slots → Neat net.hosts (act net i u e).0.slots
+neat-act : (net : Net) (i u : ℕ) (e : NodeEvent) → Neat net.nodes net.slots → Neat net.nodes (act net i u e).0.slots
 unfolding act
-neat-act net i u e n = record { names = acted-names (names_of net.hosts) i u e net.slots n.names; apart = ap all_differ (acted-numbers i u e net.slots) ∙ n.apart }
+neat-act net i u e n = record { names = acted-names (names_of net.nodes) i u e net.slots n.names; apart = ap all_differ (acted-numbers i u e net.slots) ∙ n.apart }
 
-neat-known : (net : Net) (i u : ℕ) (o : Option Sent) → Neat net.hosts net.slots → Neat net.hosts (act_known net i u o).0.slots
+neat-known : (net : Net) (i u : ℕ) (o : Option Sent) → Neat net.nodes net.slots → Neat net.nodes (act_known net i u o).0.slots
 neat-known net i u None n = n
 neat-known net i u (Some e) n = neat-act net i u (Take e) n
 
 -- ---- opening
-fresh-names : (hosts : List HostedNode) (i : ℕ) → names_at (nodes_of_new_slot hosts i) ≡ names_of hosts
+fresh-names : (nodes : List HostedNode) (i : ℕ) → names_at (nodes_of_new_slot nodes i) ≡ names_of nodes
 unfolding nodes_of_new_slot fresh
 fresh-names [] i = refl
 fresh-names (h ∷ hs) i = ap (λ (ns : List ℕ). h.name ∷ ns) (fresh-names hs i)
@@ -121,11 +121,11 @@ push-numbers : (ss : List Slot) (s : Slot) → slot_numbers (ss ++ s ∷ []) ≡
 push-numbers [] s = refl
 push-numbers (x ∷ xs) s = ap (λ (ns : List ℕ). x.number ∷ ns) (push-numbers xs s)
 
-neat-open : (net : Net) (i : ℕ) → is_open net i ≡ false → Neat net.hosts net.slots → Neat net.hosts (net.slots ++ record { number = i; instances = nodes_of_new_slot net.hosts i } ∷ [])
+neat-open : (net : Net) (i : ℕ) → is_open net i ≡ false → Neat net.nodes net.slots → Neat net.nodes (net.slots ++ record { number = i; instances = nodes_of_new_slot net.nodes i } ∷ [])
 neat-open net i out n =
-    let s : Slot = record { number = i; instances = nodes_of_new_slot net.hosts i } in
+    let s : Slot = record { number = i; instances = nodes_of_new_slot net.nodes i } in
     record {
-      names = push-names (λ s. names_at s.instances ≡ names_of net.hosts) net.slots s n.names (fresh-names net.hosts i);
+      names = push-names (λ s. names_at s.instances ≡ names_of net.nodes) net.slots s n.names (fresh-names net.nodes i);
       apart = ap all_differ (push-numbers net.slots s) ∙ push-apart (slot_numbers net.slots) i n.apart (absent net.slots i out);
     }
 
@@ -159,8 +159,8 @@ filter-apart test (s ∷ ss) h = go (test s) (filter-apart test ss p.1)
     go true k = and_from (not (list_any (λ w. w == s.number) (slot_numbers (filter test ss)))) (all_differ (slot_numbers (filter test ss))) (filter-any test ss s.number p.0) k
     go false k = k
 
-neat-close : (net : Net) (i : ℕ) → Neat net.hosts net.slots → Neat net.hosts (filter (λ s. not (s.number == i)) net.slots)
-neat-close net i n = record { names = filter-names (λ s. names_at s.instances ≡ names_of net.hosts) (λ s. not (s.number == i)) net.slots n.names; apart = filter-apart (λ s. not (s.number == i)) net.slots n.apart }
+neat-close : (net : Net) (i : ℕ) → Neat net.nodes net.slots → Neat net.nodes (filter (λ s. not (s.number == i)) net.slots)
+neat-close net i n = record { names = filter-names (λ s. names_at s.instances ≡ names_of net.nodes) (λ s. not (s.number == i)) net.slots n.names; apart = filter-apart (λ s. not (s.number == i)) net.slots n.apart }
 
 -- ---- any event
 -- a slot is opened only where it is not open
@@ -168,7 +168,7 @@ abbrev pub IsFresh : Net → Step → Type 0
 IsFresh net (Opens i) = is_open net i ≡ false
 IsFresh net _ = Unit {0}
 
-pub neat : (net : Net) (e : Step) → IsFresh net e → Neat net.hosts net.slots → Neat net.hosts (effect net e).0.slots
+pub neat : (net : Net) (e : Step) → IsFresh net e → Neat net.nodes net.slots → Neat net.nodes (effect net e).0.slots
 unfolding effect
 neat net (Opens i) f n = neat-open net i f n
 neat net (Closes i) f n = neat-close net i n

@@ -5,26 +5,26 @@ use Rattle.types.specs.declared.event.Event.{Event}
 use Rattle.codec.specs.declared.error.Fault.{Fault as Wrong}
 use Rattle.codec.specs.Answers.{fault_number}
 use Rattle.codec.specs.Grammar.{IsFault}
-use Rattle.codec.specs.Reading.{decoded}
+use Rattle.codec.specs.Reading.{decoding}
 use Rattle.codec.specs.Spelling.{Spells}
 use Rattle.codec.specs.Steps.{IsBytes}
-use Rattle.protocol.specs.Networks.{Reading, Step, read}
+use Rattle.protocol.specs.Networks.{Reading, Step, step_of_event}
 use Rattle.protocol.specs.Networks.Reading.{Read, Fault}
 use Rattle.network.specs.declared.reading.Reading.{Reading as Answer}
 use Rattle.network.specs.declared.reading.Reading.TheVariants.{Says, Faulty}
 
 -- an envelope, or the number of a fault
-abbrev pub said : Result Sent Wrong → Reading
-said (Ok e) = Read e
-said (Err f) = Fault (fault_number f)
+abbrev pub reading_of_result : Result Sent Wrong → Reading
+reading_of_result (Ok e) = Read e
+reading_of_result (Err f) = Fault (fault_number f)
 
 -- what a text says; every text says something, and exactly one thing
 unfoldable pub reading : List ℕ → Reading
-reading bytes = said (decoded bytes)
+reading bytes = reading_of_result (decoding bytes)
 
 -- what an event is to this host
 abbrev pub step_of : Event → Step
-step_of e = read reading e
+step_of e = step_of_event reading e
 
 -- what the code answers
 abbrev pub said_by : Answer → Reading

@@ -30,26 +30,26 @@ abbrev pub index_of_slot : List Slot → ℕ → Option ℕ
 index_of_slot slots i = index_in (map (λ s. s.number) slots) i
 
 -- the node at a place of a slot
-abbrev pub node_at : Option Slot → ℕ → Option Instance
-node_at None n = None
-node_at (Some s) n = slice_get s.instances n
+abbrev pub instance_at : Option Slot → ℕ → Option Instance
+instance_at None n = None
+instance_at (Some s) n = slice_get s.instances n
 
 -- ---- what is done, by places
-abbrev pub acted : List Slot → ℕ → ℕ → NodeEvent → List Slot
-acted slots k h e =
+abbrev pub slots_after_event : List Slot → ℕ → ℕ → NodeEvent → List Slot
+slots_after_event slots k h e =
     changed_at {X = Slot} k (λ (s : Slot). record s { instances = changed_at h (after_event e) s.instances }) slots
 
 abbrev pub slots_after : List Slot → Deed → List Slot
 slots_after slots (Open s) = slots ++ slot_of (seats_of s) ∷ []
 slots_after slots (Close k) = remove slots k
-slots_after slots (Act k h e) = acted slots k h (event_of e)
-slots_after slots (Hand k h e) = acted slots k h (NodeEvent.Take e)
+slots_after slots (Act k h e) = slots_after_event slots k h (event_of e)
+slots_after slots (Hand k h e) = slots_after_event slots k h (NodeEvent.Take e)
 
 abbrev pub outs_after : List Slot → Deed → List Out
 outs_after slots (Open s) = []
 outs_after slots (Close k) = []
-outs_after slots (Act k h e) = outs_at (event_of e) (node_at (slice_get slots k) h)
-outs_after slots (Hand k h e) = outs_at (NodeEvent.Take e) (node_at (slice_get slots k) h)
+outs_after slots (Act k h e) = outs_at (event_of e) (instance_at (slice_get slots k) h)
+outs_after slots (Hand k h e) = outs_at (NodeEvent.Take e) (instance_at (slice_get slots k) h)
 
 -- the places of a node are there
 abbrev pub IsNodeThere : List Slot → ℕ → ℕ → Type 0
@@ -67,7 +67,7 @@ IsThere archive slots (Hand k h e) = IsNodeThere slots k h
 abbrev pub IsNodeOf : Machine → Option (ℕ × ℕ) → ℕ → ℕ → Type 0
 IsNodeOf m None k h = ⊥
 IsNodeOf m (Some at) k h =
-    (index_of_slot (map slot_of m.slots) at.0 ≡ Some k) × (index_of_name m.config.hosts at.1 ≡ Some h)
+    (index_of_slot (map slot_of m.slots) at.0 ≡ Some k) × (index_of_name m.config.nodes at.1 ≡ Some h)
 
 -- the event opens this slot, closes one, or is one of the node at these places
 abbrev pub IsEventOf : Machine → Step → Deed → Type 0
@@ -77,11 +77,11 @@ IsEventOf m e (Act k h x) = IsNodeOf m (slot_and_node_of e) k h
 IsEventOf m e (Hand k h x) = IsNodeOf m (slot_and_node_of e) k h
 
 -- the envelope that is filed when it is handed over
-abbrev pub handed : Deed → Option Sent
-handed (Open s) = None
-handed (Close k) = None
-handed (Act k h x) = None
-handed (Hand k h x) = Some x
+abbrev pub envelope_to_file : Deed → Option Sent
+envelope_to_file (Open s) = None
+envelope_to_file (Close k) = None
+envelope_to_file (Act k h x) = None
+envelope_to_file (Hand k h x) = Some x
 
 -- the node at a place of an open slot, with its counts
 abbrev pub IsSeat : Machine → ℕ → ℕ → Seat → Type 0
@@ -108,7 +108,7 @@ pub record IsPlan (m : Standing) (e : Step) (plan : Plan) : Type 0 where
   pub slots : (net : Net) → StandsFor (machine_of m) net → slots_after net.slots plan.deed ≡ (effect net e).0.slots
   pub outs : (net : Net) → StandsFor (machine_of m) net → outs_after net.slots plan.deed ≡ (effect net e).1
   pub named : IsEventOf (machine_of m) e plan.deed
-  pub handed : handed plan.deed ≡ delivered_of e
+  pub handed : envelope_to_file plan.deed ≡ delivered_of e
   pub drawn : IsDrawn (machine_of m) plan.drawn (source m.config.roster e)
   pub size : plan.size ≡ size_of e
   pub there : IsThere m.archive (map slot_of (machine_of m).slots) plan.deed
@@ -178,7 +178,7 @@ IsPairRoom m s u from result = (i : ℕ) → IsSlotThere m i s.slot_at → IsRoo
 -- the places of a hosted node at an open slot
 pub record IsSpot (m : Standing) (i u : ℕ) (s : Spot) : Type 0 where
   pub slot : IsSlotThere m i s.slot_at
-  pub host : index_of_name m.config.hosts u ≡ Some s.host_at
+  pub node : index_of_name m.config.nodes u ≡ Some s.node_at
 
 -- the node is not hosted, or the slot is not open
 abbrev pub IsSpotRefused : Standing → ℕ → ℕ → Refusal → Type 0

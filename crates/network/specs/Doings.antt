@@ -11,9 +11,9 @@ use Rattle.slot.specs.Filings.{AreFiledOuts, IsFiledEvent, copies_of, event_of, 
 use Rattle.configuration.specs.Configs.{index_in}
 use Rattle.network.specs.Charges.{IsReady, IsSlotActed}
 use Rattle.network.specs.Changes.{IsChangedAt}
-use Rattle.network.specs.Deeds.{node_at, outs_after}
+use Rattle.network.specs.Deeds.{instance_at, outs_after}
 use Rattle.network.specs.Lodgings.{IsLodged, Lodgings, seats_of, slot_of}
-use Rattle.network.specs.Marks.{numbered, emitted_at}
+use Rattle.network.specs.Marks.{numbers_by_kind, emitted_at}
 use Rattle.network.specs.SlotPlaces.{numbers_of}
 use Rattle.network.specs.declared.applied.Outcome.{Outcome}
 use Rattle.network.specs.declared.plan.Charge.{Charge}
@@ -44,9 +44,9 @@ abbrev pub marks_after : List Slot → Deed → List ℕ
 marks_after slots (Open s) = []
 marks_after slots (Close k) = []
 marks_after slots (Act k h e) =
-    numbered (emitted_at (node_at (slice_get slots k) h)) (emissions (outs_after slots (Act k h e)))
+    numbers_by_kind (emitted_at (instance_at (slice_get slots k) h)) (emissions (outs_after slots (Act k h e)))
 marks_after slots (Hand k h e) =
-    numbered (emitted_at (node_at (slice_get slots k) h)) (emissions (outs_after slots (Hand k h e)))
+    numbers_by_kind (emitted_at (instance_at (slice_get slots k) h)) (emissions (outs_after slots (Hand k h e)))
 
 -- what is given out, its marks, so many whole copies, and what was filed
 pub record IsAnswer (outs : List Out) (marks : List ℕ) (delivered : Option Sent) (count : ℕ) (archive : List Sent)

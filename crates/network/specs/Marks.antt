@@ -29,11 +29,12 @@ emitted_before net None = []
 emitted_before net (Some at) = emitted_at (node_where_open (instances_at net.slots at.0) at.1)
 
 -- the number of each emission among those of its kind, after these
-unfoldable pub numbered : List Sent → List Sent → List ℕ
-numbered emitted [] = []
-numbered emitted (e ∷ es) =
-    suc (length (filter (λ x. is_kind (kind_of e.body) (kind_of x.body)) emitted)) ∷ numbered (emitted ++ e ∷ []) es
+unfoldable pub numbers_by_kind : List Sent → List Sent → List ℕ
+numbers_by_kind emitted [] = []
+numbers_by_kind emitted (e ∷ es) =
+    suc (length (filter (λ x. is_kind (kind_of e.body) (kind_of x.body)) emitted))
+    ∷ numbers_by_kind (emitted ++ e ∷ []) es
 
 -- the marks of an event that is not refused: by which number a Hear names each of its emissions
 abbrev pub marks_in : Net → Step → List ℕ
-marks_in net e = numbered (emitted_before net (slot_and_node_of e)) (emissions (effect net e).1)
+marks_in net e = numbers_by_kind (emitted_before net (slot_and_node_of e)) (emissions (effect net e).1)

@@ -38,7 +38,7 @@ machine_of m =
 abbrev pub net_of : Machine → List Draw → Net
 net_of m draws = record {
   number = m.config.number;
-  hosts = m.config.hosts;
+  nodes = m.config.nodes;
   budgets = m.config.budgets;
   roster = m.config.roster;
   slots = map slot_of m.slots;
@@ -57,8 +57,8 @@ pub record StandsFor (m : Machine) (net : Net) : Type 0 where
 -- no name is hosted twice; the hosted nodes stand in their order at each open slot; no slot is open twice; the bytes
 -- keep the budget
 pub record IsTidy (m : Machine) : Type 0 where
-  pub single : all_differ (names_of m.config.hosts) ≡ true
-  pub names : AllByRecursion (λ s. map (λ x. x.instance.node.name) s.seats ≡ names_of m.config.hosts) m.slots
+  pub single : all_differ (names_of m.config.nodes) ≡ true
+  pub names : AllByRecursion (λ s. map (λ x. x.instance.node.name) s.seats ≡ names_of m.config.nodes) m.slots
   pub apart : all_differ (map (λ s. s.number) m.slots) ≡ true
   pub bytes : m.bytes ≤ m.config.budgets.bytes
 

@@ -16,7 +16,7 @@ ghost use Rattle.network.specs.Answers.{IsApplied};
 ghost use Rattle.network.specs.Changes.{IsChangedAt};
 ghost use Rattle.network.specs.Charges.{HasRoomOnNetwork, IsReady, IsSlotActed, on_budgets_of, on_opens_of};
 ghost use Rattle.network.specs.Decoding.{step_of};
-ghost use Rattle.network.specs.Deeds.{IsPlan, handed, node_at, outs_after};
+ghost use Rattle.network.specs.Deeds.{IsPlan, envelope_to_file, instance_at, outs_after};
 ghost use Rattle.network.specs.Doings.{IsAnswer, IsDoable, IsDone, marks_after, slots_of};
 ghost use Rattle.network.specs.Lodgings.{AreLodged, IsLodged};
 ghost use Rattle.network.specs.SlotPlaces.{numbers_of};
@@ -130,7 +130,7 @@ fn perform<S: Shelf>(
     requires lodged { AreLodged archive.old slots.old }
     requires doable { IsDoable archive.old terms.now.charge slots.old deed }
     ensures done { OnOk result (IsDone terms.now.charge deed slots.old slots.new) }
-    ensures answer { IfOk result (IsAnswer (outs_after (slots_of slots.old) deed) (marks_after (slots_of slots.old) deed) (handed deed) terms.now.copies archive.new) }
+    ensures answer { IfOk result (IsAnswer (outs_after (slots_of slots.old) deed) (marks_after (slots_of slots.old) deed) (envelope_to_file deed) terms.now.copies archive.new) }
     ensures err { OnErr result (slots.new ≡ slots.old) }
     ensures lodged { AreLodged archive.new slots.new }
     ensures kept { Keeps archive.old archive.new }
@@ -140,18 +140,18 @@ fn perform<S: Shelf>(
         Deed::Close { slot_at } => Ok(close(alloc, archive, slots, slot_at)),
         Deed::Act {
             slot_at,
-            host_at,
+            node_at,
             event,
         } => {
-            let spot = Spot { slot_at, host_at };
+            let spot = Spot { slot_at, node_at };
             act(archive, &mut slots.slots, &spot, event, terms)
         }
         Deed::Hand {
             slot_at,
-            host_at,
+            node_at,
             envelope,
         } => {
-            let spot = Spot { slot_at, host_at };
+            let spot = Spot { slot_at, node_at };
             hand(archive, &mut slots.slots, &spot, envelope, terms)
         }
     }
@@ -203,15 +203,15 @@ fn act<S: Shelf>(
     terms: &Terms,
 ) -> Result<Outcome, AllocError>
     requires lodged { AreLodged archive.old slots.old.items }
-    requires ready { IsReady terms.now.charge slots.old.items spot.now.slot_at spot.now.host_at }
+    requires ready { IsReady terms.now.charge slots.old.items spot.now.slot_at spot.now.node_at }
     requires event { IsFiledEvent archive.old event }
-    ensures done { OnOk result (IsChangedAt (IsSlotActed terms.now.charge spot.now.host_at (event_of event)) spot.now.slot_at slots.old.items slots.new.items) }
-    ensures answer { IfOk result (IsAnswer (outs_after (slots_of slots.old.items) (Deed.Act spot.now.slot_at spot.now.host_at event)) (marks_after (slots_of slots.old.items) (Deed.Act spot.now.slot_at spot.now.host_at event)) None terms.now.copies archive.new) }
+    ensures done { OnOk result (IsChangedAt (IsSlotActed terms.now.charge spot.now.node_at (event_of event)) spot.now.slot_at slots.old.items slots.new.items) }
+    ensures answer { IfOk result (IsAnswer (outs_after (slots_of slots.old.items) (Deed.Act spot.now.slot_at spot.now.node_at event)) (marks_after (slots_of slots.old.items) (Deed.Act spot.now.slot_at spot.now.node_at event)) None terms.now.copies archive.new) }
     ensures err { OnErr result (slots.new.items ≡ slots.old.items) }
     ensures lodged { AreLodged archive.new slots.new.items }
     ensures kept { Keeps archive.old archive.new }
 {
-    let noted = slots[spot.slot_at].act(archive, spot.host_at, event, terms)?;
+    let noted = slots[spot.slot_at].act(archive, spot.node_at, event, terms)?;
     Ok(Outcome {
         outs: noted.outs,
         marks: noted.marks,
@@ -229,9 +229,9 @@ fn hand<S: Shelf>(
     terms: &Terms,
 ) -> Result<Outcome, AllocError>
     requires lodged { AreLodged archive.old slots.old.items }
-    requires ready { IsReady terms.now.charge slots.old.items spot.now.slot_at spot.now.host_at }
-    ensures done { OnOk result (IsChangedAt (IsSlotActed terms.now.charge spot.now.host_at (NodeEvent.Take envelope)) spot.now.slot_at slots.old.items slots.new.items) }
-    ensures answer { IfOk result (IsAnswer (outs_after (slots_of slots.old.items) (Deed.Hand spot.now.slot_at spot.now.host_at envelope)) (marks_after (slots_of slots.old.items) (Deed.Hand spot.now.slot_at spot.now.host_at envelope)) (Some envelope) terms.now.copies archive.new) }
+    requires ready { IsReady terms.now.charge slots.old.items spot.now.slot_at spot.now.node_at }
+    ensures done { OnOk result (IsChangedAt (IsSlotActed terms.now.charge spot.now.node_at (NodeEvent.Take envelope)) spot.now.slot_at slots.old.items slots.new.items) }
+    ensures answer { IfOk result (IsAnswer (outs_after (slots_of slots.old.items) (Deed.Hand spot.now.slot_at spot.now.node_at envelope)) (marks_after (slots_of slots.old.items) (Deed.Hand spot.now.slot_at spot.now.node_at envelope)) (Some envelope) terms.now.copies archive.new) }
     ensures err { OnErr result (slots.new.items ≡ slots.old.items) }
     ensures lodged { AreLodged archive.new slots.new.items }
     ensures kept { Keeps archive.old archive.new }

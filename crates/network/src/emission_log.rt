@@ -8,7 +8,7 @@ ghost use Rattle.types.specs.declared.kind.Kind.TheVariants.{Nomination, Ballot}
 ghost use Rattle.protocol.specs.Networks.{emissions};
 ghost use Rattle.protocol.specs.Nodes.{step};
 ghost use Rattle.protocol.specs.Rows.{is_kind};
-ghost use Rattle.network.specs.Marks.{numbered};
+ghost use Rattle.network.specs.Marks.{numbers_by_kind};
 ghost use Rattle.slot.specs.Filings.{AreFiledOuts, IsFiledEvent, IsFiledOut, event_of, outs_of};
 ghost use Rattle.network.specs.Lodgings.{HaveRoom, IsGiven};
 ghost use Rattle.network.specs.EmissionsByKind.{AreByKind, nth_of, places_of_kind};
@@ -123,7 +123,7 @@ impl EmissionLog {
         requires event { IsFiledEvent archive.old event }
         ensures node { OnOk result (node.new.node ≡ (step node.old.node (event_of event)).0) }
         ensures emitted { OnOk result (sents_of self.new ≡ sents_of self.old ++ emissions (step node.old.node (event_of event)).1) }
-        ensures applied { IfOk result (IsGiven (step node.old.node (event_of event)).1 (numbered (sents_of self.old) (emissions (step node.old.node (event_of event)).1)) copies) }
+        ensures applied { IfOk result (IsGiven (step node.old.node (event_of event)).1 (numbers_by_kind (sents_of self.old) (emissions (step node.old.node (event_of event)).1)) copies) }
         ensures node_err { OnErr result (node.new ≡ node.old) }
         ensures told_err { OnErr result (self.new ≡ self.old) }
         ensures rows { AreFiled archive.new node.new.rows }
@@ -167,7 +167,7 @@ fn given_or_kept(alloc: Global, marks: Vec<u64>, room: &mut Vec<u64>) -> Vec<u64
 }
 
 /// Keeps what is emitted among these outs, where there is room for it.
-#[tactic(auto, unfolding(crate::specs::Marks::numbered))]
+#[tactic(auto, unfolding(crate::specs::Marks::numbers_by_kind))]
 fn log_outs<S: Shelf>(
     archive: &Archive<S>,
     outs: &[FiledOut],
@@ -181,7 +181,7 @@ fn log_outs<S: Shelf>(
     requires room { HaveRoom (length (emissions (outs_of outs.now))) emitted.old places.old marks.old }
     ensures emitted { sents_of emitted.new.items ≡ sents_of emitted.old.items ++ emissions (outs_of outs.now) }
     ensures places { AreByKind places.new (sents_of emitted.new.items) }
-    ensures marks { marks.new.items ≡ marks.old.items ++ numbered (sents_of emitted.old.items) (emissions (outs_of outs.now)) }
+    ensures marks { marks.new.items ≡ marks.old.items ++ numbers_by_kind (sents_of emitted.old.items) (emissions (outs_of outs.now)) }
     ensures filed { AreFiled archive.now emitted.new.items }
 {
     for out in outs {
@@ -190,7 +190,7 @@ fn log_outs<S: Shelf>(
 }
 
 /// Keeps what is emitted where this out is an emission, and there is room for it.
-#[tactic(auto, unfolding(crate::specs::Marks::numbered))]
+#[tactic(auto, unfolding(crate::specs::Marks::numbers_by_kind))]
 fn log_out<S: Shelf>(
     archive: &Archive<S>,
     out: &FiledOut,
@@ -204,7 +204,7 @@ fn log_out<S: Shelf>(
     requires room { HaveRoom (length (emissions (outs_of (out.now ∷ [])))) emitted.old places.old marks.old }
     ensures emitted { sents_of emitted.new.items ≡ sents_of emitted.old.items ++ emissions (outs_of (out.now ∷ [])) }
     ensures places { AreByKind places.new (sents_of emitted.new.items) }
-    ensures marks { marks.new.items ≡ marks.old.items ++ numbered (sents_of emitted.old.items) (emissions (outs_of (out.now ∷ []))) }
+    ensures marks { marks.new.items ≡ marks.old.items ++ numbers_by_kind (sents_of emitted.old.items) (emissions (outs_of (out.now ∷ []))) }
     ensures room { (count : ℕ) → HaveRoom (length (emissions (outs_of (out.now ∷ []))) + count) emitted.old places.old marks.old → HaveRoom count emitted.new places.new marks.new }
     ensures filed { AreFiled archive.now emitted.new.items }
 {
@@ -228,7 +228,7 @@ fn log_emission<S: Shelf>(
     requires room { HaveRoom 1 emitted.old places.old marks.old }
     ensures emitted { emitted.new.items ≡ emitted.old.items ++ filed.now ∷ [] }
     ensures places { AreByKind places.new (sents_of emitted.new.items) }
-    ensures marks { marks.new.items ≡ marks.old.items ++ numbered (sents_of emitted.old.items) (sent_of filed.now ∷ []) }
+    ensures marks { marks.new.items ≡ marks.old.items ++ numbers_by_kind (sents_of emitted.old.items) (sent_of filed.now ∷ []) }
     ensures room { (count : ℕ) → HaveRoom (1 + count) emitted.old places.old marks.old → HaveRoom count emitted.new places.new marks.new }
     ensures filed { AreFiled archive.now emitted.new.items }
 {

@@ -20,12 +20,12 @@ impl<S: Shelf> Network<S> {
     pub(crate) fn plan_deliver(&self, node: &NodeId, bytes: &[u8]) -> Result<Plan, Refusal>
         ensures { IsPlanned self.now (Delivers node.now (length bytes.now) (reading bytes.now)) result }
     {
-        let host_at = self.host(node)?;
+        let node_at = self.node_place(node)?;
         match read(self.alloc, bytes) {
             Err(_) => Err(Refusal::NoMemory),
             Ok(Reading::Faulty(number)) => Err(Refusal::BadEnvelope(number)),
             Ok(Reading::Says(envelope)) => {
-                self.plan_envelope(host_at, node, envelope, bytes.len() as u64)
+                self.plan_envelope(node_at, node, envelope, bytes.len() as u64)
             }
         }
     }
@@ -33,12 +33,12 @@ impl<S: Shelf> Network<S> {
     /// What is to be done where an envelope of so many bytes reaches a node.
     fn plan_envelope(
         &self,
-        host_at: usize,
+        node_at: usize,
         node: &NodeId,
         envelope: Envelope,
         size: u64,
     ) -> Result<Plan, Refusal>
-        requires { index_of_name self.now.config.hosts node.now ≡ Some host_at }
+        requires { index_of_name self.now.config.nodes node.now ≡ Some node_at }
         ensures { IsPlanned self.now (Delivers node.now size (Read envelope)) result }
     {
         let _slots = &self.slots;
@@ -46,13 +46,13 @@ impl<S: Shelf> Network<S> {
             return Err(Refusal::HostedSender);
         }
         let slot_at = self.open_slot(envelope.slot())?;
-        let spot = Spot { slot_at, host_at };
+        let spot = Spot { slot_at, node_at };
         let drawn = self.pair_room(&spot, node, envelope.sender())?;
         self.has_room_for_bytes(&drawn, size)?;
         Ok(Plan {
             deed: Deed::Hand {
                 slot_at,
-                host_at,
+                node_at,
                 envelope,
             },
             drawn,
@@ -70,8 +70,8 @@ impl<S: Shelf> Network<S> {
         ensures { IsPlanned self.now (Hears slot node.now emission.now.from emission.now.kind emission.now.number) result }
     {
         let _slots = &self.slots;
-        let host_at = self.host(node)?;
-        let from_at = self.host(&emission.from)?;
+        let node_at = self.node_place(node)?;
+        let from_at = self.node_place(&emission.from)?;
         if *node == emission.from {
             return Err(Refusal::NoSuchNode);
         }
@@ -82,12 +82,12 @@ impl<S: Shelf> Network<S> {
         else {
             return Err(Refusal::NotEmitted);
         };
-        let spot = Spot { slot_at, host_at };
+        let spot = Spot { slot_at, node_at };
         let drawn = self.pair_room(&spot, node, &emission.from)?;
         Ok(Plan {
             deed: Deed::Act {
                 slot_at,
-                host_at,
+                node_at,
                 event: FiledEvent::Take(self.archive.copy_of(emitted)),
             },
             drawn,
@@ -98,11 +98,11 @@ impl<S: Shelf> Network<S> {
     /// On what it draws that comes to a node from a name, where there is room on it for one more event.
     fn pair_room(&self, spot: &Spot, node: &NodeId, from: &NodeId) -> Result<Drawn, Refusal>
         requires slot { (i : ℕ) × IsSlotThere self.now i spot.now.slot_at }
-        requires host { index_of_name self.now.config.hosts node.now ≡ Some spot.now.host_at }
+        requires node { index_of_name self.now.config.nodes node.now ≡ Some spot.now.node_at }
         ensures room { IsPairRoom self.now spot.now node.now from.now result }
         ensures paired { IfOk result IsPaired }
     {
-        let drawn = self.pair(spot.slot_at, spot.host_at, node, from);
+        let drawn = self.pair(spot.slot_at, spot.node_at, node, from);
         self.has_room(&drawn)?;
         Ok(drawn)
     }

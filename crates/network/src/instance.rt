@@ -5,7 +5,7 @@ ghost use Rattle.types.specs.Statements.{Sent};
 ghost use Rattle.envstore.specs.Archives.{AreFiled, IsFiled, Keeps, sent_of, sents_of};
 ghost use Rattle.protocol.specs.Networks.{emissions, has_proposal, after_event};
 ghost use Rattle.protocol.specs.Nodes.{fresh, step};
-ghost use Rattle.network.specs.Marks.{numbered};
+ghost use Rattle.network.specs.Marks.{numbers_by_kind};
 ghost use Rattle.slot.specs.Filings.{AreFiledOuts, IsFiledEvent, event_of};
 ghost use Rattle.network.specs.Charges.{HasRoomFor, IsActed};
 ghost use Rattle.network.specs.Lodgings.{IsGiven, IsLodged, bytes_from, events_from, instance_in};
@@ -114,7 +114,7 @@ impl Instance {
         requires event { IsFiledEvent archive.old event }
         requires room { HasRoomFor terms.now.charge self.old }
         ensures acted { OnOk result (IsActed terms.now.charge (event_of event) self.old self.new) }
-        ensures applied { IfOk result (IsGiven (step (instance_in self.old).node (event_of event)).1 (numbered (instance_in self.old).emitted (emissions (step (instance_in self.old).node (event_of event)).1)) terms.now.copies) }
+        ensures applied { IfOk result (IsGiven (step (instance_in self.old).node (event_of event)).1 (numbers_by_kind (instance_in self.old).emitted (emissions (step (instance_in self.old).node (event_of event)).1)) terms.now.copies) }
         ensures err { OnErr result (self.new ≡ self.old) }
         ensures lodged { IsLodged archive.new self.new }
         ensures filed { IfOk result (λ a. AreFiledOuts archive.new a.outs.items) }

@@ -54,7 +54,7 @@ impl<S: Shelf> Network<S> {
     pub fn new(alloc: Global, config: NetConfig, shelf: S) -> Network<S>
         ensures { result ≡ record { config = config; archive = []; slots = []; events = 0; bytes = 0; opens = 0 } }
     {
-        let _hosts = config.hosts();
+        let _nodes = config.nodes();
         Network {
             alloc,
             config,
@@ -93,20 +93,20 @@ impl<S: Shelf> Network<S> {
     /// where the node is not hosted. It takes no memory.
     pub fn slices(&self, slot: u64, node: &NodeId) -> Option<&Nested>
         ensures value { (net : Net) → StandsFor (machine_of self.now) net → option_map (λ q. q.now) result ≡ slices_at net slot node.now }
-        ensures there { (net : Net) → StandsFor (machine_of self.now) net → is_some result ≡ (is_open net slot && is_some (slices_of self.now.config.hosts node.now)) }
+        ensures there { (net : Net) → StandsFor (machine_of self.now) net → is_some result ≡ (is_open net slot && is_some (slices_of self.now.config.nodes node.now)) }
     {
         match self.slot_at(slot) {
             None => None,
             Some(slot_at) => match self.config.place(node) {
                 None => None,
-                Some(host_at) => Some(self.instance(slot_at, host_at).slices()),
+                Some(node_at) => Some(self.instance(slot_at, node_at).slices()),
             },
         }
     }
 
     /// The place of a hosted node.
-    pub(crate) fn host(&self, node: &NodeId) -> Result<usize, Refusal>
-        ensures { MatchResult result (λ at. index_of_name self.now.config.hosts node.now ≡ Some at) (λ r. (r ≡ Refusal.NoSuchNode) × (index_of_name self.now.config.hosts node.now ≡ None)) }
+    pub(crate) fn node_place(&self, node: &NodeId) -> Result<usize, Refusal>
+        ensures { MatchResult result (λ at. index_of_name self.now.config.nodes node.now ≡ Some at) (λ r. (r ≡ Refusal.NoSuchNode) × (index_of_name self.now.config.nodes node.now ≡ None)) }
     {
         self.config.place(node).ok_or(Refusal::NoSuchNode)
     }
@@ -126,11 +126,11 @@ impl<S: Shelf> Network<S> {
     }
 
     /// The node at these places.
-    pub(crate) fn instance(&self, slot_at: usize, host_at: usize) -> &Instance
-        requires { IsSeatThere (machine_of self.now) slot_at host_at }
-        ensures seat { IsSeat (machine_of self.now) slot_at host_at (seat_of result.now) }
+    pub(crate) fn instance(&self, slot_at: usize, node_at: usize) -> &Instance
+        requires { IsSeatThere (machine_of self.now) slot_at node_at }
+        ensures seat { IsSeat (machine_of self.now) slot_at node_at (seat_of result.now) }
         ensures lodged { IsLodged self.now.archive result.now }
     {
-        &self.slots.slot(slot_at).instances()[host_at]
+        &self.slots.slot(slot_at).instances()[node_at]
     }
 }

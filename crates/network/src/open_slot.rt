@@ -4,7 +4,7 @@ ghost use Rattle.std.specs.Prelude.{◌≡◌, ◌<◌, IfOk, IfSome, List, OnEr
 ghost use Rattle.std.specs.List.{All};
 ghost use Rattle.envstore.specs.Archives.{Keeps};
 ghost use Rattle.protocol.specs.Networks.{emissions, nodes_of_new_slot, outs_at};
-ghost use Rattle.network.specs.Marks.{numbered, emitted_at};
+ghost use Rattle.network.specs.Marks.{numbers_by_kind, emitted_at};
 ghost use Rattle.slot.specs.Filings.{AreFiledOuts, IsFiledEvent, event_of};
 ghost use Rattle.network.specs.Changes.{IsChangedAt};
 ghost use Rattle.network.specs.Charges.{HasRoomFor, IsActed};
@@ -48,11 +48,11 @@ impl OpenSlot {
         config: &NetConfig,
     ) -> Result<OpenSlot, AllocError>
         ensures number { IfOk result (λ s. s.number ≡ number) }
-        ensures instances { IfOk result (λ s. map instance_in s.instances ≡ nodes_of_new_slot config.now.hosts number) }
+        ensures instances { IfOk result (λ s. map instance_in s.instances ≡ nodes_of_new_slot config.now.nodes number) }
         ensures lodged { IfOk result (λ s. (archive : List Sent) → All (IsLodged archive) s.instances) }
         ensures counts { IfOk result (λ s. All IsUncounted s.instances) }
     {
-        let instances = fresh_instances(alloc, number, config.hosts())?;
+        let instances = fresh_instances(alloc, number, config.nodes())?;
         Ok(OpenSlot { number, instances })
     }
 
@@ -83,7 +83,7 @@ impl OpenSlot {
         requires event { IsFiledEvent archive.old event }
         requires room { IfSome (slice_get self.old.instances at) (HasRoomFor terms.now.charge) }
         ensures acted { OnOk result (IsChangedAt (IsActed terms.now.charge (event_of event)) at self.old.instances self.new.instances) }
-        ensures applied { IfOk result (IsGiven (outs_at (event_of event) (slice_get (map instance_in self.old.instances) at)) (numbered (emitted_at (slice_get (map instance_in self.old.instances) at)) (emissions (outs_at (event_of event) (slice_get (map instance_in self.old.instances) at)))) terms.now.copies) }
+        ensures applied { IfOk result (IsGiven (outs_at (event_of event) (slice_get (map instance_in self.old.instances) at)) (numbers_by_kind (emitted_at (slice_get (map instance_in self.old.instances) at)) (emissions (outs_at (event_of event) (slice_get (map instance_in self.old.instances) at)))) terms.now.copies) }
         ensures err { OnErr result (self.new ≡ self.old) }
         ensures number { self.new.number ≡ self.old.number }
         ensures lodged { All (IsLodged archive.new) self.new.instances }
@@ -94,21 +94,21 @@ impl OpenSlot {
     }
 }
 
-/// A fresh node for each host. An error says that memory is short.
+/// A fresh instance of each hosted node. An error says that memory is short.
 #[tactic(auto, unfolding(protocol::specs::Networks::nodes_of_new_slot))]
 fn fresh_instances(
     alloc: Global,
     number: u64,
-    hosts: &[HostedNode],
+    nodes: &[HostedNode],
 ) -> Result<Vec<Instance>, AllocError>
-    ensures instances { IfOk result (λ v. map instance_in v.items ≡ nodes_of_new_slot hosts.now number) }
+    ensures instances { IfOk result (λ v. map instance_in v.items ≡ nodes_of_new_slot nodes.now number) }
     ensures lodged { IfOk result (λ v. (archive : List Sent) → All (IsLodged archive) v.items) }
     ensures counts { IfOk result (λ v. All IsUncounted v.items) }
 {
-    let mut instances = Vec::with_capacity(alloc, hosts.len())?;
-    for host in hosts {
-        let slices = host.slices().try_copy()?;
-        instances.push(Instance::new(alloc, *host.name(), number, slices))?;
+    let mut instances = Vec::with_capacity(alloc, nodes.len())?;
+    for hosted in nodes {
+        let slices = hosted.slices().try_copy()?;
+        instances.push(Instance::new(alloc, *hosted.name(), number, slices))?;
     }
     Ok(instances)
 }

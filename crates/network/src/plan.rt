@@ -17,13 +17,13 @@ pub(crate) enum Deed {
     /// The node at these places has this event.
     Act {
         slot_at: usize,
-        host_at: usize,
+        node_at: usize,
         event: FiledEvent,
     },
     /// The node at these places is handed this envelope, which no archive has yet.
     Hand {
         slot_at: usize,
-        host_at: usize,
+        node_at: usize,
         envelope: Envelope,
     },
 }
@@ -38,12 +38,12 @@ pub(crate) enum Drawn {
     /// The own share of the node at these places.
     Own {
         slot_at: usize,
-        host_at: usize,
+        node_at: usize,
     },
     /// What the node at these places gets from that name.
     Pair {
         slot_at: usize,
-        host_at: usize,
+        node_at: usize,
         from: NodeId,
     },
 }
@@ -52,7 +52,7 @@ pub(crate) enum Drawn {
 #[derive(Clone, Copy)]
 pub(crate) struct Spot {
     pub slot_at: usize,
-    pub host_at: usize,
+    pub node_at: usize,
 }
 
 /// On what an event draws, and the bytes that count as delivered by it.

@@ -108,7 +108,7 @@ impl<S: Shelf> Network<S> {
         if is_bad(value) {
             return Err(Refusal::BadValue);
         }
-        if self.instance(spot.slot_at, spot.host_at).has_proposal() {
+        if self.instance(spot.slot_at, spot.node_at).has_proposal() {
             return Err(Refusal::ProposedAlready);
         }
         let drawn = self.own_room(&spot, node)?;
@@ -157,18 +157,18 @@ impl<S: Shelf> Network<S> {
     fn spot(&self, slot: u64, node: &NodeId) -> Result<Spot, Refusal>
         ensures { MatchResult result (IsSpot self.now slot node.now) (IsSpotRefused self.now slot node.now) }
     {
-        let host_at = self.host(node)?;
+        let node_at = self.node_place(node)?;
         let slot_at = self.open_slot(slot)?;
-        Ok(Spot { slot_at, host_at })
+        Ok(Spot { slot_at, node_at })
     }
 
     /// On what a node's own event draws, where there is room on it for one more.
     fn own_room(&self, spot: &Spot, node: &NodeId) -> Result<Drawn, Refusal>
         requires slot { (i : ℕ) × IsSlotThere self.now i spot.now.slot_at }
-        requires host { index_of_name self.now.config.hosts node.now ≡ Some spot.now.host_at }
+        requires node { index_of_name self.now.config.nodes node.now ≡ Some spot.now.node_at }
         ensures { IsOwnRoom self.now spot.now node.now result }
     {
-        let drawn = self.own_events(spot.slot_at, spot.host_at, node);
+        let drawn = self.own_events(spot.slot_at, spot.node_at, node);
         self.has_room(&drawn)?;
         Ok(drawn)
     }
@@ -183,12 +183,12 @@ fn is_bad(value: &[u8]) -> bool
 
 /// A node's own event is to be done there, and it draws on this.
 fn plan_at(spot: &Spot, drawn: Drawn, event: FiledEvent) -> Plan
-    ensures { result ≡ record { deed = Act spot.now.slot_at spot.now.host_at event; drawn = drawn; size = 0 } }
+    ensures { result ≡ record { deed = Act spot.now.slot_at spot.now.node_at event; drawn = drawn; size = 0 } }
 {
     Plan {
         deed: Deed::Act {
             slot_at: spot.slot_at,
-            host_at: spot.host_at,
+            node_at: spot.node_at,
             event,
         },
         drawn,

@@ -28,15 +28,15 @@ impl<S: Shelf> Network<S> {
     }
 
     /// On what a node's own events draw.
-    pub(crate) fn own_events(&self, slot_at: usize, host_at: usize, node: &NodeId) -> Drawn
-        requires host { index_of_name self.now.config.hosts node.now ≡ Some host_at }
+    pub(crate) fn own_events(&self, slot_at: usize, node_at: usize, node: &NodeId) -> Drawn
+        requires node { index_of_name self.now.config.nodes node.now ≡ Some node_at }
         ensures { (i : ℕ) → index_of_slot (map slot_of (machine_of self.now).slots) i ≡ Some slot_at → IsDrawn (machine_of self.now) result (own_source self.now.config.roster i node.now) }
     {
         match self.config.roster() {
             None => Drawn::Budgets,
             Some(roster) => {
                 if roster.has(node) {
-                    Drawn::Own { slot_at, host_at }
+                    Drawn::Own { slot_at, node_at }
                 } else {
                     Drawn::Budgets
                 }
@@ -45,8 +45,8 @@ impl<S: Shelf> Network<S> {
     }
 
     /// On what comes to a node from a name draws.
-    pub(crate) fn pair(&self, slot_at: usize, host_at: usize, node: &NodeId, from: &NodeId) -> Drawn
-        requires host { index_of_name self.now.config.hosts node.now ≡ Some host_at }
+    pub(crate) fn pair(&self, slot_at: usize, node_at: usize, node: &NodeId, from: &NodeId) -> Drawn
+        requires node { index_of_name self.now.config.nodes node.now ≡ Some node_at }
         ensures drawn { (i : ℕ) → index_of_slot (map slot_of (machine_of self.now).slots) i ≡ Some slot_at → IsDrawn (machine_of self.now) result (pair_source self.now.config.roster i node.now from.now) }
         ensures paired { IsPaired result }
     {
@@ -56,7 +56,7 @@ impl<S: Shelf> Network<S> {
                 if roster.has(node) && roster.has(from) {
                     Drawn::Pair {
                         slot_at,
-                        host_at,
+                        node_at,
                         from: *from,
                     }
                 } else {
@@ -81,30 +81,30 @@ impl<S: Shelf> Network<S> {
                 )
             }
             Drawn::Opens => keeps_within(self.opens, 1, self.shares().opens(), Refusal::ShareFull),
-            Drawn::Own { slot_at, host_at } => self.has_own_room(*slot_at, *host_at),
+            Drawn::Own { slot_at, node_at } => self.has_own_room(*slot_at, *node_at),
             Drawn::Pair {
                 slot_at,
-                host_at,
+                node_at,
                 from,
-            } => self.has_pair_room(*slot_at, *host_at, from),
+            } => self.has_pair_room(*slot_at, *node_at, from),
         }
     }
 
     /// Whether there is room for one more event on the own share of the node at these places.
-    fn has_own_room(&self, slot_at: usize, host_at: usize) -> Result<(), Refusal>
-        requires { IsDrawnThere (machine_of self.now) (Own slot_at host_at) }
-        ensures { MatchResult result (λ _. HasRoom (machine_of self.now) (Own slot_at host_at)) (λ r. HasNoRoom (machine_of self.now) (Own slot_at host_at) r) }
+    fn has_own_room(&self, slot_at: usize, node_at: usize) -> Result<(), Refusal>
+        requires { IsDrawnThere (machine_of self.now) (Own slot_at node_at) }
+        ensures { MatchResult result (λ _. HasRoom (machine_of self.now) (Own slot_at node_at)) (λ r. HasNoRoom (machine_of self.now) (Own slot_at node_at) r) }
     {
-        let used = self.instance(slot_at, host_at).own_events();
+        let used = self.instance(slot_at, node_at).own_events();
         keeps_within(used, 1, self.shares().own(), Refusal::ShareFull)
     }
 
     /// Whether there is room for one more event on what the node at these places gets from a name.
-    fn has_pair_room(&self, slot_at: usize, host_at: usize, from: &NodeId) -> Result<(), Refusal>
-        requires { IsDrawnThere (machine_of self.now) (Pair slot_at host_at from.now) }
-        ensures { MatchResult result (λ _. HasRoom (machine_of self.now) (Pair slot_at host_at from.now)) (λ r. HasNoRoom (machine_of self.now) (Pair slot_at host_at from.now) r) }
+    fn has_pair_room(&self, slot_at: usize, node_at: usize, from: &NodeId) -> Result<(), Refusal>
+        requires { IsDrawnThere (machine_of self.now) (Pair slot_at node_at from.now) }
+        ensures { MatchResult result (λ _. HasRoom (machine_of self.now) (Pair slot_at node_at from.now)) (λ r. HasNoRoom (machine_of self.now) (Pair slot_at node_at from.now) r) }
     {
-        let used = self.instance(slot_at, host_at).events_from(from);
+        let used = self.instance(slot_at, node_at).events_from(from);
         keeps_within(used, 1, self.shares().pair(), Refusal::ShareFull)
     }
 
@@ -125,9 +125,9 @@ impl<S: Shelf> Network<S> {
             }
             Drawn::Pair {
                 slot_at,
-                host_at,
+                node_at,
                 from,
-            } => self.has_pair_room_for_bytes(*slot_at, *host_at, from, size),
+            } => self.has_pair_room_for_bytes(*slot_at, *node_at, from, size),
             Drawn::Opens | Drawn::Own { .. } => unreachable!(),
         }
     }
@@ -136,14 +136,14 @@ impl<S: Shelf> Network<S> {
     fn has_pair_room_for_bytes(
         &self,
         slot_at: usize,
-        host_at: usize,
+        node_at: usize,
         from: &NodeId,
         size: u64,
     ) -> Result<(), Refusal>
-        requires { IsDrawnThere (machine_of self.now) (Pair slot_at host_at from.now) }
-        ensures { MatchResult result (λ _. HasRoomForBytes (machine_of self.now) (Pair slot_at host_at from.now) size) (λ r. HasNoRoomForBytes (machine_of self.now) (Pair slot_at host_at from.now) size r) }
+        requires { IsDrawnThere (machine_of self.now) (Pair slot_at node_at from.now) }
+        ensures { MatchResult result (λ _. HasRoomForBytes (machine_of self.now) (Pair slot_at node_at from.now) size) (λ r. HasNoRoomForBytes (machine_of self.now) (Pair slot_at node_at from.now) size r) }
     {
-        let used = self.instance(slot_at, host_at).bytes_from(from);
+        let used = self.instance(slot_at, node_at).bytes_from(from);
         keeps_within(used, size, self.shares().bytes(), Refusal::ShareBytesFull)
     }
 

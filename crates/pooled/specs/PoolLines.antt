@@ -10,14 +10,15 @@ use Rattle.hoststep.specs.Logs.{Log}
 use Rattle.pooled.specs.Decisions.{IsDecided}
 
 -- two words with a space (32) between
-abbrev pub spaced : Bytes → Bytes → Bytes
-spaced one other = one ++ 32 ∷ other
+abbrev pub space_between : Bytes → Bytes → Bytes
+space_between one other = one ++ 32 ∷ other
 
 -- the line of what a node of a network has externalized, with its line feed (10)
 abbrev pub decided_line : ℕ → ExternalizedValue → Bytes
 decided_line g d =
     codes "decided "
-    ++ spaced (decimal g) (spaced (decimal d.slot) (spaced (text_of_name d.node) (text_of_value d.value ++ 10 ∷ [])))
+    ++ space_between (decimal g)
+    (space_between (decimal d.slot) (space_between (text_of_name d.node) (text_of_value d.value ++ 10 ∷ [])))
 
 -- the lines of what the nodes of a network have externalized at open slots
 abbrev pub AreDecidedLines : Log → Bytes → Type 0
@@ -26,13 +27,14 @@ AreDecidedLines l text =
 
 -- the line of how many entries a journal has
 abbrev pub length_line : ℕ → ℕ → Bytes
-length_line g n = codes "journal " ++ spaced (decimal g) (decimal n ++ 10 ∷ [])
+length_line g n = codes "journal " ++ space_between (decimal g) (decimal n ++ 10 ∷ [])
 
 -- the line of how many jobs were applied, refused and not run
 abbrev pub report_line : ℕ → ℕ → ℕ → Bytes
 report_line applied refused unrun =
     codes "applied "
-    ++ spaced (decimal applied) (codes "refused " ++ spaced (decimal refused) (codes "unrun " ++ decimal unrun ++ 10 ∷ []))
+    ++ space_between (decimal applied)
+    (codes "refused " ++ space_between (decimal refused) (codes "unrun " ++ decimal unrun ++ 10 ∷ []))
 
 -- the lines of journals, one after the other
 pub data AreAllDecidedLines : List Log → Bytes → Type 0 where

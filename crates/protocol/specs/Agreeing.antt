@@ -21,8 +21,8 @@ instance_in net i u = node_where_open (instances_at net.slots i) u
 -- A set is closed for a network at a slot: its members' configured slices name members alone, it is closed for their
 -- nodes, which are at rest, and each node has told of itself alone, the members naming members.
 pub record IsClosedIn (R : Names) (i : ℕ) (net : Net) : Type 0 where
-  pub hosts : (u : ℕ) (q : Slices) → slices_of net.hosts u ≡ Some q → IsTrue (R u) → IsTrue (within (names q) R)
-  pub nodes : (u : ℕ) (p : Instance) → instance_in net i u ≡ Some p → IsTrue (R u) → IsClosedFor R p.node
+  pub nodes : (u : ℕ) (q : Slices) → slices_of net.nodes u ≡ Some q → IsTrue (R u) → IsTrue (within (names q) R)
+  pub instances : (u : ℕ) (p : Instance) → instance_in net i u ≡ Some p → IsTrue (R u) → IsClosedFor R p.node
   pub calm : (u : ℕ) (p : Instance) → instance_in net i u ≡ Some p → IsTrue (R u) → Calm p.node
   pub emitted : (u : ℕ) (p : Instance) → instance_in net i u ≡ Some p
       → IsTrue (list_all (λ e. (e.sender == u) && (not (R e.sender) || within (names e.slices) R)) p.emitted)
@@ -37,7 +37,7 @@ AreInstancesAlike R (Some p) (Some q) = AgreeOn R p.node q.node × (p.emitted �
 
 -- two networks agree on a set at a slot: they host its members with the same slices, and each member is alike in both
 pub record AgreeIn (R : Names) (i : ℕ) (one other : Net) : Type 0 where
-  pub cast : (u : ℕ) → IsTrue (R u) → slices_of one.hosts u ≡ slices_of other.hosts u
+  pub cast : (u : ℕ) → IsTrue (R u) → slices_of one.nodes u ≡ slices_of other.nodes u
   pub instances : (u : ℕ) → IsTrue (R u) → AreInstancesAlike R (instance_in one i u) (instance_in other i u)
 
 -- of what is kept of a step, what is delivered and the slices that are given name members alone
@@ -54,13 +54,13 @@ given_by i u e os = if is_of i u e then os else []
 -- two networks where nothing has happened agree, if they host the members with the same slices
 abbrev pub NewNetworksAgree : Type 0
 NewNetworksAgree = (R : Names) (i : ℕ) (one other : Config)
-    → ((u : ℕ) → IsTrue (R u) → slices_of one.hosts u ≡ slices_of other.hosts u)
+    → ((u : ℕ) → IsTrue (R u) → slices_of one.nodes u ≡ slices_of other.nodes u)
     → AgreeIn R i (new_net one) (new_net other)
 
 -- and the closure of a run is closed for the network after each beginning of it
 abbrev pub RunsStayClosedIn : Type 0
 RunsStayClosedIn = (config : Config) (run : List Entry) (i v n : ℕ) → IsRun config run
-    → IsClosedIn (closure config.hosts i v run) i (state_of config (take n run))
+    → IsClosedIn (closure config.nodes i v run) i (state_of config (take n run))
 
 -- Agree, of networks: after an applied step of each, of which the same is kept or of neither anything, they agree, and
 -- each member gives out the same in both.

@@ -19,9 +19,9 @@ is_passed test None = false
 is_passed test (Some e) = test e.body
 
 -- the senders whose row of the kind passes a test
-abbrev pub passing : List Sent → Kind → (Statement → Bool) → Names
-passing table kind test u = is_passed test (row table u kind)
+abbrev pub passing_senders : List Sent → Kind → (Statement → Bool) → Names
+passing_senders table kind test u = is_passed test (row table u kind)
 
 -- the senders whose ballot row votes for or accepts that the ballot is prepared
 abbrev pub backing_prepare : List Sent → Ballot → Names
-backing_prepare table b = passing table Kind.Ballot (λ s. votes_or_accepts_prepare s b)
+backing_prepare table b = passing_senders table Kind.Ballot (λ s. votes_or_accepts_prepare s b)

@@ -10,8 +10,8 @@ use Rattle.protocol.specs.Views.{Seen, accepted, confirmed}
 use Rattle.types.specs.declared.state.Phase.TheVariants.{Preparing, Committing, Externalized}
 use Rattle.types.specs.declared.state.Phase.{Phase}
 use Rattle.types.specs.declared.state.Votes.{Votes}
-use Rattle.protocol.specs.States.{below, ballot_at, high_counter, position}
-use Rattle.protocol.specs.Candidates.{named, commits, greatest, lowest, combine}
+use Rattle.protocol.specs.States.{below, ballot_with, high_counter, position}
+use Rattle.protocol.specs.Candidates.{named_ballots, commits, greatest, lowest, combine}
 
 -- ---- the federated tests of ballots, by a node in this position
 -- prepare of the ballot is accepted
@@ -53,8 +53,8 @@ commit_confirmed seen w x low high = interval_confirmed seen (position w) x low 
 -- Start, without a ballot: counter 1 with the combined confirmed value; where nothing is confirmed, the greatest named
 -- ballot whose prepare is accepted.
 unfoldable pub with_first_ballot : Seen → Votes → Option (List ℕ) → Votes
-with_first_ballot seen w (Some x) = record w { ballot = Some (ballot_at 1 x) }
-with_first_ballot seen w None = record w { ballot = greatest None (filter (is_accepted seen w) (named seen w)) }
+with_first_ballot seen w (Some x) = record w { ballot = Some (ballot_with 1 x) }
+with_first_ballot seen w None = record w { ballot = greatest None (filter (is_accepted seen w) (named_ballots seen w)) }
 
 -- a ballot that is there stays
 abbrev pub start_from : Seen → Votes → Option Ballot → Votes
@@ -85,14 +85,16 @@ may_be_prepared Externalized x t = true
 unfoldable pub accept_prepared : Seen → Ballot → Votes → Votes
 accept_prepared seen b w =
     let p = greatest w.prepared
-    (filter (λ t. may_be_prepared w.phase b.value t && is_accepted seen w t) (named seen w)) in
+    (filter (λ t. may_be_prepared w.phase b.value t && is_accepted seen w t) (named_ballots seen w)) in
     record w { prepared = p; aborted = aborted_by w.prepared p w.aborted }
 
 -- ---- confirmed as prepared, in PREPARE
 -- the greatest of the highest confirmed ballot and the named ballots whose prepare is confirmed
 unfoldable pub raise_confirmed_prepared : Seen → Votes → Votes
 raise_confirmed_prepared seen w =
-    record w { confirmed_prepared = greatest w.confirmed_prepared (filter (is_confirmed seen w) (named seen w)) }
+    record w {
+      confirmed_prepared = greatest w.confirmed_prepared (filter (is_confirmed seen w) (named_ballots seen w));
+    }
 
 -- the ballot is never below the highest confirmed one
 abbrev pub at_least : Option Ballot → Ballot → Ballot
@@ -113,19 +115,19 @@ unfoldable pub is_aborted : Votes → Ballot → Bool
 is_aborted w t = is_overtaken w.prepared t || nat_lt t.counter w.aborted
 
 -- the ballot whose commit is voted for is reset where it is aborted
-abbrev pub cleared : Votes → Option Ballot → Option Ballot
-cleared w None = None
-cleared w (Some c) = if is_aborted w c then None else Some c
+abbrev pub unless_aborted : Votes → Option Ballot → Option Ballot
+unless_aborted w None = None
+unless_aborted w (Some c) = if is_aborted w c then None else Some c
 
 -- where there is none, it becomes the ballot, once that is confirmed as prepared at its counter and is not aborted
-abbrev pub chosen : Votes → Option Ballot → Option Ballot → Option Ballot
-chosen w None c = c
-chosen w (Some b) None = if (high_counter w b == b.counter) && not (is_aborted w b) then Some b else None
-chosen w (Some b) (Some c) = Some c
+abbrev pub or_confirmed_ballot : Votes → Option Ballot → Option Ballot → Option Ballot
+or_confirmed_ballot w None c = c
+or_confirmed_ballot w (Some b) None = if (high_counter w b == b.counter) && not (is_aborted w b) then Some b else None
+or_confirmed_ballot w (Some b) (Some c) = Some c
 
 -- the ballot whose commit is voted for is reset, and then set
 unfoldable pub set_commit : Votes → Votes
-set_commit w = record w { commit = chosen w w.ballot (cleared w w.commit) }
+set_commit w = record w { commit = or_confirmed_ballot w w.ballot (unless_aborted w w.commit) }
 
 -- Confirm prepared: the highest confirmed ballot, the ballot, and the ballot whose commit is voted for, in this order.
 unfoldable pub confirm_prepared : Seen → Ballot → Votes → Votes
@@ -156,7 +158,7 @@ unfoldable pub enter_commit : Seen → Ballot → Votes → Option Ballot → Vo
 enter_commit seen b w None = w
 enter_commit seen b w (Some t) = record w {
   phase = Committing;
-  ballot = Some (ballot_at (max b.counter t.counter) t.value);
+  ballot = Some (ballot_with (max b.counter t.counter) t.value);
   prepared = greatest w.prepared (t ∷ []);
   confirmed_prepared = greatest w.confirmed_prepared (t ∷ []);
   low = accepted_from seen w t;
@@ -167,7 +169,7 @@ enter_commit seen b w (Some t) = record w {
 unfoldable pub widen_commit : Seen → Ballot → Votes → Option Ballot → Votes
 widen_commit seen b w None = w
 widen_commit seen b w (Some t) = record w {
-  ballot = Some (ballot_at (max b.counter t.counter) t.value);
+  ballot = Some (ballot_with (max b.counter t.counter) t.value);
   prepared = greatest w.prepared (t ∷ []);
   low = accepted_from seen w t;
   high = t.counter;

@@ -10,22 +10,22 @@ use Rattle.types.specs.Nominations.{most_nominated, with_value}
 use Rattle.types.specs.Votes.{same_value, has_value}
 use Rattle.protocol.specs.Views.{Seen}
 use Rattle.types.specs.declared.state.Votes.{Votes}
-use Rattle.protocol.specs.States.{below, ballot_at, position}
+use Rattle.protocol.specs.States.{below, ballot_with, position}
 
 -- ---- named ballots
 -- the ballots that a statement names
 abbrev pub named_by : Statement → List Ballot
 named_by (Nominate voted accepted) = []
 named_by (Prepare b p a h c) = b ∷ option_to_list p
-named_by (Commit b p h c) = b ∷ ballot_at p b.value ∷ ballot_at h b.value ∷ []
-named_by (Externalize b h) = b ∷ ballot_at h b.value ∷ []
+named_by (Commit b p h c) = b ∷ ballot_with p b.value ∷ ballot_with h b.value ∷ []
+named_by (Externalize b h) = b ∷ ballot_with h b.value ∷ []
 
 -- the counters at which a statement speaks of commit, each with its value
 abbrev pub committed_by : Statement → List Ballot
 committed_by (Nominate voted accepted) = []
-committed_by (Prepare b p a h c) = ballot_at c b.value ∷ ballot_at h b.value ∷ []
-committed_by (Commit b p h c) = ballot_at c b.value ∷ ballot_at h b.value ∷ []
-committed_by (Externalize b h) = b ∷ ballot_at h b.value ∷ []
+committed_by (Prepare b p a h c) = ballot_with c b.value ∷ ballot_with h b.value ∷ []
+committed_by (Commit b p h c) = ballot_with c b.value ∷ ballot_with h b.value ∷ []
+committed_by (Externalize b h) = b ∷ ballot_with h b.value ∷ []
 
 -- the counter is from 1 on
 abbrev pub has_positive_counter : Ballot → Bool
@@ -40,8 +40,8 @@ abbrev pub committed_in : List Statement → List Ballot
 committed_in statements = filter has_positive_counter (flat_map committed_by statements)
 
 -- named are the ballots in the ballot rows of reached senders and in the node's own position, and no others
-unfoldable pub named : Seen → Votes → List Ballot
-named seen w = named_in (seen.rows Kind.Ballot ++ option_to_list (position w))
+unfoldable pub named_ballots : Seen → Votes → List Ballot
+named_ballots seen w = named_in (seen.rows Kind.Ballot ++ option_to_list (position w))
 
 -- so are the commit counters
 unfoldable pub commits : Seen → Votes → List Ballot

@@ -8,7 +8,7 @@ use Rattle.types.specs.Statements.{Sent}
 use Rattle.protocol.specs.Sets.{Names, within, AreWithin}
 use Rattle.protocol.specs.Satisfaction.{names}
 use Rattle.protocol.specs.Rows.{row}
-use Rattle.protocol.specs.Reach.{reached}
+use Rattle.protocol.specs.Reach.{reach_of}
 use Rattle.protocol.specs.Nodes.{Node, step, Calm}
 use Rattle.types.specs.declared.event.NodeEvent.TheVariants.{Propose, Take, NominationTimer, BallotTimer, Reslice}
 use Rattle.protocol.specs.Networks.{HostedNode, Instance, instances_at, node_where_open}
@@ -31,28 +31,28 @@ pub record IsQuiet (R : Names) (old new : Node) (os : List Out) : Type 0 where
   pub votes : new.votes ≡ old.votes
   pub rows : (u : ℕ) (k : Kind) → IsTrue (R u) → row new.table u k ≡ row old.table u k
 
--- Quiet: a calm node that takes an envelope whose sender is outside a set that is closed for it is quiet
-abbrev pub Quiet : Type 0
-Quiet = (R : Names) (n : Node) (e : Sent) → IsClosedFor R n → Calm n → IsFalse (R e.sender)
+-- Calm nodes are quiet: a calm node that takes an envelope whose sender is outside a set that is closed for it is quiet
+abbrev pub CalmNodesAreQuiet : Type 0
+CalmNodesAreQuiet = (R : Names) (n : Node) (e : Sent) → IsClosedFor R n → Calm n → IsFalse (R e.sender)
     → IsQuiet R n (step n (Take e)).0 (step n (Take e)).1
 
 -- Prefix, of a run: the closure of each beginning lies in that of the whole run
 abbrev pub PrefixOfRun : Type 0
-PrefixOfRun = (hosts : List HostedNode) (i v : ℕ) (front rest : List Entry) (u : ℕ) → IsTrue (closure hosts i v front u)
-    → IsTrue (closure hosts i v (front ++ rest) u)
+PrefixOfRun = (nodes : List HostedNode) (i v : ℕ) (front rest : List Entry) (u : ℕ) → IsTrue (closure nodes i v front u)
+    → IsTrue (closure nodes i v (front ++ rest) u)
 
 -- Prefix, of reach: whom a node reaches lies in each set that is closed for it
 abbrev pub PrefixOfReach : Type 0
 PrefixOfReach =
-    (R : Names) (n : Node) → IsClosedFor R n → (u : ℕ) → IsTrue (reached n.name n.slices n.table u) → IsTrue (R u)
+    (R : Names) (n : Node) → IsClosedFor R n → (u : ℕ) → IsTrue (reach_of n.name n.slices n.table u) → IsTrue (R u)
 
 -- Prefix, over a whole run: after each beginning of it the closure of the whole run is closed for each hosted member at
 -- the slot, and has whom that member reaches by its table
 abbrev pub PrefixOfWholeRun : Type 0
 PrefixOfWholeRun = (config : Config) (run : List Entry) (i v : ℕ) → IsRun config run →
-    let R = closure config.hosts i v run in
+    let R = closure config.nodes i v run in
     (n u : ℕ) (p : Instance) → IsTrue (R u) → node_where_open (instances_at (state_of config (take n run)).slots i) u ≡ Some p
-    → IsClosedFor R p.node × AreWithin (reached p.node.name p.node.slices p.node.table) R
+    → IsClosedFor R p.node × AreWithin (reach_of p.node.name p.node.slices p.node.table) R
 
 -- ---- agreement of two worlds
 -- a node, with the rows of senders in a set alone

@@ -2,7 +2,7 @@
 use Rattle.std.specs.Prelude.{◌≡◌, ℕ, ◌<◌, List, Option, IsTrue, IsFalse}
 use Rattle.protocol.specs.Sets.{Names, among, AreWithin}
 use Rattle.protocol.specs.Networks.{HostedNode, Reading, Reply}
-use Rattle.protocol.specs.Hosts.{Config, Entry, History, hosts_of, entries}
+use Rattle.protocol.specs.Hosts.{Config, Entry, History, nodes_of, entries}
 use Rattle.protocol.specs.Isolation.{closure, SameCast}
 use Rattle.protocol.specs.Verdicts.{IsFirstUnlike, IsFirstDifference}
 use Rattle.protocol.specs.Submissions.{Answer, answers, concerning_steps, replied_to, config_of, SameReserves, roster_names}
@@ -51,7 +51,7 @@ IsCrowdOf one other config configs run xs ys i v (Same replies) =
 -- the same of one network in two histories
 abbrev pub IsCrowd : (List ℕ → Reading) → History → History → ℕ → ℕ → ℕ → Crowd → Type 0
 IsCrowd decode one other g i v crowd =
-    IsCrowdOf (hosts_of one.configs g) (hosts_of other.configs g) (config_of one.configs g) (config_of other.configs g)
+    IsCrowdOf (nodes_of one.configs g) (nodes_of other.configs g) (config_of one.configs g) (config_of other.configs g)
     (entries decode one g) (answers decode one g) (answers decode other g) i v crowd
 
 -- every two submissions have an answer

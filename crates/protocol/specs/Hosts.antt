@@ -3,7 +3,7 @@ use Rattle.types.specs.declared.event.Event.{Event}
 use Rattle.types.specs.declared.event.Out.{Out}
 use Rattle.std.specs.Prelude.{ℕ, ◌==◌, List, [], ◌∷◌, Option, Some, None, map, if◌then◌else◌}
 use Rattle.protocol.specs.Rosters.{Roster}
-use Rattle.protocol.specs.Networks.{Reading, Step, read, HostedNode, Budgets, Net, Reply, net_step}
+use Rattle.protocol.specs.Networks.{Reading, Step, step_of_event, HostedNode, Budgets, Net, Reply, net_step}
 use Rattle.types.specs.declared.event.Refusal.TheVariants.{NoSuchNetwork}
 use Rattle.protocol.specs.Networks.Reply.{Done, Refused}
 
@@ -39,16 +39,17 @@ host_run nets (c ∷ cs) =
     reply_at (net_at nets c.0) c.1 ∷ host_run (map (λ n. if n.number == c.0 then (net_step n c.1).0 else n) nets) cs
 
 -- the applied events of one network, with what they gave out
-unfoldable pub applied : ℕ → List (ℕ × Step) → List Reply → List Entry
-applied g [] rs = []
-applied g (c ∷ cs) [] = []
-applied g (c ∷ cs) (r ∷ rs) = if c.0 == g then journal_with c.1 r (applied g cs rs) else applied g cs rs
+unfoldable pub applied_entries : ℕ → List (ℕ × Step) → List Reply → List Entry
+applied_entries g [] rs = []
+applied_entries g (c ∷ cs) [] = []
+applied_entries g (c ∷ cs) (r ∷ rs) =
+    if c.0 == g then journal_with c.1 r (applied_entries g cs rs) else applied_entries g cs rs
 
 -- ---- configurations and histories
 -- a network as it is configured
 pub record Config : Type 0 where
   pub number : ℕ
-  pub hosts : List HostedNode
+  pub nodes : List HostedNode
   pub budgets : Budgets
   pub roster : Option Roster
 
@@ -57,7 +58,7 @@ abbrev pub new_net : Config → Net
 new_net config =
     record {
       number = config.number;
-      hosts = config.hosts;
+      nodes = config.nodes;
       budgets = config.budgets;
       roster = config.roster;
       slots = [];
@@ -72,9 +73,9 @@ abbrev pub nets : List Config → List Net
 nets configs = map new_net configs
 
 -- the hosted nodes of a network; none where the network is not there
-abbrev pub hosts_of : List Config → ℕ → List HostedNode
-hosts_of [] g = []
-hosts_of (c ∷ cs) g = if c.number == g then c.hosts else hosts_of cs g
+abbrev pub nodes_of : List Config → ℕ → List HostedNode
+nodes_of [] g = []
+nodes_of (c ∷ cs) g = if c.number == g then c.nodes else nodes_of cs g
 
 -- a host history: configurations, and events of any networks in any order
 pub record History : Type 0 where
@@ -83,8 +84,8 @@ pub record History : Type 0 where
 
 -- what the events of a history are, by a decoder of envelopes
 abbrev pub steps_of : (List ℕ → Reading) → List (ℕ × Event) → List (ℕ × Step)
-steps_of decode calls = map (λ c. (c.0, read decode c.1)) calls
+steps_of decode calls = map (λ c. (c.0, step_of_event decode c.1)) calls
 
 -- the applied events of one network
 abbrev pub entries : (List ℕ → Reading) → History → ℕ → List Entry
-entries decode h g = applied g (steps_of decode h.calls) (host_run (nets h.configs) (steps_of decode h.calls))
+entries decode h g = applied_entries g (steps_of decode h.calls) (host_run (nets h.configs) (steps_of decode h.calls))

@@ -11,12 +11,12 @@ use Rattle.types.specs.declared.event.NodeEvent.TheVariants.{Propose, Take, Nomi
 use Rattle.protocol.specs.Networks.{HostedNode, Reading, Step, slices_of}
 use Rattle.protocol.specs.Networks.Reading.{Read, Fault}
 use Rattle.protocol.specs.Networks.Step.{Opens, Closes, Proposes, Delivers, Hears, NominationTimerFires, BallotTimerFires, Reslices}
-use Rattle.protocol.specs.Hosts.{Entry, History, hosts_of, entries}
+use Rattle.protocol.specs.Hosts.{Entry, History, nodes_of, entries}
 
 -- ---- the closure of a run
 -- where a hosted node is in, so are the names of its configured slices
-abbrev pub host_rule : HostedNode → Rule
-host_rule h = record { sources = h.name ∷ []; gives = names h.slices }
+abbrev pub node_rule : HostedNode → Rule
+node_rule h = record { sources = h.name ∷ []; gives = names h.slices }
 
 -- where receiver and sender of a delivery at the slot are in, so are the names that it announces; where a hosted node
 -- is in, so are the names of all slices that it was given at the slot; a Hear announces nothing new
@@ -29,7 +29,7 @@ announcement_rules i _ = []
 -- the least set that contains v and keeps the rules of the hosted nodes, and of all deliveries and changes of slices of
 -- the whole run
 unfoldable pub closure : List HostedNode → ℕ → ℕ → List Entry → Names
-closure hosts i v run = in_least (map host_rule hosts ++ flat_map (λ x. announcement_rules i x.event) run) v
+closure nodes i v run = in_least (map node_rule nodes ++ flat_map (λ x. announcement_rules i x.event) run) v
 
 -- ---- kept steps
 -- what is kept of a run: of a Hear not what it hands over
@@ -91,16 +91,16 @@ pub record SameCast (R : Names) (v : ℕ) (one other : List HostedNode) : Type 0
 -- It holds for every decoder of envelopes, and so for the codec's.
 abbrev pub Isolation : Type 0
 Isolation = (decode : List ℕ → Reading) (one other : History) (g i v : ℕ) →
-    let R = closure (hosts_of one.configs g) i v (entries decode one g) in
-    SameCast R v (hosts_of one.configs g) (hosts_of other.configs g)
+    let R = closure (nodes_of one.configs g) i v (entries decode one g) in
+    SameCast R v (nodes_of one.configs g) (nodes_of other.configs g)
     → kept_of R i (entries decode one g) ≡ kept_of R i (entries decode other g)
-    → (u : ℕ) → IsTrue (R u) → IsTrue (is_some (slices_of (hosts_of one.configs g) u))
+    → (u : ℕ) → IsTrue (R u) → IsTrue (is_some (slices_of (nodes_of one.configs g) u))
     → outs_of i u (entries decode one g) ≡ outs_of i u (entries decode other g)
 
 -- ---- the closure in the second world
 -- no name is hosted twice: each hosted node is the one that its name finds
 abbrev pub AreNamedOnce : List HostedNode → Type 0
-AreNamedOnce hosts = (h : HostedNode) → Contains hosts h → slices_of hosts h.name ≡ Some h.slices
+AreNamedOnce nodes = (h : HostedNode) → Contains nodes h → slices_of nodes h.name ≡ Some h.slices
 
 -- Where the casts are the same and so are the kept steps, the closure of v is the same set of names in both worlds,
 -- whatever entries they have: those of two runs, or of a network in two histories.

@@ -35,15 +35,15 @@ pub data Step : Type 0 where
   Reslices : ℕ → ℕ → Slices → Step
 
 -- what an event is, by a decoder of envelopes
-abbrev pub read : (List ℕ → Reading) → Event → Step
-read decode (event.OpenSlot i) = Opens i
-read decode (event.CloseSlot i) = Closes i
-read decode (event.Propose i u x) = Proposes i u x
-read decode (event.Deliver u bytes) = Delivers u (length bytes) (decode bytes)
-read decode (event.Hear i u from kind k) = Hears i u from kind k
-read decode (event.NominationTimer i u r) = NominationTimerFires i u r
-read decode (event.BallotTimer i u n) = BallotTimerFires i u n
-read decode (event.Reslice i u q) = Reslices i u q
+abbrev pub step_of_event : (List ℕ → Reading) → Event → Step
+step_of_event decode (event.OpenSlot i) = Opens i
+step_of_event decode (event.CloseSlot i) = Closes i
+step_of_event decode (event.Propose i u x) = Proposes i u x
+step_of_event decode (event.Deliver u bytes) = Delivers u (length bytes) (decode bytes)
+step_of_event decode (event.Hear i u from kind k) = Hears i u from kind k
+step_of_event decode (event.NominationTimer i u r) = NominationTimerFires i u r
+step_of_event decode (event.BallotTimer i u n) = BallotTimerFires i u n
+step_of_event decode (event.Reslice i u q) = Reslices i u q
 
 -- ---- networks
 -- a hosted node, as it is configured
@@ -72,7 +72,7 @@ pub record Slot : Type 0 where
 -- and what was drawn on the shares of each slot since it was opened
 pub record Net : Type 0 where
   pub number : ℕ
-  pub hosts : List HostedNode
+  pub nodes : List HostedNode
   pub budgets : Budgets
   pub roster : Option Roster
   pub slots : List Slot
@@ -151,18 +151,18 @@ act_known net i u (Some e) = act net i u (Take e)
 
 -- opening a slot makes each hosted node anew, with the slices of its configuration
 unfoldable pub nodes_of_new_slot : List HostedNode → ℕ → List Instance
-nodes_of_new_slot hosts i = map (λ h. record { node = fresh i h.name h.slices; emitted = [] }) hosts
+nodes_of_new_slot nodes i = map (λ h. record { node = fresh i h.name h.slices; emitted = [] }) nodes
 
 -- nothing is drawn yet on the shares of a slot that is opened
-abbrev pub renewed : ℕ → List Draw → List Draw
-renewed i draws = filter (λ d. not (d.slot == i)) draws
+abbrev pub draws_after_opening : ℕ → List Draw → List Draw
+draws_after_opening i draws = filter (λ d. not (d.slot == i)) draws
 
 -- what an event does that is not refused; a closed slot is forgotten, and a Hear hands over what was emitted
 unfoldable pub effect : Net → Step → Net × List Out
 effect net (Opens i) = (
   record net {
-    slots = net.slots ++ record { number = i; instances = nodes_of_new_slot net.hosts i } ∷ [];
-    draws = renewed i net.draws;
+    slots = net.slots ++ record { number = i; instances = nodes_of_new_slot net.nodes i } ∷ [];
+    draws = draws_after_opening i net.draws;
   },
   [],
 )
@@ -199,7 +199,7 @@ source (Some r) e = source_by r e
 -- ---- refusals
 -- the network hosts the name
 abbrev pub is_hosted : Net → ℕ → Bool
-is_hosted net u = is_some (slices_of net.hosts u)
+is_hosted net u = is_some (slices_of net.nodes u)
 
 -- the slot is open
 abbrev pub is_open : Net → ℕ → Bool

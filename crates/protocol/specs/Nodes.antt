@@ -68,8 +68,8 @@ in_round n r =
     record n { inputs = record n.inputs { round = r; leaders = n.inputs.leaders ++ leader n.slot r n.name n.slices ∷ [] } }
 
 -- the proposal is set, and round 1 begins
-abbrev pub proposed : Node → List ℕ → Node
-proposed n x = in_round (record n { inputs = record n.inputs { proposal = Some x } }) 1
+abbrev pub with_proposal : Node → List ℕ → Node
+with_proposal n x = in_round (record n { inputs = record n.inputs { proposal = Some x } }) 1
 
 -- the nomination timer of this number is live
 abbrev pub is_round_live : Node → ℕ → Bool
@@ -98,7 +98,7 @@ with_slices n q = record n { slices = q }
 
 -- none for a stale envelope, and for a timer that is not live
 unfoldable pub change : Node → NodeEvent → Option Node
-change n (Propose x) = Some (proposed n x)
+change n (Propose x) = Some (with_proposal n x)
 change n (Take e) = if is_taken n.table e then Some (record n { table = with_row e n.table }) else None
 change n (NominationTimer r) = if is_round_live n r then Some (in_round n (r + 1)) else None
 change n (BallotTimer c) = if is_counter_live n c then Some (with_timeout n) else None

@@ -8,7 +8,7 @@ use Rattle.protocol.specs.Views.{Seen, passes}
 use Rattle.types.specs.declared.state.Phase.{Phase}
 use Rattle.types.specs.declared.state.Inputs.{Inputs}
 use Rattle.types.specs.declared.state.Votes.{Votes}
-use Rattle.protocol.specs.States.{ballot_at, position}
+use Rattle.protocol.specs.States.{ballot_with, position}
 use Rattle.types.specs.declared.state.Phase.TheVariants.{Preparing, Committing, Externalized}
 use Rattle.protocol.specs.Candidates.{combine, least_from}
 use Rattle.protocol.specs.Nominating.{nominate}
@@ -42,7 +42,7 @@ value_once_raised Externalized w x = x
 
 -- the ballot at this counter; its value is chosen anew only where that is another counter
 abbrev pub ballot_at_counter : Votes → Ballot → ℕ → Ballot
-ballot_at_counter w b n = if n == b.counter then b else ballot_at n (value_once_raised w.phase w b.value)
+ballot_at_counter w b n = if n == b.counter then b else ballot_with n (value_once_raised w.phase w b.value)
 
 -- the lowest counter, from the ballot's on, at which those with greater counters do not block, at most the cap, or the
 -- ballot's own where that is above the cap

@@ -39,8 +39,8 @@ QuorumsAreFound = (slices_at : ℕ → Option Slices) (all : List ℕ) (supporte
     → IsTrue (has_quorum sat slices_at all supporters node) ↔ HasQuorum sat slices_at supporters node
 
 -- the part of a set that lies in a region
-abbrev pub cut : Names → Names → Names
-cut region set = both region set
+abbrev pub part_in : Names → Names → Names
+part_in region set = both region set
 
 -- a region holds all names of these nodes' slices
 abbrev pub HoldsNamesOf : {Q : Type 0} → (Q → List ℕ) → (ℕ → Option Q) → (nodes region : Names) → Type 0
@@ -63,8 +63,8 @@ IsLocal {Q} satisfies names = (q : Q) (a b : Names) → ((u : ℕ) → IsTrue (a
 -- a quorum, cut to a set that contains the names of its members' slices, is a quorum as soon as one name is left
 abbrev pub IsCut : {Q : Type 0} → (Q → Names → Bool) → (Q → List ℕ) → Type 0
 IsCut {Q} satisfies names = (slices_at : ℕ → Option Q) (set region : Names) → Quorum satisfies slices_at set
-    → HoldsNamesOf names slices_at (cut region set) region
-    → (u : ℕ) → IsTrue (cut region set u) → Quorum satisfies slices_at (cut region set)
+    → HoldsNamesOf names slices_at (part_in region set) region
+    → (u : ℕ) → IsTrue (part_in region set u) → Quorum satisfies slices_at (part_in region set)
 
 -- so it is for slices of any kind whose answers lie in the names that they have
 abbrev pub Cut : Type 0 → Type 0

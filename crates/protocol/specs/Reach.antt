@@ -21,13 +21,13 @@ rules_of own configured table = record { sources = own ∷ []; gives = names con
 
 -- the nodes that a node reaches: itself, the names of its configured slices, and the names in any row whose sender is
 -- reached
-unfoldable pub reached : ℕ → Slices → List Sent → Names
-reached own configured table = in_least (rules_of own configured table) own
+unfoldable pub reach_of : ℕ → Slices → List Sent → Names
+reach_of own configured table = in_least (rules_of own configured table) own
 
 -- the list has the nodes that a node reaches, ascending, none twice; it holds all names of its members' slices
 pub record IsReach (own : ℕ) (configured : Slices) (table : List Sent) (reach : List ℕ) : Type 0 where
   pub ascending : IsAscending reach
-  pub exactly : (u : ℕ) → among reach u ≡ reached own configured table u
+  pub exactly : (u : ℕ) → among reach u ≡ reach_of own configured table u
   pub closed : (kind : Kind) → NamesWithin names (slices_by own configured table kind) (among reach)
 
 -- a node is named in the slices of another: in the configured ones of the node itself, or in those of a row
@@ -55,17 +55,17 @@ pub record IsLeastReach (own : ℕ) (configured : Slices) (table : List Sent) (s
 -- the reach is the least such set
 abbrev pub ReachIsLeast : Type 0
 ReachIsLeast = (own : ℕ) (configured : Slices) (table : List Sent)
-    → IsLeastReach own configured table (reached own configured table)
+    → IsLeastReach own configured table (reach_of own configured table)
 
 -- a node is reached exactly where a chain leads to it
 abbrev pub ReachFollowsChains : Type 0
 ReachFollowsChains = (own : ℕ) (configured : Slices) (table : List Sent) (u : ℕ)
-    → IsTrue (reached own configured table u) ↔ Chain own configured table u
+    → IsTrue (reach_of own configured table u) ↔ Chain own configured table u
 
 -- the reach holds all names of its members' slices, by the configuration and by the rows of either kind
 abbrev pub ReachHoldsNames : Type 0
 ReachHoldsNames = (own : ℕ) (configured : Slices) (table : List Sent) (kind : Kind)
-    → NamesWithin names (slices_by own configured table kind) (reached own configured table)
+    → NamesWithin names (slices_by own configured table kind) (reach_of own configured table)
 
 -- the reach stays where a row comes in the place of one with the same slices
 abbrev pub StaysWithSameSlices : Type 0

@@ -63,6 +63,6 @@ slices_at_end i u configured run = slices_since i u configured configured run
 -- they are the slices of the node in the state that the run leads to, wherever the slot is open there
 abbrev pub SlicesFollowRuns : Type 0
 SlicesFollowRuns = (config : Config) (run : List Entry) (i u : ℕ) (configured : Slices) (p : Instance) → IsRun config run
-    → slices_of config.hosts u ≡ Some configured
+    → slices_of config.nodes u ≡ Some configured
     → node_where_open (instances_at (state_of config run).slots i) u ≡ Some p
     → p.node.slices ≡ slices_at_end i u configured run

@@ -42,8 +42,8 @@ Under None now = Unit {0}
 Under (Some old) now = above now old ≡ false
 
 -- the ballot of a counter and a value
-abbrev pub ballot_at : ℕ → List ℕ → Ballot
-ballot_at n x = record { counter = n; value = x }
+abbrev pub ballot_with : ℕ → List ℕ → Ballot
+ballot_with n x = record { counter = n; value = x }
 
 -- the counter of a ballot; 0 where there is none
 abbrev pub counter_of : Option Ballot → ℕ
@@ -74,7 +74,7 @@ commit_counter w b = counter_up_to (high_counter w b) b w.commit
 unfoldable pub position_in : Phase → Votes → Ballot → Statement
 position_in Preparing w b = Prepare b w.prepared w.aborted (high_counter w b) (commit_counter w b)
 position_in Committing w b = Commit b (counter_of w.prepared) w.high w.low
-position_in Externalized w b = Externalize (ballot_at w.low b.value) w.high
+position_in Externalized w b = Externalize (ballot_with w.low b.value) w.high
 
 -- a node without a ballot has no position
 unfoldable pub position : Votes → Option Statement
@@ -89,7 +89,7 @@ nomination_position w = Some (Nominate w.voted w.accepts)
 unfoldable pub prepared_as_sent : Ballot → Ballot → Ballot
 prepared_as_sent b p =
     if below b p
-    then (if not (is_gt (bytes_cmp p.value b.value)) then ballot_at b.counter p.value else ballot_at
+    then (if not (is_gt (bytes_cmp p.value b.value)) then ballot_with b.counter p.value else ballot_with
     (b.counter - 1) p.value)
     else p
 
@@ -99,7 +99,7 @@ sent_in Preparing w b =
     Prepare b (option_map (prepared_as_sent b) w.prepared) (min w.aborted b.counter) (high_counter w b)
     (commit_counter w b)
 sent_in Committing w b = Commit b (counter_of w.prepared) w.high w.low
-sent_in Externalized w b = Externalize (ballot_at w.low b.value) w.high
+sent_in Externalized w b = Externalize (ballot_with w.low b.value) w.high
 
 -- nothing is sent without a ballot
 unfoldable pub sent_vote : Votes → Option Statement

@@ -11,14 +11,14 @@ use Rattle.types.specs.declared.state.Votes.{Votes}
 use Rattle.protocol.specs.Limits.{ComesOfEvents}
 use Rattle.protocol.specs.Nodes.{Node, change, most_passes, after_pass, settle}
 use Rattle.protocol.specs.Passes.{balloted_in, nominated_in, pass}
-use Rattle.protocol.specs.Reach.{reached}
+use Rattle.protocol.specs.Reach.{reach_of}
 use Rattle.protocol.specs.Rows.{with_row}
 use Rattle.protocol.specs.Sameness.{same_values, same_votes}
 use Rattle.protocol.specs.Views.{Seen, seen}
 
 -- a node reaches the same nodes by both tables
 abbrev pub ReachesSame : ℕ → Slices → List Sent → List Sent → Type 0
-ReachesSame own configured old new = (u : ℕ) → reached own configured new u ≡ reached own configured old u
+ReachesSame own configured old new = (u : ℕ) → reach_of own configured new u ≡ reach_of own configured old u
 
 -- the votes after a first pass that made these of those: where it changed something, balloting alone goes on until it
 -- changes nothing

@@ -7,7 +7,7 @@ use Rattle.protocol.specs.Rosters.{Roster}
 use Rattle.protocol.specs.Networks.{Reading, Step, Net, Reply, slices_of, net_step}
 use Rattle.protocol.specs.Networks.Reading.{Read}
 use Rattle.protocol.specs.Networks.Step.{Opens, Closes, Proposes, Delivers, Hears, NominationTimerFires, BallotTimerFires, Reslices}
-use Rattle.protocol.specs.Hosts.{Config, History, new_net, nets, journal, host_run, hosts_of, steps_of, entries}
+use Rattle.protocol.specs.Hosts.{Config, History, new_net, nets, journal, host_run, nodes_of, steps_of, entries}
 use Rattle.protocol.specs.Isolation.{kept_step, closure, outs_of, SameCast}
 
 -- ---- what was submitted
@@ -93,20 +93,20 @@ roster_names (Some c) = names_on c.roster
 -- decoder of envelopes.
 abbrev pub MembersAreNeverCrowdedOut : Type 0
 MembersAreNeverCrowdedOut = (decode : List ℕ → Reading) (one other : History) (g i v : ℕ) →
-    let R = closure (hosts_of one.configs g) i v (entries decode one g) in
-    SameCast R v (hosts_of one.configs g) (hosts_of other.configs g)
+    let R = closure (nodes_of one.configs g) i v (entries decode one g) in
+    SameCast R v (nodes_of one.configs g) (nodes_of other.configs g)
     → SameReserves (config_of one.configs g) (config_of other.configs g)
     → AreWithin R (among (roster_names (config_of one.configs g)))
     → concerning_steps R i (answers decode one g) ≡ concerning_steps R i (answers decode other g)
     → (replied_to R i (answers decode one g) ≡ replied_to R i (answers decode other g))
-    × ((u : ℕ) → IsTrue (R u) → IsTrue (is_some (slices_of (hosts_of one.configs g) u))
+    × ((u : ℕ) → IsTrue (R u) → IsTrue (is_some (slices_of (nodes_of one.configs g) u))
     → outs_of i u (entries decode one g) ≡ outs_of i u (entries decode other g))
 
 -- The same of two networks, each of its own configuration, to which these steps are submitted.
 abbrev pub MembersOfRunsAreNeverCrowdedOut : Type 0
 MembersOfRunsAreNeverCrowdedOut = (one other : Config) (es fs : List Step) (i v : ℕ) →
-    let R = closure one.hosts i v (journal (new_net one) es) in
-    SameCast R v one.hosts other.hosts
+    let R = closure one.nodes i v (journal (new_net one) es) in
+    SameCast R v one.nodes other.nodes
     → SameReserves (Some one) (Some other)
     → AreWithin R (among (names_on one.roster))
     → concerning_steps R i (net_run (new_net one) es) ≡ concerning_steps R i (net_run (new_net other) fs)
@@ -119,19 +119,19 @@ abbrev pub HasOneLength : (List ℕ → Reading) → Type 0
 HasOneLength decode = (a b : List ℕ) (e : Sent) → decode a ≡ Read e → decode b ≡ Read e → length a ≡ length b
 
 -- a step without the length of what it delivers
-abbrev pub unsized : Step → Step
-unsized (Opens j) = Opens j
-unsized (Closes j) = Closes j
-unsized (Proposes j u x) = Proposes j u x
-unsized (Delivers u size d) = Delivers u 0 d
-unsized (Hears j u from kind k) = Hears j u from kind k
-unsized (NominationTimerFires j u r) = NominationTimerFires j u r
-unsized (BallotTimerFires j u n) = BallotTimerFires j u n
-unsized (Reslices j u q) = Reslices j u q
+abbrev pub without_size : Step → Step
+without_size (Opens j) = Opens j
+without_size (Closes j) = Closes j
+without_size (Proposes j u x) = Proposes j u x
+without_size (Delivers u size d) = Delivers u 0 d
+without_size (Hears j u from kind k) = Hears j u from kind k
+without_size (NominationTimerFires j u r) = NominationTimerFires j u r
+without_size (BallotTimerFires j u n) = BallotTimerFires j u n
+without_size (Reslices j u q) = Reslices j u q
 
 -- then submitted steps that are the same but for lengths are the same
 abbrev pub LengthsFollow : Type 0
 LengthsFollow = (decode : List ℕ → Reading) → HasOneLength decode → (one other : History) (g i : ℕ) (R : Names)
-    → map unsized (concerning_steps R i (answers decode one g))
-    ≡ map unsized (concerning_steps R i (answers decode other g))
+    → map without_size (concerning_steps R i (answers decode one g))
+    ≡ map without_size (concerning_steps R i (answers decode other g))
     → concerning_steps R i (answers decode one g) ≡ concerning_steps R i (answers decode other g)

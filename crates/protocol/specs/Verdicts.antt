@@ -29,11 +29,11 @@ pub record IsFirstDifference {A : Type 0} (one other : List A) (place : ℕ) : T
   pub there : slice_get one place ≢ slice_get other place
 
 -- the hosted members, ascending, each with its outs in that world
-pub record IsListOf (R : Names) (hosts : List HostedNode) (i : ℕ) (run : List Entry)
+pub record IsListOf (R : Names) (nodes : List HostedNode) (i : ℕ) (run : List Entry)
     (list : List (ℕ × List Out)) : Type 0 where
   pub outs : AllByRecursion
-      (λ p. (p.1 ≡ outs_of i p.0 run) × (IsTrue (R p.0) × IsTrue (is_some (slices_of hosts p.0)))) list
-  pub all : (u : ℕ) → IsTrue (R u) → IsTrue (is_some (slices_of hosts u)) → Contains (map (λ p. p.0) list) u
+      (λ p. (p.1 ≡ outs_of i p.0 run) × (IsTrue (R p.0) × IsTrue (is_some (slices_of nodes p.0)))) list
+  pub all : (u : ℕ) → IsTrue (R u) → IsTrue (is_some (slices_of nodes u)) → Contains (map (λ p. p.0) list) u
   pub ascending : IsAscending (map (λ p. p.0) list)
 
 -- the verdict on two runs of one network, for the closure of v at slot i in the first
@@ -55,11 +55,11 @@ VerdictsAreUnique = (one other : List HostedNode) (runs others : List Entry) (i 
 -- and every two runs have one
 abbrev pub VerdictsExist : Type 0
 VerdictsExist = (one other : Config) (runs others : List Entry) (i v : ℕ) → IsRun one runs → IsRun other others
-    → (verdict : Verdict) × IsVerdict one.hosts other.hosts runs others i v verdict
+    → (verdict : Verdict) × IsVerdict one.nodes other.nodes runs others i v verdict
 
 -- Isolation of two runs, each of its own configuration, whatever is answered
 abbrev pub IsolatedRuns : Type 0
 IsolatedRuns = (one other : Config) (runs others : List Entry) (i v : ℕ) → IsRun one runs → IsRun other others →
-    let R = closure one.hosts i v runs in
-    SameCast R v one.hosts other.hosts → kept_of R i runs ≡ kept_of R i others
+    let R = closure one.nodes i v runs in
+    SameCast R v one.nodes other.nodes → kept_of R i runs ≡ kept_of R i others
     → (u : ℕ) → IsTrue (R u) → outs_of i u runs ≡ outs_of i u others

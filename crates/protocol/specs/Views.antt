@@ -9,8 +9,8 @@ use Rattle.protocol.specs.Sets.{Names}
 use Rattle.protocol.specs.Satisfaction.{sat, is_blocked}
 use Rattle.protocol.specs.Quorums.{has_quorum}
 use Rattle.protocol.specs.Rows.{row, is_kind}
-use Rattle.protocol.specs.Backing.{slices_by, passing}
-use Rattle.protocol.specs.Reach.{reached}
+use Rattle.protocol.specs.Backing.{slices_by, passing_senders}
+use Rattle.protocol.specs.Reach.{reach_of}
 
 -- all that the rules read of a table; each of the two tests is told whether the node's own position passes
 pub record Seen : Type 0 where
@@ -25,7 +25,7 @@ pub record Seen : Type 0 where
 
 -- the other nodes that a node reaches: its own position stands for the node itself
 abbrev pub others_reached : ℕ → Slices → List Sent → Names
-others_reached own configured table u = not (own == u) && reached own configured table u
+others_reached own configured table u = not (own == u) && reach_of own configured table u
 
 -- the statements in the rows of the others that are reached
 unfoldable pub rows_seen : ℕ → Slices → List Sent → Kind → List Statement
@@ -39,7 +39,7 @@ led_by leaders table = filter_map (λ u. option_map (λ e. e.body) (row table u 
 
 -- who passes a test: the node itself where its position does, every other node where its row does
 abbrev pub passing_with : ℕ → List Sent → Kind → Bool → (Statement → Bool) → Names
-passing_with own table kind own_passes test u = if own == u then own_passes else passing table kind test u
+passing_with own table kind own_passes test u = if own == u then own_passes else passing_senders table kind test u
 
 -- all members of some quorum that contains the node pass; a node without a row has no slices, and so is in no quorum
 unfoldable pub quorum_passes : ℕ → Slices → List Sent → Kind → Bool → (Statement → Bool) → Bool

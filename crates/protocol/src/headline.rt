@@ -1,7 +1,7 @@
 //! Isolation of hosted validators, and the claims that it is made of.
 
 ghost use Rattle.protocol.specs.Agreeing.{NewNetworksAgree, OtherStepsLeave, RunsStayClosedIn, StaysClosedIn, StepsAgree};
-ghost use Rattle.protocol.specs.Claims.{Agree, Quiet, PrefixOfReach, PrefixOfRun, PrefixOfWholeRun};
+ghost use Rattle.protocol.specs.Claims.{Agree, CalmNodesAreQuiet, PrefixOfReach, PrefixOfRun, PrefixOfWholeRun};
 ghost use Rattle.protocol.specs.Isolation.{Isolation, SameClosures};
 ghost use Rattle.protocol.specs.Runs.{JournalsAreRuns, RunsAreJournals};
 ghost use Rattle.protocol.specs.Verdicts.{IsolatedRuns, VerdictsAreUnique, VerdictsExist};
@@ -19,7 +19,7 @@ pub fn isolation()
 /// An envelope from outside a set that is closed for a calm node makes it give nothing out, and
 /// changes nothing of it but rows of senders outside the set.
 pub fn quiet()
-    ensures { Quiet }
+    ensures { CalmNodesAreQuiet }
 {}
 
 /// The closure of each beginning of a run lies in that of the whole run, and whom a node reaches lies

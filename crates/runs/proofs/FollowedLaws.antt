@@ -21,14 +21,14 @@ use Rattle.protocol.specs.Runs.{net_after, IsRun}
 use Rattle.configuration.specs.Configs.{names_of}
 use Rattle.configuration.proofs.Names.{names-differ}
 use Rattle.network.specs.Decoding.{step_of}
-use Rattle.hoststep.specs.Logs.{Log, extended}
+use Rattle.hoststep.specs.Logs.{Log, with_entry}
 use Rattle.hoststep.specs.Worlds.{IsAnsweredAt, items_of, log_at, logs_set, logs_with}
 use Rattle.hoststep.proofs.Histories.{has-number}
 use Rattle.hoststep.proofs.Growing.{run-grows}
 use Rattle.runs.specs.Outlines.{Outlined, IsConfigOf, IsRevised, Waiting, fresh, waiting_at, waiting_without}
 use Rattle.runs.specs.Emissions.{OpenSlot, OpenSlots, at_number, changed_at, handed_on}
 use Rattle.runs.specs.Followed.{Followed, also_followed, followed_with, turn_of, after_turn, with_handed}
-use Rattle.runs.specs.Hosting.{Hosting, IsApplied, IsBegun, logs_joined, noted_answer, unhosted}
+use Rattle.runs.specs.Hosting.{Hosting, IsApplied, IsBegun, logs_joined, noted_answer, new_hosting}
 use Rattle.runs.specs.Joining.{NetworkIsNamedAt}
 use Rattle.runs.specs.Naming.{Named, is_in, named_with}
 use Rattle.runs.specs.Preparing.{Prepares}
@@ -140,7 +140,7 @@ answer-follows logs now f kept g e (Ok os) None at h k s = absurd (no-ok _ _ h.0
 answer-follows logs now f kept g e (Err r) None at h k s = λ j. subst (λ (x : List Log × Followed). AreSlotsAt (log_at x.0 j) (at_number x.1 j)) (λ i. (sym h.1 i, sym k i)) (s j)
 answer-follows logs now f kept g e (Err r) (Some l) at h k s = λ j. subst (λ (x : List Log × Followed). AreSlotsAt (log_at x.0 j) (at_number x.1 j)) (λ i. (sym h.1 i, sym k i)) (s j)
 answer-follows logs now f kept g e (Ok os) (Some l) at h k s =
-    let new : Log = extended l (step_of e) os in
+    let new : Log = with_entry l (step_of e) os in
     let named : new.config.number ≡ g = has-number logs g l at in
     let there : is_some (log_at logs new.config.number) ≡ true = ap (λ n. is_some (log_at logs n)) named ∙ ap (λ (o : Option Log). is_some o) at in
     changed-follows logs now f kept g l new (after_turn (turn_of e) os) at
@@ -162,7 +162,7 @@ answer-numbers logs now g e (Ok os) None at h = absurd (no-ok _ _ h.0)
 answer-numbers logs now g e (Err r) None at h = same-numbers logs now h.1
 answer-numbers logs now g e (Err r) (Some l) at h = same-numbers logs now h.1
 answer-numbers logs now g e (Ok os) (Some l) at h =
-    let new : Log = extended l e os in
+    let new : Log = with_entry l e os in
     let named : new.config.number ≡ g = has-number logs g l at in
     let there : is_some (log_at logs new.config.number) ≡ true = ap (λ n. is_some (log_at logs n)) named ∙ ap (λ (o : Option Log). is_some o) at in
     record {
@@ -190,7 +190,7 @@ applied-follows g e r old new s h = record {
 
 -- ---- a network that joins
 
-none-opened : (c : Config) → all_differ (names_of c.hosts) ≡ true → AreSlotsBy c [] (record { names = names_of c.hosts; slots = [] })
+none-opened : (c : Config) → all_differ (names_of c.nodes) ≡ true → AreSlotsBy c [] (record { names = names_of c.nodes; slots = [] })
 unfolding net_after
 none-opened c single = record { names = refl; single = single; once = tt; opens = λ i. refl; kept = λ i o at. absurd (none-there o at) }
   where
@@ -236,11 +236,11 @@ module _ (ws : Waiting) (n : Named) (logs : List Log) (f : Followed) (g : ℕ) (
   joined-follows s j =
       subst (λ (xs : List Log). AreSlotsAt (log_at xs j) (at_number (followed_with c f) j)) (sym joins-there)
       (subst (λ (o : Option Log). AreSlotsAt o (at_number (followed_with c f) j)) (sym (log-with logs (record { config = c; entries = [] }) j))
-      (subst (λ (o : Option OpenSlots). AreSlotsAt (if c.number == j then Some (record { config = c; entries = [] }) else log_at logs j) o) (sym (at-inserted c.number (record { names = names_of c.hosts; slots = [] }) j f))
+      (subst (λ (o : Option OpenSlots). AreSlotsAt (if c.number == j then Some (record { config = c; entries = [] }) else log_at logs j) o) (sym (at-inserted c.number (record { names = names_of c.nodes; slots = [] }) j f))
       (go (c.number == j))))
     where
-      go : (b : Bool) → AreSlotsAt (if b then Some (record { config = c; entries = [] }) else log_at logs j) (if b then Some (record { names = names_of c.hosts; slots = [] }) else at_number f j)
-      go true = (nothing-run c, none-opened c (names-differ (names_of c.hosts) is.ascending))
+      go : (b : Bool) → AreSlotsAt (if b then Some (record { config = c; entries = [] }) else log_at logs j) (if b then Some (record { names = names_of c.nodes; slots = [] }) else at_number f j)
+      go true = (nothing-run c, none-opened c (names-differ (names_of c.nodes) is.ascending))
       go false = s j
 
   joined-room : HaveRoom (waiting_without ws g) (named_with g (Some d) n) (logs_joined c logs)
@@ -399,7 +399,7 @@ line-follows old new fields printed s (declared p named kept logs) = record {
 line-follows old new fields printed s (answered g e asked put) = applied-follows g e put.1 put.0 new (begun-follows g old put.0 s put.2) put.3
 line-follows old new fields printed s (settled g slot asked done) = settled-follows g slot _ _ done.0 new _ (begun-follows g old done.0 s done.1) done.2
 
-first-follows : FollowsJournals unhosted
+first-follows : FollowsJournals new_hosting
 first-follows = record {
   room = record { joined = λ g h. absurd (false≢true h); counted = omega arith; apart = λ g h. absurd (false≢true h); once = tt; few = omega arith };
   slots = λ g. tt;
@@ -419,4 +419,4 @@ runs-follow s t lines printed end h ok (bad fails) = absurd (no-ok _ _ (sym ok))
 runs-follow s t lines printed end h ok short = absurd (no-ok _ _ (sym ok))
 
 pub runs_follow_journals : RunsFollowJournals
-runs_follow_journals text before after new run = runs-follow unhosted new (enumerate_from 1 run.lines) run.printed (Ok tt) first-follows refl run.ran
+runs_follow_journals text before after new run = runs-follow new_hosting new (enumerate_from 1 run.lines) run.printed (Ok tt) first-follows refl run.ran

@@ -129,7 +129,7 @@ module _ (before : List Entry) (e : Step) (net : Net) (j u : ℕ) (x : NodeEvent
 numbers-stay : (net : Net) (e : Step) → opened_after e (numbers net.slots) ≡ numbers net.slots → (i : ℕ) → is_open (effect net e).0 i ≡ is_open net i
 numbers-stay net e same i = open-numbers (effect net e).0.slots i ∙ (ap (list_any (λ n. n == i)) ((effect-keeps net e).slots ∙ same) ∙ sym (open-numbers net.slots i))
 
-nobody-told : (hosts : List HostedNode) (j u : ℕ) → emitted_at (node_named (nodes_of_new_slot hosts j) u) ≡ []
+nobody-told : (nodes : List HostedNode) (j u : ℕ) → emitted_at (node_named (nodes_of_new_slot nodes j) u) ≡ []
 unfolding nodes_of_new_slot fresh
 nobody-told [] j u = refl
 nobody-told (h ∷ hs) j u = go (h.name == u) (nobody-told hs j u)
@@ -143,7 +143,7 @@ unfolding effect
 effect-tells before net (Opens j) free placed told = λ i w there. go i w there (j == i) refl
   where
     slot : Slot
-    slot = record { number = j; instances = nodes_of_new_slot net.hosts j }
+    slot = record { number = j; instances = nodes_of_new_slot net.nodes j }
 
     closed : instances_at net.slots j ≡ None
     closed = is-none (instances_at net.slots j) (passes-first (tests net (Opens j)) free)
@@ -156,7 +156,7 @@ effect-tells before net (Opens j) free placed told = λ i w there. go i w there 
         let same : j ≡ i = eqb-true j i h in
         let anew : since_opened i next ≡ [] = since-more i before (record { event = Opens j; outs = [] }) ∙ ap (λ b. if b then [] else since_opened i before ++ record { event = Opens j; outs = [] } ∷ []) h in
         ap (λ (o : Option (List Instance)). emitted_at (node_where_open o w)) (instances_at-push net.slots slot i h (ap (instances_at net.slots) (sym same) ∙ closed))
-        ∙ (nobody-told net.hosts j w ∙ sym (ap (λ (xs : List Entry). by_node w (sent_at i xs)) anew))
+        ∙ (nobody-told net.nodes j w ∙ sym (ap (λ (xs : List Entry). by_node w (sent_at i xs)) anew))
     go i w there false h =
         ap (λ (o : Option (List Instance)). emitted_at (node_where_open o w)) (instances_at-push_other net.slots slot i h)
         ∙ (told i w (ap (λ (o : Option (List Instance)). is_some o) (sym (instances_at-push_other net.slots slot i h)) ∙ there) ∙ told-same before (Opens j) [] i w h refl)

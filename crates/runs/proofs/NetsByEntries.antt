@@ -31,18 +31,18 @@ use Rattle.runs.proofs.OutsAtPlaces.{IsGivenAt, IsGivenBy, effect-given, run-in-
 
 -- ---- runs
 
-step-hosts : (net : Net) (e : Step) → (net_step net e).0.hosts ≡ net.hosts
+step-nodes : (net : Net) (e : Step) → (net_step net e).0.nodes ≡ net.nodes
 unfolding net_step
-step-hosts net e = go (first_that (tests net e))
+step-nodes net e = go (first_that (tests net e))
   where
-    go : (o : Option Refusal) → (state_and_reply net e o).0.hosts ≡ net.hosts
-    go None = (effect-keeps net e).hosts
+    go : (o : Option Refusal) → (state_and_reply net e o).0.nodes ≡ net.nodes
+    go None = (effect-keeps net e).nodes
     go (Some r) = refl
 
-run-hosts : (net : Net) (xs : List Entry) → (net_after net xs).hosts ≡ net.hosts
+run-nodes : (net : Net) (xs : List Entry) → (net_after net xs).nodes ≡ net.nodes
 unfolding net_after
-run-hosts net [] = refl
-run-hosts net (x ∷ xs) = run-hosts (net_step net x.event).0 xs ∙ step-hosts net x.event
+run-nodes net [] = refl
+run-nodes net (x ∷ xs) = run-nodes (net_step net x.event).0 xs ∙ step-nodes net x.event
 
 open-then : (net : Net) (e : Step) (i : ℕ) → first_that (tests net e) ≡ None → is_open (net_step net e).0 i ≡ list_any (λ n. n == i) (opened_after e (numbers net.slots))
 unfolding net_step
@@ -127,9 +127,9 @@ hosted-there net (NominationTimerFires j w r) i u free at = let same = same-node
 hosted-there net (BallotTimerFires j w n) i u free at = let same = same-node j w i u at in subst (λ v. is_hosted net v ≡ true) same (not-not (is_hosted net w) (passes-first (tests net (BallotTimerFires j w n)) free))
 hosted-there net (Reslices j w q) i u free at = let same = same-node j w i u at in subst (λ v. is_hosted net v ≡ true) same (not-not (is_hosted net w) (passes-first (tests net (Reslices j w q)) free))
 
-among-hosts : (hosts : List HostedNode) (u : ℕ) → list_any (λ v. v == u) (names_of hosts) ≡ is_some (slices_of hosts u)
-among-hosts [] u = refl
-among-hosts (h ∷ hs) u = go (h.name == u) (among-hosts hs u)
+among-nodes : (nodes : List HostedNode) (u : ℕ) → list_any (λ v. v == u) (names_of nodes) ≡ is_some (slices_of nodes u)
+among-nodes [] u = refl
+among-nodes (h ∷ hs) u = go (h.name == u) (among-nodes hs u)
   where
     go : (b : Bool) → list_any (λ v. v == u) (names_of hs) ≡ is_some (slices_of hs u) → (b || list_any (λ v. v == u) (names_of hs)) ≡ is_some (if b then Some h.slices else slices_of hs u)
     go true ih = refl
@@ -263,8 +263,8 @@ module _ (config : Config) (entries : List Entry) (m : OpenSlots) (s : AreSlotsB
     module _ (j u : ℕ) (named : slot_and_node_of e ≡ Some (j, u)) (by : IsGivenBy j u os) where
       hosted : list_any (λ v. v == u) m.names ≡ true
       hosted =
-          ap (list_any (λ v. v == u)) (s.names ∙ ap names_of (sym (run-hosts (new_net config) entries)))
-          ∙ (among-hosts (state_of config entries).hosts u ∙ hosted-there (state_of config entries) e j u free named)
+          ap (list_any (λ v. v == u)) (s.names ∙ ap names_of (sym (run-nodes (new_net config) entries)))
+          ∙ (among-nodes (state_of config entries).nodes u ∙ hosted-there (state_of config entries) e j u free named)
 
       elsewhere : (i : ℕ) (o : OpenSlot) → (j == i) ≡ false → at_number m.slots i ≡ Some o → IsSlotBy m.names i (since_opened i (entries ++ more ∷ [])) o
       elsewhere i o other at =

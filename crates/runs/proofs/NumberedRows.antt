@@ -8,7 +8,7 @@ use Rattle.std.proofs.Common.{Less, Equal, Greater}
 use Rattle.std.specs.BTreeMap.{insert_entry, is_at}
 use Rattle.std.specs.BTreeSet.{insert_key}
 use Rattle.std.specs.Map.{remove_entry, set_value}
-use Rattle.runs.specs.Emissions.{at_number, changed_at, replaced}
+use Rattle.runs.specs.Emissions.{at_number, changed_at, replace_found}
 use Rattle.runs.specs.ByJournals.{StandOnce}
 
 -- ---- tests of numbers
@@ -146,7 +146,7 @@ module _ {X : Type 0} (k : ℕ) where
   pub at-changed : (change : X → X) (n : ℕ) (es : List (ℕ × X)) → at_number (changed_at es k change) n ≡ (if k == n then option_map change (at_number es n) else at_number es n)
   at-changed change n es = by (at_number es k) refl (k == n) refl
     where
-      by : (o : Option X) → at_number es k ≡ o → (b : Bool) → (k == n) ≡ b → at_number (replaced o es k change) n ≡ (if b then option_map change (at_number es n) else at_number es n)
+      by : (o : Option X) → at_number es k ≡ o → (b : Bool) → (k == n) ≡ b → at_number (replace_found o es k change) n ≡ (if b then option_map change (at_number es n) else at_number es n)
       by None e true h = at ∙ sym (ap (option_map change) at)
         where
           at : at_number es n ≡ None
@@ -168,7 +168,7 @@ module _ {X : Type 0} (k : ℕ) where
   pub once-changed : (change : X → X) (es : List (ℕ × X)) → StandOnce es → StandOnce (changed_at es k change)
   once-changed change es once = by (at_number es k) refl
     where
-      by : (o : Option X) → at_number es k ≡ o → StandOnce (replaced o es k change)
+      by : (o : Option X) → at_number es k ≡ o → StandOnce (replace_found o es k change)
       by None e = once
       by (Some x) e = once-set (change x) es (ap (λ o. is_some o) e) once
 

@@ -35,10 +35,10 @@ names-more : (nodes : List HostedNode) (h : HostedNode) → names_of (nodes ++ h
 names-more [] h = refl
 names-more (x ∷ nodes) h = ap (λ us. x.name ∷ us) (names-more nodes h)
 
-no-name : (nodes : List HostedNode) (u : ℕ) → list_any (λ host. host.name == u) nodes ≡ false → list_any (λ w. w == u) (names_of nodes) ≡ false
+no-name : (nodes : List HostedNode) (u : ℕ) → list_any (λ hosted. hosted.name == u) nodes ≡ false → list_any (λ w. w == u) (names_of nodes) ≡ false
 no-name [] u h = refl
 no-name (x ∷ nodes) u h =
-    let parts = neither (x.name == u) (list_any (λ host. host.name == u) nodes) h in
+    let parts = neither (x.name == u) (list_any (λ hosted. hosted.name == u) nodes) h in
     rw (parts.0, no-name nodes u parts.1) refl
 
 length-more : (nodes : List HostedNode) (h : HostedNode) → length (nodes ++ h ∷ []) ≡ length nodes + 1
@@ -46,7 +46,7 @@ length-more [] h = refl
 length-more (x ∷ nodes) h = omega (arith, length-more nodes h)
 
 -- a node of another name may follow
-pub hosted-sound : (d : Outlined) (h : HostedNode) (now : List HostedNode) → IsSound d → length d.nodes < 256 → list_any (λ host. host.name == h.name) d.nodes ≡ false
+pub hosted-sound : (d : Outlined) (h : HostedNode) (now : List HostedNode) → IsSound d → length d.nodes < 256 → list_any (λ hosted. hosted.name == h.name) d.nodes ≡ false
     → now ≡ d.nodes ++ h ∷ [] → IsSound (record d { nodes = now })
 hosted-sound d h now sound few other e = record {
   differ = subst (λ nodes. all_differ (names_of nodes) ≡ true) (sym e)
@@ -58,9 +58,9 @@ hosted-sound d h now sound few other e = record {
 
 -- the same of a list that may have been too short of room
 pub hosted-or-same : (d : Outlined) (h : HostedNode) (u : ℕ) (q : Slices) (seen now : List HostedNode) (ok : Bool) → IsSound d → length d.nodes < 256
-    → h ≡ record { name = u; slices = q } → seen ≡ d.nodes → list_any (λ host. host.name == u) seen ≡ false
+    → h ≡ record { name = u; slices = q } → seen ≡ d.nodes → list_any (λ hosted. hosted.name == u) seen ≡ false
     → now ≡ (if ok then d.nodes ++ h ∷ [] else d.nodes) → IsSound (record d { nodes = now })
 hosted-or-same d h u q seen now true sound few is same other e =
-    hosted-sound d h now sound few (subst (λ x. list_any (λ host. host.name == x.name) d.nodes ≡ false) (sym is)
-    (subst (λ nodes. list_any (λ host. host.name == u) nodes ≡ false) same other)) e
+    hosted-sound d h now sound few (subst (λ x. list_any (λ hosted. hosted.name == x.name) d.nodes ≡ false) (sym is)
+    (subst (λ nodes. list_any (λ hosted. hosted.name == u) nodes ≡ false) same other)) e
 hosted-or-same d h u q seen now false sound few is same other e = subst (λ nodes. IsSound (record d { nodes = nodes })) (sym e) sound

@@ -163,7 +163,7 @@ AreAt i ps = AllByRecursion (λ p. p.node.slot ≡ i) ps
 abbrev pub AreInPlace : List Slot → Type 0
 AreInPlace ss = AllByRecursion (λ s. AreAt s.number s.instances) ss
 
-nodes_of_new_slot-in-place : (hosts : List HostedNode) (i : ℕ) → AreAt i (nodes_of_new_slot hosts i)
+nodes_of_new_slot-in-place : (nodes : List HostedNode) (i : ℕ) → AreAt i (nodes_of_new_slot nodes i)
 unfolding nodes_of_new_slot fresh
 nodes_of_new_slot-in-place [] i = tt
 nodes_of_new_slot-in-place (h ∷ hs) i = (refl, nodes_of_new_slot-in-place hs i)
@@ -206,7 +206,7 @@ left-in-place p (s ∷ ss) h = go (p s) (left-in-place p ss h.1)
 
 pub effect-in-place : (net : Net) (e : Step) → AreInPlace net.slots → AreInPlace (effect net e).0.slots
 unfolding effect
-effect-in-place net (Opens i) h = pushed-in-place net.slots (record { number = i; instances = nodes_of_new_slot net.hosts i }) h (nodes_of_new_slot-in-place net.hosts i)
+effect-in-place net (Opens i) h = pushed-in-place net.slots (record { number = i; instances = nodes_of_new_slot net.nodes i }) h (nodes_of_new_slot-in-place net.nodes i)
 effect-in-place net (Closes i) h = left-in-place (λ s. not (s.number == i)) net.slots h
 effect-in-place net (Proposes i u x) h = act-in-place net i u (Propose x) h
 effect-in-place net (Delivers u size (Read e)) h = act-in-place net e.slot u (Take e) h

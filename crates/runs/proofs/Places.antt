@@ -69,26 +69,26 @@ is-missing u (s ∷ ss) n h = missing-first u s ss n (s.name == u) refl h (λ e.
 
 -- ---- the same, as the code finds the place
 
-abbrev place_of : ℕ → List Speaker → Option ℕ
-place_of u ss = position_from (λ s. s.name == u) 0 ss
+abbrev speaker_place : ℕ → List Speaker → Option ℕ
+speaker_place u ss = position_from (λ s. s.name == u) 0 ss
 
-pub numbered-there : (u : ℕ) (k : Kind) (ss : List Speaker) (i n : ℕ) (s : Speaker) → Some i ≡ place_of u ss → n ≡ count_of k (get_or ss i s) + 1
+pub numbered-there : (u : ℕ) (k : Kind) (ss : List Speaker) (i n : ℕ) (s : Speaker) → Some i ≡ speaker_place u ss → n ≡ count_of k (get_or ss i s) + 1
     → Some n ≡ next_number ss u k
 numbered-there u k ss i n s at h =
     let found = stands-at u ss i (sym at) in
     ap (λ m. Some m) h ∙ sym (ap (option_map (λ x. count_of k x + 1)) (found.read s))
 
-pub numbered-nowhere : (u : ℕ) (k : Kind) (ss : List Speaker) → None ≡ place_of u ss → None ≡ next_number ss u k
+pub numbered-nowhere : (u : ℕ) (k : Kind) (ss : List Speaker) → None ≡ speaker_place u ss → None ≡ next_number ss u k
 numbered-nowhere u k ss at = sym (ap (option_map (λ x. count_of k x + 1)) ((is-missing u ss 0 (sym at)).read))
 
-pub changed-there : (u : ℕ) (change : Speaker → Speaker) (ss : List Speaker) (i : ℕ) (s v : Speaker) → Some i ≡ place_of u ss → v ≡ change (get_or ss i s)
+pub changed-there : (u : ℕ) (change : Speaker → Speaker) (ss : List Speaker) (i : ℕ) (s v : Speaker) → Some i ≡ speaker_place u ss → v ≡ change (get_or ss i s)
     → slice_set ss i v ≡ with_speaker u change ss
 changed-there u change ss i s v at h = (stands-at u ss i (sym at)).changed change s v h
 
-pub changed-or-not : {T E : Type 0} (u : ℕ) (change : Speaker → Speaker) (ss : List Speaker) (i : ℕ) (s v : Speaker) (result : Result T E) → Some i ≡ place_of u ss
+pub changed-or-not : {T E : Type 0} (u : ℕ) (change : Speaker → Speaker) (ss : List Speaker) (i : ℕ) (s v : Speaker) (result : Result T E) → Some i ≡ speaker_place u ss
     → OnOk result (v ≡ change (get_or ss i s)) → OnOk result (slice_set ss i v ≡ with_speaker u change ss)
 changed-or-not u change ss i s v (Ok x) at h = changed-there u change ss i s v at h
 changed-or-not u change ss i s v (Err e) at h = tt
 
-pub changed-nowhere : (u : ℕ) (change : Speaker → Speaker) (ss : List Speaker) → None ≡ place_of u ss → ss ≡ with_speaker u change ss
+pub changed-nowhere : (u : ℕ) (change : Speaker → Speaker) (ss : List Speaker) → None ≡ speaker_place u ss → ss ≡ with_speaker u change ss
 changed-nowhere u change ss at = sym ((is-missing u ss 0 (sym at)).same change)

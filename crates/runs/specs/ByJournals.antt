@@ -21,7 +21,7 @@ use Rattle.scripts.specs.Runs.{HasRun}
 use Rattle.runs.specs.Outlines.{Waiting, waiting_at}
 use Rattle.runs.specs.Emissions.{OpenSlot, OpenSlots, at_number}
 use Rattle.runs.specs.Followed.{Followed, open_slot}
-use Rattle.runs.specs.Hosting.{Hosting, unhosted}
+use Rattle.runs.specs.Hosting.{Hosting, new_hosting}
 use Rattle.runs.specs.Naming.{Named, is_in}
 use Rattle.runs.specs.Running.{RefusesLine, Tells}
 
@@ -73,7 +73,7 @@ StandOnce (x ∷ xs) = (at_number xs x.0 ≡ None) × StandOnce xs
 -- of a network, by its configuration and the entries of its journal: its hosted nodes, and the slots that are open,
 -- each by the entries since it was opened
 pub record AreSlotsBy (config : Config) (entries : List Entry) (m : OpenSlots) : Type 0 where
-  pub names : m.names ≡ names_of config.hosts
+  pub names : m.names ≡ names_of config.nodes
   pub single : all_differ m.names ≡ true
   pub once : StandOnce m.slots
   pub opens : (i : ℕ) → is_some (at_number m.slots i) ≡ is_open (state_of config entries) i
@@ -109,14 +109,14 @@ pub record FollowsJournals (h : Hosting) : Type 0 where
 -- so it is before the first line, and each line that is run keeps it
 abbrev pub LinesFollowJournals : Type 0
 LinesFollowJournals =
-    FollowsJournals unhosted
+    FollowsJournals new_hosting
     × ((old new : Hosting) (fields : List Bytes) (printed : Option Bytes) → FollowsJournals old → Tells old fields printed new → FollowsJournals new)
 
 -- so it is after the lines of any text, all of which were run from the first one on
 abbrev pub RunsFollowJournals : Type 0
 RunsFollowJournals =
     (text : Bytes) (before after : Option Bytes) (new : Hosting)
-    → HasRun Tells RefusesLine unhosted text before after (Ok tt) new → FollowsJournals new
+    → HasRun Tells RefusesLine new_hosting text before after (Ok tt) new → FollowsJournals new
 
 -- in such a state each emission that is kept of an open slot is found by its number among what its node has emitted
 -- there, as the one that the entries emitted; so that is what a node gets that hears it

@@ -30,13 +30,13 @@ abbrev pub at_number : {X : Type 0} → List (ℕ × X) → ℕ → Option X
 at_number xs n = lookup (is_at (nat_cmp n)) xs
 
 -- what was found at a number is replaced
-abbrev pub replaced : {X : Type 0} → Option X → List (ℕ × X) → ℕ → (X → X) → List (ℕ × X)
-replaced None xs n change = xs
-replaced (Some x) xs n change = set_value (is_at (nat_cmp n)) xs (change x)
+abbrev pub replace_found : {X : Type 0} → Option X → List (ℕ × X) → ℕ → (X → X) → List (ℕ × X)
+replace_found None xs n change = xs
+replace_found (Some x) xs n change = set_value (is_at (nat_cmp n)) xs (change x)
 
 -- what stands at a number is changed, if anything does
 abbrev pub changed_at : {X : Type 0} → List (ℕ × X) → ℕ → (X → X) → List (ℕ × X)
-changed_at xs n change = replaced (at_number xs n) xs n change
+changed_at xs n change = replace_found (at_number xs n) xs n change
 
 -- ---- a node
 

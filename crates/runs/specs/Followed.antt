@@ -19,7 +19,7 @@ Followed = List (ℕ × OpenSlots)
 
 -- a network joins, and none of its slots is open
 abbrev pub followed_with : Config → Followed → Followed
-followed_with c f = insert_entry nat_cmp f c.number (record { names = names_of c.hosts; slots = [] })
+followed_with c f = insert_entry nat_cmp f c.number (record { names = names_of c.nodes; slots = [] })
 
 -- a network joins others, and is followed from then on
 abbrev pub also_followed : {S : Type 0} → Joins S → Joins (S × Followed)

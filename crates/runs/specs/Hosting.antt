@@ -10,7 +10,7 @@ use Rattle.hoststep.specs.Worlds.{IsAnswered, items_of, log_at, logs_with}
 use Rattle.runs.specs.Outlines.{Waiting, waiting_at}
 use Rattle.runs.specs.Followed.{Followed, also_followed, followed_after, turn_of}
 use Rattle.runs.specs.Joining.{HaveJoined, NetworkIsNamed, Joins}
-use Rattle.runs.specs.Naming.{Named, named_with, unnamed}
+use Rattle.runs.specs.Naming.{Named, named_with, new_named}
 use Rattle.runs.specs.Replies.{IsReply}
 
 -- the networks that wait for an event that names them, the numbers that events have named, and of the networks that
@@ -22,8 +22,8 @@ pub record Hosting : Type 0 where
   pub logs : List Log
 
 -- before the first line
-abbrev pub unhosted : Hosting
-unhosted = record { waiting = []; named = unnamed; followed = []; logs = [] }
+abbrev pub new_hosting : Hosting
+new_hosting = record { waiting = []; named = new_named; followed = []; logs = [] }
 
 -- ---- networks that join
 

@@ -13,8 +13,8 @@ pub record Named : Type 0 where
   pub running : List ℕ
 
 -- before the first line
-abbrev pub unnamed : Named
-unnamed = record { numbers = []; running = [] }
+abbrev pub new_named : Named
+new_named = record { numbers = []; running = [] }
 
 -- the number is among them
 abbrev pub is_in : List ℕ → ℕ → Bool

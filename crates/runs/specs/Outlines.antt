@@ -79,6 +79,6 @@ pub record IsConfigOf (g : ℕ) (d : Outlined) (c : Config) : Type 0 where
   pub some_nodes : d.nodes ≢ []
   pub number : c.number ≡ g
   pub budgets : c.budgets ≡ d.budgets
-  pub hosts : IsPermutation d.nodes c.hosts
-  pub ascending : IsAscending (names_of c.hosts)
+  pub nodes : IsPermutation d.nodes c.nodes
+  pub ascending : IsAscending (names_of c.nodes)
   pub roster : IsRosterAs d.roster c.roster

@@ -4,10 +4,10 @@ use Rattle.scripts.specs.Script.{Bytes}
 use Rattle.types.specs.declared.event.Event.{Event}
 use Rattle.protocol.specs.Hosts.{History}
 use Rattle.protocol.specs.Submissions.{config_of}
-use Rattle.crowds.specs.Submitted.{and_then, declared}
+use Rattle.crowds.specs.Submitted.{and_then, with_config}
 use Rattle.runs.specs.Outlines.{Waiting, waiting_at}
 use Rattle.runs.specs.Joining.{HaveJoined, NetworkIsNamed, Joins}
-use Rattle.runs.specs.Naming.{Named, named_with, unnamed}
+use Rattle.runs.specs.Naming.{Named, named_with, new_named}
 use Rattle.runs.specs.Preparing.{IsPrepared}
 use Rattle.runs.specs.Telling.{Allowed, AsksOf, BadLinesAreUntold, Refuses}
 
@@ -18,12 +18,12 @@ pub record Submitting : Type 0 where
   pub history : History
 
 -- before the first line
-abbrev pub unsubmitted : Submitting
-unsubmitted = record { waiting = []; named = unnamed; history = record { configs = []; calls = [] } }
+abbrev pub new_submitting : Submitting
+new_submitting = record { waiting = []; named = new_named; history = record { configs = []; calls = [] } }
 
 -- a network is declared; where one of its number is declared, it is left out
 abbrev pub declared_once : Joins History
-declared_once c h = if is_some (config_of h.configs c.number) then h else declared h c
+declared_once c h = if is_some (config_of h.configs c.number) then h else with_config h c
 
 -- the network of a number is named: where the line is the first that does, the network is declared
 abbrev pub IsDeclared : ℕ → Submitting → Submitting → Type 0

@@ -19,7 +19,7 @@ declared_count ws n = length ws + length n.running
 -- a network may have a node of this name: it is declared, it has none of that name, and fewer than 256
 abbrev pub takes_node : Option Outlined → ℕ → Bool
 takes_node None u = false
-takes_node (Some d) u = nat_lt (length d.nodes) 256 && not (list_any (λ host. host.name == u) d.nodes)
+takes_node (Some d) u = nat_lt (length d.nodes) 256 && not (list_any (λ hosted. hosted.name == u) d.nodes)
 
 -- the configuration takes the roster: no name stands twice, there are at most 1,024, and no share is above 2^40
 abbrev pub is_roster : List ℕ → Shares → Bool

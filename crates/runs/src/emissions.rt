@@ -190,12 +190,12 @@ impl Model for OpenSlots {
 impl OpenSlots {
     /// No slot of the network is open.
     pub fn none(alloc: Global, config: &NetConfig) -> Result<OpenSlots, AllocError>
-        ensures { IfOk result (λ m. m ≡ record { names = names_of config.now.hosts; slots = [] }) }
+        ensures { IfOk result (λ m. m ≡ record { names = names_of config.now.nodes; slots = [] }) }
     {
         let names = config
-            .hosts()
+            .nodes()
             .iter()
-            .map(|host| *host.name())
+            .map(|hosted| *hosted.name())
             .collect(alloc)?;
         Ok(OpenSlots {
             alloc,
@@ -307,7 +307,7 @@ fn count_in(speakers: &mut [Speaker], name: &NodeId, kind: Kind) -> Result<Optio
     ensures number { IfOk result (λ n. n ≡ next_number speakers.old name.now kind) }
     ensures counted { OnOk result (speakers.new ≡ with_speaker name.now (with_emission kind) speakers.old) }
 {
-    match place_of(speakers, name) {
+    match speaker_place(speakers, name) {
         Some(place) => {
             let speaker = &mut speakers[place];
             Ok(Some(speaker.count(kind)?))
@@ -320,7 +320,7 @@ fn count_in(speakers: &mut [Speaker], name: &NodeId, kind: Kind) -> Result<Optio
 fn decide_in(speakers: &mut [Speaker], name: &NodeId, value: &Value) -> Result<(), AllocError>
     ensures { OnOk result (speakers.new ≡ with_speaker name.now (with_decision value.now) speakers.old) }
 {
-    match place_of(speakers, name) {
+    match speaker_place(speakers, name) {
         Some(place) => {
             let speaker = &mut speakers[place];
             speaker.decide(value)
@@ -330,7 +330,7 @@ fn decide_in(speakers: &mut [Speaker], name: &NodeId, value: &Value) -> Result<(
 }
 
 /// The place of the node of a name.
-fn place_of(speakers: &[Speaker], name: &NodeId) -> Option<usize>
+fn speaker_place(speakers: &[Speaker], name: &NodeId) -> Option<usize>
     ensures first { result ≡ position_from (λ s. s.name == name.now) 0 speakers.now }
     ensures within { IfSome result (λ place. place < length speakers.now) }
 {

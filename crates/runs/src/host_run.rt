@@ -4,7 +4,7 @@ ghost use Rattle.std.specs.Prelude.{◌≡◌, ◌<◌, ◌^◌, ◌∷◌, [], 
 ghost use Rattle.types.specs.declared.event.Event.TheVariants.{Hear};
 ghost use Rattle.runs.specs.ByJournals.{KeptAreFound, LinesFollowJournals, RunsFollowJournals};
 ghost use Rattle.runs.specs.Followed.{handed_at, names_at, open_slot, waiting};
-ghost use Rattle.runs.specs.Hosting.{IsApplied, IsBegun, IsFinished, IsPut, unhosted};
+ghost use Rattle.runs.specs.Hosting.{IsApplied, IsBegun, IsFinished, IsPut, new_hosting};
 ghost use Rattle.runs.specs.Unprinted.{IsPutUnprinted, IsRunBy};
 ghost use Rattle.runs.specs.Running.{BadLinesTellNothing, RefusesLine};
 ghost use Rattle.runs.specs.Settling.{AreHandedOn, HandedOnIsCounted, HasSettled, HeardWaitsOn, IsHanded, IsHeardBy, IsSettled, line_of, others};
@@ -45,7 +45,7 @@ impl Model for HostRun {
 impl HostRun {
     /// The state before the first line. It takes no memory.
     pub fn new(alloc: Global) -> HostRun
-        ensures { result ≡ unhosted }
+        ensures { result ≡ new_hosting }
     {
         HostRun {
             nets: Nets::none(alloc),
@@ -86,7 +86,7 @@ impl HostRun {
                 Ok(number)
             }
             Request::Settle(slot) => {
-                let _text = self.settle(alloc, number, slot)?;
+                let _text = self.settle_line(alloc, number, slot)?;
                 Ok(number)
             }
             Request::Declare(declaration) => {
@@ -138,17 +138,22 @@ impl HostRun {
     }
 
     /// The line that is printed of a slot of the network of a number that is to settle.
-    fn settle(&mut self, alloc: Global, number: u32, slot: u64) -> Result<String, LineError>
+    fn settle_line(&mut self, alloc: Global, number: u32, slot: u64) -> Result<String, LineError>
         ensures told { IfOk result (λ text. IsSettled number slot self.old (string_bytes text) self.new) }
         ensures bad { result ≡ Err LineError.Bad → HasNoNode self.old.waiting number }
     {
         self.begin(number)?;
-        Ok(self.settle_begun(alloc, number, slot)?)
+        Ok(self.settle_line_begun(alloc, number, slot)?)
     }
 
     /// Hands on what was emitted at a slot, and answers the line that is printed: what each node has
     /// externalized, or the first refusal.
-    fn settle_begun(&mut self, alloc: Global, number: u32, slot: u64) -> Result<String, AllocError>
+    fn settle_line_begun(
+        &mut self,
+        alloc: Global,
+        number: u32,
+        slot: u64,
+    ) -> Result<String, AllocError>
         ensures { IfOk result (λ text. HasSettled number slot self.old (string_bytes text) self.new) }
     {
         let names = match self.names(number) {
@@ -288,7 +293,7 @@ impl LineRunner for HostRun {
         let (number, request) = request_of(alloc, fields)?;
         match request {
             Request::Apply(event) => Ok(Some(self.answer(alloc, number, event)?)),
-            Request::Settle(slot) => Ok(Some(self.settle(alloc, number, slot)?)),
+            Request::Settle(slot) => Ok(Some(self.settle_line(alloc, number, slot)?)),
             Request::Declare(declaration) => {
                 self.nets.prepare(number, declaration)?;
                 Ok(None)

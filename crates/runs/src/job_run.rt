@@ -1,7 +1,7 @@
 //! What runs the lines of a script of networks for the jobs that they give to a pool.
 
 ghost use Rattle.std.specs.Prelude.{◌≡◌, Err, OnOk};
-ghost use Rattle.runs.specs.Plans.{unplanned};
+ghost use Rattle.runs.specs.Plans.{new_plan};
 ghost use Rattle.runs.specs.Putting.{BadLinesPutNothing, IsCompletePlan, IsNoJob, IsOpened, IsJobOrOpening};
 ghost use Rattle.runs.specs.Telling.{HasNoNode};
 
@@ -38,7 +38,7 @@ impl Model for JobRun {
 impl JobRun {
     /// The state before the first line. It takes no memory.
     pub fn new(alloc: Global) -> JobRun
-        ensures { result ≡ unplanned }
+        ensures { result ≡ new_plan }
     {
         JobRun {
             run: SubmissionRun::new(alloc),

@@ -1,7 +1,7 @@
 //! The numbers of networks that an event of a script has named.
 
 ghost use Rattle.std.specs.Prelude.{◌<◌, ◌≡◌, ◌^◌, None, OnOk, length};
-ghost use Rattle.runs.specs.Naming.{is_in, named_with, unnamed, with_number};
+ghost use Rattle.runs.specs.Naming.{is_in, named_with, new_named, with_number};
 
 use std::alloc::{AllocError, Global};
 use std::collections::BTreeSet;
@@ -29,7 +29,7 @@ impl Model for Named {
 impl Named {
     /// No number has been named. It takes no memory.
     pub fn none(alloc: Global) -> Named
-        ensures { result ≡ unnamed }
+        ensures { result ≡ new_named }
     {
         Named {
             numbers: BTreeSet::new(alloc),

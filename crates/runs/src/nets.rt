@@ -4,7 +4,7 @@ ghost use Rattle.std.specs.Prelude.{◌≡◌, [], Err, IfOk, None, OnOk, false,
 ghost use Rattle.runs.specs.Outlines.{IsRevised, fresh, waiting_at, waiting_with, with_node, with_roster};
 ghost use Rattle.runs.specs.Followed.{also_followed};
 ghost use Rattle.runs.specs.Joining.{HasJoined, HaveJoined, NetworkIsNamed, IsTaken};
-ghost use Rattle.runs.specs.Naming.{named_with, unnamed};
+ghost use Rattle.runs.specs.Naming.{named_with, new_named};
 ghost use Rattle.runs.specs.Preparing.{Prepares};
 ghost use Rattle.runs.specs.Taking.{takes};
 ghost use Rattle.runs.specs.declared.requests.Declaration.TheVariants.{Net, Node, Roster};
@@ -37,7 +37,7 @@ impl Nets {
     /// No network has been declared or named. It takes no memory.
     pub fn none(alloc: Global) -> Nets
         ensures waiting { result.waiting ≡ [] }
-        ensures named { result.named ≡ unnamed }
+        ensures named { result.named ≡ new_named }
         ensures followed { result.followed ≡ [] }
     {
         Nets {

@@ -7,7 +7,7 @@ ghost use Rattle.runs.specs.Outlines.{IsConfigOf, fresh, with_node, with_roster}
 ghost use Rattle.runs.specs.Taking.{is_roster, takes_node, takes_roster};
 
 use configuration::{
-    Budgets, ConfigError, HostedNode, MAX_HOSTS, MAX_ROSTER, MAX_SHARE, NetConfig, Reservation,
+    Budgets, ConfigError, HostedNode, MAX_NODES, MAX_ROSTER, MAX_SHARE, NetConfig, Reservation,
     Shares,
 };
 use scripts::LineError;
@@ -61,7 +61,7 @@ impl Outline {
         ensures taken { OnOk result (takes_node (Some self.old) name ≡ true) }
         ensures bad { result ≡ Err LineError.Bad → takes_node (Some self.old) name ≡ false }
     {
-        if self.nodes.len() >= MAX_HOSTS || has_node(&self.nodes, &name) {
+        if self.nodes.len() >= MAX_NODES || has_node(&self.nodes, &name) {
             return Err(LineError::Bad);
         }
         match self.nodes.push(HostedNode::new(name, slices)) {
@@ -129,7 +129,7 @@ fn is_allowed(roster: &Reservation) -> bool
 
 /// A node has the name.
 fn has_node(nodes: &[HostedNode], name: &NodeId) -> bool
-    ensures { result ≡ list_any (λ host. host.name == name.now) nodes.now }
+    ensures { result ≡ list_any (λ hosted. hosted.name == name.now) nodes.now }
 {
     nodes.iter().any(|node| *node.name() == *name)
 }

@@ -2,7 +2,7 @@
 
 ghost use Rattle.std.specs.Prelude.{◌≡◌, Err, OnOk, false, true};
 ghost use Rattle.runs.specs.Preparing.{Prepares};
-ghost use Rattle.runs.specs.Submitting.{BadLinesSubmitNothing, IsComplete, IsDeclared, IsSubmitted, unsubmitted};
+ghost use Rattle.runs.specs.Submitting.{BadLinesSubmitNothing, IsComplete, IsDeclared, IsSubmitted, new_submitting};
 ghost use Rattle.runs.specs.Taking.{takes};
 ghost use Rattle.runs.specs.Telling.{HasNoNode};
 
@@ -37,7 +37,7 @@ impl Model for SubmissionRun {
 impl SubmissionRun {
     /// The state before the first line. It takes no memory.
     pub fn new(alloc: Global) -> SubmissionRun
-        ensures { result ≡ unsubmitted }
+        ensures { result ≡ new_submitting }
     {
         SubmissionRun {
             nets: Nets::none(alloc),

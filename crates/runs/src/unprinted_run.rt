@@ -1,7 +1,7 @@
 //! What runs the lines of a script of networks for what becomes of the networks.
 
 ghost use Rattle.std.specs.Prelude.{◌≡◌, [], None, OnOk, Some};
-ghost use Rattle.runs.specs.Hosting.{unhosted};
+ghost use Rattle.runs.specs.Hosting.{new_hosting};
 ghost use Rattle.runs.specs.Unprinted.{IsFinishedUnprinted, origin_in, trace_after};
 
 use crate::host_run::HostRun;
@@ -34,7 +34,7 @@ impl Model for UnprintedRun {
 impl UnprintedRun {
     /// The state before the first line. It takes no memory.
     pub fn new(alloc: Global) -> UnprintedRun
-        ensures { result ≡ record { hosting = unhosted; trace = None } }
+        ensures { result ≡ record { hosting = new_hosting; trace = None } }
     {
         UnprintedRun {
             run: HostRun::new(alloc),
@@ -44,7 +44,7 @@ impl UnprintedRun {
 
     /// The same, which keeps from which line each entry comes.
     pub fn with_origins(alloc: Global) -> UnprintedRun
-        ensures { result ≡ record { hosting = unhosted; trace = Some [] } }
+        ensures { result ≡ record { hosting = new_hosting; trace = Some [] } }
     {
         UnprintedRun {
             run: HostRun::new(alloc),

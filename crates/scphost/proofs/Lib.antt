@@ -2,3 +2,4 @@ mod CrowdLines
 mod LineLaws
 mod PrintingLaws
 mod PlanningLaws
+mod CommandLaws

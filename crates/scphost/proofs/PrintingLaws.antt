@@ -1,46 +1,60 @@
 -- What the commands print.
-use Rattle.std.proofs.Common.{◌≡◌, ℕ, Bool, false, Option, Some, None, inl, refl, subst}
+use Rattle.std.proofs.Common.{◌≡◌, ℕ, Bool, false, Option, Some, None, inl, refl, subst, sym}
 use Rattle.std.specs.Prelude.{IfSome}
 use Rattle.scripts.specs.Script.{Bytes}
 use Rattle.protocol.specs.Hosts.{History}
 use Rattle.runs.specs.Submitting.{Submitting}
 use Rattle.scphost.specs.Comparisons.{IsComparison}
 use Rattle.scphost.specs.Crowding.{TellsCrowd}
-use Rattle.runs.specs.Hosting.{unhosted}
+use Rattle.runs.specs.Hosting.{new_hosting}
 use Rattle.runs.specs.Running
 use Rattle.scphost.specs.Printing.{HasAnswered, HasRunLines, IsCompared, IsCrowd, IsPerformed, IsPooled, IsPrinted, IsReported}
 use Rattle.scphost.specs.Reporting.{IsReport}
 use Rattle.scphost.specs.Scripts.{IsSubmittedBy, IsStoryOf, StopsPlan, StopsStories, StopsStory, StopsSubmissions, Story}
 use Rattle.scphost.specs.Stops.{End}
 use Rattle.scphost.specs.declared.answer.Answer.{Answer}
+use Rattle.command_line.specs.declared.call.Call.{Call}
 use Rattle.command_line.specs.declared.call.Call.TheVariants.{Run}
 use Rattle.command_line.specs.declared.subject.Format.{Format}
 use Rattle.types.specs.declared.subject.Subject.{Subject}
 
 -- an answer is printed
-pub has-reported : (format : Format) (subject : Subject) (file old new : Option Bytes) (end : End) (story : Story) (a : Answer) → IsStoryOf false file story
-    → IsReport format subject story.run.hosting.logs a → IsPrinted a old new end → HasAnswered (IsReported format subject file) (StopsStory false file) old new end
+pub has-reported : (format : Format) (subject : Subject) (file old new : Option Bytes) (end : End) (story : Story)
+    (a : Answer) → IsStoryOf false file story → IsReport format subject story.run.hosting.logs a
+    → IsPrinted a old new end
+    → HasAnswered (IsReported format subject file) (StopsStory false file) old new end
 has-reported format subject file old new end story a told right printed = inl (a, (story, told, right), printed)
 
-pub has-compared : (explain : Bool) (subject : Subject) (one other old new : Option Bytes) (end : End) (first second : Story) (a : Answer)
-    → IsStoryOf explain one first → IsStoryOf explain other second
-    → IsComparison first.run.hosting.logs second.run.hosting.logs subject.net subject.slot subject.node explain a → IsPrinted a old new end
+pub has-compared : (explain : Bool) (subject : Subject) (one other old new : Option Bytes) (end : End)
+    (first second : Story) (a : Answer) → IsStoryOf explain one first → IsStoryOf explain other second
+    → IsComparison first.run.hosting.logs second.run.hosting.logs subject.net subject.slot subject.node explain a
+    → IsPrinted a old new end
     → HasAnswered (IsCompared explain subject one other) (StopsStories explain one other) old new end
-has-compared explain subject one other old new end first second a told also right printed = inl (a, (first, second, told, also, right), printed)
+has-compared explain subject one other old new end first second a told also right printed =
+    inl (a, (first, second, told, also, right), printed)
 
-pub has-crowded : (subject : Subject) (one other old new : Option Bytes) (end : End) (first second : Submitting) (h k : History) (a : Answer)
-    → IsSubmittedBy one first → IsSubmittedBy other second → h ≡ first.history → k ≡ second.history → TellsCrowd h k subject a → IsPrinted a old new end
+pub has-crowded : (subject : Subject) (one other old new : Option Bytes) (end : End) (first second : Submitting)
+    (h k : History) (a : Answer) → IsSubmittedBy one first → IsSubmittedBy other second → h ≡ first.history
+    → k ≡ second.history → TellsCrowd h k subject a → IsPrinted a old new end
     → HasAnswered (IsCrowd subject one other) (StopsSubmissions one other) old new end
 has-crowded subject one other old new end first second h k a told also e f right printed =
-    inl (a, (first, second, told, also, subst (λ x. TellsCrowd first.history x subject a) f (subst (λ x. TellsCrowd x k subject a) e right)), printed)
+    let right' = subst (λ x. TellsCrowd first.history x subject a) f (subst (λ x. TellsCrowd x k subject a) e right) in
+    inl (a, (first, second, told, also, right'), printed)
 
-pub has-pooled : (workers : ℕ) (file old new : Option Bytes) (end : End) (a : Answer) → IsPooled workers file a → IsPrinted a old new end
-    → HasAnswered (IsPooled workers file) (StopsPlan file) old new end
+pub has-pooled : (workers : ℕ) (file old new : Option Bytes) (end : End) (a : Answer) → IsPooled workers file a
+    → IsPrinted a old new end → HasAnswered (IsPooled workers file) (StopsPlan file) old new end
 has-pooled workers file old new end a right printed = inl (a, right, printed)
+
+-- a call that is this one is performed as this one is
+pub performed-as : (call one : Call) (first second old new : Option Bytes) (end : End) → call ≡ one
+    → IsPerformed one first second old new end → IsPerformed call first second old new end
+performed-as call one first second old new end is performed =
+    subst (λ x. IsPerformed x first second old new end) (sym is) performed
 
 -- a run is one of lines or, on workers, of jobs
 pub run-performed : (script : Bytes) (workers : Option ℕ) (first second old new : Option Bytes) (end : End)
-    → (workers ≡ None → HasRunLines Running.Tells Running.RefusesLine unhosted first old new end)
-    → IfSome workers (λ n. HasAnswered (IsPooled n first) (StopsPlan first) old new end) → IsPerformed (Run script workers) first second old new end
+    → (workers ≡ None → HasRunLines Running.Tells Running.RefusesLine new_hosting first old new end)
+    → IfSome workers (λ n. HasAnswered (IsPooled n first) (StopsPlan first) old new end)
+    → IsPerformed (Run script workers) first second old new end
 run-performed script None first second old new end ran answered = ran refl
 run-performed script (Some n) first second old new end ran answered = answered

@@ -1,4 +1,5 @@
 pub mod Stops
+pub mod Commands
 pub mod Comparisons
 pub mod Printing
 pub mod Reporting

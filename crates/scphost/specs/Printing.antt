@@ -7,7 +7,7 @@ use Rattle.scripts.specs.Streams.{HasRunStream}
 use Rattle.scripts.specs.declared.run.Stop.{Stop}
 use Rattle.scripts.specs.declared.run.Stop.TheVariants as stop
 use Rattle.tables.specs.TableLines
-use Rattle.runs.specs.Hosting.{unhosted}
+use Rattle.runs.specs.Hosting.{new_hosting}
 use Rattle.runs.specs.Running
 use Rattle.runs.specs.Plans.{Plan}
 use Rattle.runs.specs.Submitting.{Submitting}
@@ -75,7 +75,7 @@ abbrev pub IsPerformed : Call → Option Bytes → Option Bytes → Option Bytes
 IsPerformed (Table file) first second old new end =
     HasRunLines TableLines.Tells TableLines.Refuses None first old new end
 IsPerformed (Run script None) first second old new end =
-    HasRunLines Running.Tells Running.RefusesLine unhosted first old new end
+    HasRunLines Running.Tells Running.RefusesLine new_hosting first old new end
 IsPerformed (Run script (Some workers)) first second old new end =
     HasAnswered (IsPooled workers first) (StopsPlan first) old new end
 IsPerformed (Closure script subject format) first second old new end =
@@ -97,7 +97,7 @@ abbrev pub IsPerformedAsItComes : Call → Option Bytes → Option Bytes → Opt
 IsPerformedAsItComes (Table file) input old new end =
     HasRunAsTheyCome TableLines.Tells TableLines.Refuses None input old new end
 IsPerformedAsItComes (Run script None) input old new end =
-    HasRunAsTheyCome Running.Tells Running.RefusesLine unhosted input old new end
+    HasRunAsTheyCome Running.Tells Running.RefusesLine new_hosting input old new end
 IsPerformedAsItComes (Run script (Some workers)) input old new end =
     IsPerformed (Run script (Some workers)) input (Some []) old new end
 IsPerformedAsItComes (Closure script subject format) input old new end =

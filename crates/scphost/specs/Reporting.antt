@@ -4,7 +4,7 @@ use Rattle.protocol.specs.Sets.{among}
 use Rattle.closure.specs.Announcing.{IsClosureList, names_of, slices_then}
 use Rattle.hoststep.specs.Logs.{Log}
 use Rattle.hoststep.specs.Worlds.{log_at}
-use Rattle.twoworlds.specs.Meanings.{entries_in, hosts_in}
+use Rattle.twoworlds.specs.Meanings.{entries_in, nodes_in}
 use Rattle.explorer.specs.Reports.{AreHosted, Shown}
 use Rattle.explorer.specs.Texts.{text_of_report}
 use Rattle.scphost.specs.declared.answer.Answer.{Answer}
@@ -15,8 +15,8 @@ use Rattle.types.specs.declared.subject.Subject.{Subject}
 -- the closure of a node at a slot of a network, and who blocks whom in it; where there is no such network, that is the
 -- node alone
 pub record IsReportOf (log : Option Log) (slot node : ℕ) (r : Shown) : Type 0 where
-  pub members : IsClosureList (hosts_in log) slot node (entries_in log) r.members
-  pub hosted : AreHosted (slices_then (hosts_in log) slot (entries_in log)) (among (names_of r.members)) r.hosted
+  pub members : IsClosureList (nodes_in log) slot node (entries_in log) r.members
+  pub hosted : AreHosted (slices_then (nodes_in log) slot (entries_in log)) (among (names_of r.members)) r.hosted
 
 -- the answer is the report of the subject; as text it is exactly that. Of the other forms this says nothing.
 pub record IsReport (f : Format) (subject : Subject) (logs : List Log) (a : Answer) : Type 0 where

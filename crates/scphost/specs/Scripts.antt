@@ -6,11 +6,11 @@ use Rattle.scripts.specs.Script.{AreLines, Bytes, is_no_record}
 use Rattle.scripts.specs.Runs.{Refusing, Runs, Telling}
 use Rattle.scripts.specs.declared.run.Stop.{Stop}
 use Rattle.scripts.specs.declared.run.Stop.TheVariants as stop
-use Rattle.runs.specs.Hosting.{unhosted}
+use Rattle.runs.specs.Hosting.{new_hosting}
 use Rattle.runs.specs.Unprinted.{IsFinishedUnprinted, Unprinted, RefusesUnprinted, TellsUnprinted}
-use Rattle.runs.specs.Plans.{Plan, unplanned}
+use Rattle.runs.specs.Plans.{Plan, new_plan}
 use Rattle.runs.specs.Putting.{IsCompletePlan, Puts, RefusesToPut}
-use Rattle.runs.specs.Submitting.{IsComplete, RefusesToSubmit, Submits, Submitting, unsubmitted}
+use Rattle.runs.specs.Submitting.{IsComplete, RefusesToSubmit, Submits, Submitting, new_submitting}
 
 -- all lines of a text are run in order, and none is bad
 pub record HaveRun {S : Type 0} (tells : Telling S) (refuses : Refusing S) (start : S) (text : Bytes) (end : S)
@@ -23,6 +23,15 @@ pub record HaveRun {S : Type 0} (tells : Telling S) (refuses : Refusing S) (star
 -- the text is that of a file, where that is known
 abbrev pub IsTextOf : Option Bytes → Bytes → Type 0
 IsTextOf file text = IfSome file (λ left. text ≡ left)
+
+-- all lines of a file are run in order, none is bad, and the run is finished after the last one
+pub record HasRunFile {S : Type 0} (tells : Telling S) (refuses : Refusing S) (start : S) (finishes : S → S → Type 0)
+    (file : Option Bytes) (end : S) : Type 0 where
+  pub text : Bytes
+  pub is_text : IsTextOf file text
+  pub last : S
+  pub ran : HaveRun tells refuses start text last
+  pub finished : finishes last end
 
 -- the most bytes that a script may have: 64 MiB
 abbrev pub longest_script : ℕ
@@ -56,7 +65,7 @@ pub record Story : Type 0 where
 
 -- before the first line; the trace of the lines is kept where it is asked for
 abbrev pub start_of : Bool → Unprinted
-start_of traced = record { hosting = unhosted; trace = if traced then Some [] else None }
+start_of traced = record { hosting = new_hosting; trace = if traced then Some [] else None }
 
 -- the lines of a text are run in order, and after the last one the networks that are declared with nodes have joined
 pub record HasEnded (start : Unprinted) (text : Bytes) (end : Unprinted) : Type 0 where
@@ -92,16 +101,12 @@ IsLineAt text (Some k) line = IsLineOf text k line
 
 -- the lines of a file are run in order, and after the last one the networks that are declared with nodes have been
 -- declared
-pub record IsSubmittedBy (file : Option Bytes) (run : Submitting) : Type 0 where
-  pub text : Bytes
-  pub is_text : IsTextOf file text
-  pub last : Submitting
-  pub ran : HaveRun Submits RefusesToSubmit unsubmitted text last
-  pub finished : IsComplete last run
+abbrev pub IsSubmittedBy : Option Bytes → Submitting → Type 0
+IsSubmittedBy = HasRunFile Submits RefusesToSubmit new_submitting IsComplete
 
 -- a run of a file for what it submits stopped so
 abbrev pub StopsSubmission : Option Bytes → Stop → Type 0
-StopsSubmission = HasStopped Submits RefusesToSubmit unsubmitted
+StopsSubmission = HasStopped Submits RefusesToSubmit new_submitting
 
 -- that of one of two files stopped so; the second one is run where the first one came to its end
 abbrev pub StopsSubmissions : Option Bytes → Option Bytes → Stop → Type 0
@@ -112,13 +117,9 @@ StopsSubmissions one other why =
 
 -- the lines of a file are read in order, and after the last one the networks that are declared with nodes have been
 -- declared
-pub record IsPlannedBy (file : Option Bytes) (plan : Plan) : Type 0 where
-  pub text : Bytes
-  pub is_text : IsTextOf file text
-  pub last : Plan
-  pub ran : HaveRun Puts RefusesToPut unplanned text last
-  pub finished : IsCompletePlan last plan
+abbrev pub IsPlannedBy : Option Bytes → Plan → Type 0
+IsPlannedBy = HasRunFile Puts RefusesToPut new_plan IsCompletePlan
 
 -- a reading of the lines of a file for their jobs stopped so
 abbrev pub StopsPlan : Option Bytes → Stop → Type 0
-StopsPlan = HasStopped Puts RefusesToPut unplanned
+StopsPlan = HasStopped Puts RefusesToPut new_plan

@@ -1,6 +1,5 @@
 -- The exit status of each way to end.
-use Rattle.std.specs.Prelude.{◌≡◌, ◌==◌, ℕ, Bool, false, [], ◌∷◌, IsTrue, Result, Ok, Err, MatchResult, if◌then◌else◌}
-use Rattle.std.specs.List.{list_any}
+use Rattle.std.specs.Prelude.{◌≡◌, ℕ, Bool, false, Result, Ok, Err, MatchResult, if◌then◌else◌}
 use Rattle.scripts.specs.declared.run.Stop.{Stop}
 use Rattle.scripts.specs.declared.run.Stop.TheVariants as stop
 
@@ -11,10 +10,6 @@ status_of stop.TooLong = 2
 status_of (stop.BadLine number) = 2
 status_of stop.NoMemory = 3
 status_of stop.CannotWrite = 4
-
--- the status is one of those that the command line has
-abbrev pub IsStatus : ℕ → Type 0
-IsStatus status = IsTrue (list_any (λ known. known == status) (0 ∷ 1 ∷ 2 ∷ 3 ∷ 4 ∷ []))
 
 -- how a call ended: whether what it compared differs, or what stopped it
 abbrev pub End : Type 0

@@ -1,11 +1,11 @@
 //! Carrying out a call: its files are run, and how it ended is answered.
 
 ghost use Rattle.std.specs.Prelude.{◌≡◌, Err, IfSome, None, false};
-ghost use Rattle.runs.specs.Hosting.{unhosted};
+ghost use Rattle.runs.specs.Hosting.{new_hosting};
 ghost use Rattle.runs.specs.Running.{RefusesLine, Tells};
 ghost use Rattle.scphost.specs.Printing.{HasAnswered, HasAnsweredUsage, HasRunLines, IsCompared, IsCrowd, IsPerformed, IsPerformedAsItComes, IsPooled, IsReported};
 ghost use Rattle.scphost.specs.Scripts.{StopsPlan, StopsStories, StopsStory, StopsSubmissions};
-ghost use Rattle.scphost.specs.Stops.{IsEndOf, IsStatus, status_of_end};
+ghost use Rattle.scphost.specs.Stops.{IsEndOf, status_of_end};
 
 use crate::answer::write_text;
 use crate::comparing::{Side, Sides, answer_compare};
@@ -149,7 +149,7 @@ fn perform_run<
     script: &mut R,
     outputs: &mut Outputs<W, E>,
 ) -> Result<bool, Stop>
-    ensures ran { workers ≡ None → HasRunLines Tells RefusesLine unhosted (R.remaining script.old) (W.contents outputs.old.out) (W.contents outputs.new.out) result }
+    ensures ran { workers ≡ None → HasRunLines Tells RefusesLine new_hosting (R.remaining script.old) (W.contents outputs.old.out) (W.contents outputs.new.out) result }
     ensures pooled { IfSome workers (λ n. HasAnswered (IsPooled n (R.remaining script.old)) (StopsPlan (R.remaining script.old)) (W.contents outputs.old.out) (W.contents outputs.new.out) result) }
 {
     match workers {
@@ -353,8 +353,7 @@ pub fn print_stop<E: Write>(stop: Stop, file: &str, err: &mut E) -> Result<bool,
 /// The exit status of a call that ended so: 2 for a file that cannot be read, is too long or has a bad line, 3 for want
 /// of memory, 4 for a write that failed; 1 for a comparison that finds a difference.
 pub fn exit_status(end: Result<bool, Stop>) -> u8
-    ensures status { result ≡ status_of_end end }
-    ensures known { IsStatus result }
+    ensures { result ≡ status_of_end end }
 {
     match end {
         Ok(false) => DONE,

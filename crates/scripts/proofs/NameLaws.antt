@@ -7,7 +7,7 @@ use borrow.Rule.Slice.PartMut.{put_mid}
 use Rattle.types.proofs.NameWords.{first_word, second_word, third_word, fourth_word}
 use Rattle.scripts.proofs.StreamLaws.{in_two}
 use Rattle.scripts.specs.Script.{Bytes}
-use Rattle.scripts.specs.Names.{short, padded, bytes_of_name}
+use Rattle.scripts.specs.Names.{short, name_with_zeros, bytes_of_name}
 
 -- ---- zero bytes at the end
 
@@ -35,7 +35,7 @@ pub short_front : (bytes result : Bytes) → 0 < length bytes → get_or bytes (
 short_front bytes result some last e =
     e ∙ sym (short_zero (take (length bytes - 1) bytes)) ∙ ap (λ b. short (take (length bytes - 1) bytes ++ b ∷ [])) (sym last) ∙ ap short (sym (in_two bytes some))
 
-pub zeros_behind : (front copied : Bytes) → copied ≡ front → copied ++ drop (length front) (replicate 32 0) ≡ padded front
+pub zeros_behind : (front copied : Bytes) → copied ≡ front → copied ++ drop (length front) (replicate 32 0) ≡ name_with_zeros front
 zeros_behind front copied e = rw (e, drop-replicate {X = ℕ} (length front) 32 0) refl
 
 -- ---- the bytes of a name

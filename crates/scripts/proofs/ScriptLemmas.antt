@@ -9,7 +9,7 @@ use Rattle.std.proofs.Math.ListN.{drop_of_length-le}
 use Rattle.std.proofs.lemmas.Bool.Decides.{nat_tests, Decides-eqb}
 use Rattle.std.proofs.lemmas.List.Splits.{join_with_byte-slice_split}
 use Rattle.std.proofs.lemmas.List.Folds.{list_all-append}
-use Rattle.scripts.specs.Script.{Bytes, ended, closed, has_no_feed, AreLines, lines_of, is_field, AreFields, is_ascii, is_no_record, IsBad}
+use Rattle.scripts.specs.Script.{Bytes, lines_with_feeds, text_with_last_feed, has_no_feed, AreLines, lines_of, is_field, AreFields, is_ascii, is_no_record, IsBad}
 
 pub both_true : (a b : Bool) → (a && b) ≡ true → (a ≡ true) × (b ≡ true)
 both_true true b e = (refl, e)
@@ -17,12 +17,12 @@ both_true false b e = cc
 
 -- ---- lines
 
-closed_not_empty : (c : ℕ) (more : Bytes) → [] ≡ closed (c ∷ more) → ⊥
+closed_not_empty : (c : ℕ) (more : Bytes) → [] ≡ text_with_last_feed (c ∷ more) → ⊥
 closed_not_empty c [] e = elim (c == 10) as (λ b. [] ≡ (if b then c ∷ [] else c ∷ 10 ∷ []) → ⊥) [ true ↦ λ h. cc | false ↦ λ h. cc ] e
 closed_not_empty c (d ∷ more) e = cc
 
-onto_ended : (b c : ℕ) (more : Bytes) (lines : List Bytes) → ended lines ≡ closed (c ∷ more)
-    → ended (onto_first b lines) ≡ b ∷ closed (c ∷ more)
+onto_ended : (b c : ℕ) (more : Bytes) (lines : List Bytes) → lines_with_feeds lines ≡ text_with_last_feed (c ∷ more)
+    → lines_with_feeds (onto_first b lines) ≡ b ∷ text_with_last_feed (c ∷ more)
 onto_ended b c more [] e = absurd (closed_not_empty c more e)
 onto_ended b c more (line ∷ lines) e = ap (λ bytes. b ∷ bytes) e
 
@@ -30,15 +30,15 @@ is_feed_byte : (b : ℕ) → (b == 10) ≡ true → b ≡ 10
 is_feed_byte b e = (Decides-eqb b 10).0 e
 
 cut_byte : (b : ℕ) (more : Bytes) (is_feed : Bool) → (b == 10) ≡ is_feed
-    → ended (lines_of more) ≡ closed more
-    → ended (if is_feed then [] ∷ lines_of more else onto_first b (lines_of more)) ≡ closed (b ∷ more)
+    → lines_with_feeds (lines_of more) ≡ text_with_last_feed more
+    → lines_with_feeds (if is_feed then [] ∷ lines_of more else onto_first b (lines_of more)) ≡ text_with_last_feed (b ∷ more)
 cut_byte b [] true e ih = simp e (ap (λ x. x ∷ []) (sym (is_feed_byte b e)))
 cut_byte b [] false e ih = simp e
 cut_byte b (c ∷ more) true e ih =
-    ap (λ bytes. 10 ∷ bytes) ih ∙ ap (λ x. x ∷ closed (c ∷ more)) (sym (is_feed_byte b e))
+    ap (λ bytes. 10 ∷ bytes) ih ∙ ap (λ x. x ∷ text_with_last_feed (c ∷ more)) (sym (is_feed_byte b e))
 cut_byte b (c ∷ more) false e ih = onto_ended b c more (lines_of (c ∷ more)) ih
 
-ended_lines : (text : Bytes) → ended (lines_of text) ≡ closed text
+ended_lines : (text : Bytes) → lines_with_feeds (lines_of text) ≡ text_with_last_feed text
 ended_lines [] = refl
 ended_lines (b ∷ more) = cut_byte b more (b == 10) refl (ended_lines more)
 

@@ -11,7 +11,7 @@ use Rattle.scripts.specs.Script.{Bytes}
 use Rattle.scripts.specs.Names.{word_name}
 use Rattle.scripts.specs.Words.{word_threshold}
 use Rattle.scripts.proofs.RunLaws.{append_nothing}
-use Rattle.scripts.specs.Fronts.{SetReader, plain_part, behind_plain, opened, threshold_front, named, member_with, member_front, with_more, members_front, members_in, set_of, set_front, inner_front}
+use Rattle.scripts.specs.Fronts.{SetReader, plain_part, behind_plain, threshold_and_rest, threshold_front, node_and_rest, member_with, member_front, with_more, members_front, members_in, set_of, set_front, inner_front}
 use Rattle.scripts.specs.Slices.{SpellsMembers, SpellsSlices}
 use Rattle.scripts.specs.Slices.SpellsMembers.{nobody, name, set}
 
@@ -46,7 +46,7 @@ set_member q word h others more rest =
 abbrev Found : Bytes → Member → Bytes → Type 0
 Found text m after = (word : Bytes) × (text ≡ word ++ after) × SpellsMember m word
 
-named_found : (word after behind : Bytes) (m : Member) (r : Option ℕ) → word_name word ≡ r → named r behind ≡ Some (m, after) → Found (word ++ behind) m after
+named_found : (word after behind : Bytes) (m : Member) (r : Option ℕ) → word_name word ≡ r → node_and_rest r behind ≡ Some (m, after) → Found (word ++ behind) m after
 named_found word after behind m None e f = cc
 named_found word after behind m (Some u) e f =
     let same = same_pairs (Node u) m behind after f in
@@ -68,7 +68,7 @@ member_found read finds text after m e = go (behind_plain text) (take-append-dro
   where
     go : (behind : Bytes) → plain_part text ++ behind ≡ text → member_with (read text) (word_name (plain_part text)) behind ≡ Some (m, after) → Found text m after
     go [] whole f = subst (λ bs. Found bs m after) whole (named_found (plain_part text) after [] m (word_name (plain_part text)) refl f)
-    go (b ∷ rest) whole f = elim (b == 91) as (λ c. (if c then as_set (read text) else named (word_name (plain_part text)) (b ∷ rest)) ≡ Some (m, after) → Found text m after) [
+    go (b ∷ rest) whole f = elim (b == 91) as (λ c. (if c then as_set (read text) else node_and_rest (word_name (plain_part text)) (b ∷ rest)) ≡ Some (m, after) → Found text m after) [
       | true ↦ λ g. set_found text after m (read text) (λ q tail h. finds text q tail h) g
       | false ↦ λ g. subst (λ bs. Found bs m after) whole (named_found (plain_part text) after (b ∷ rest) m (word_name (plain_part text)) refl g)
     ] f
@@ -135,7 +135,7 @@ bracket_found digits b behind rest j k true e c g =
     (digits, ap (λ bs. digits ++ bs) (ap (λ x. x ∷ behind) (eqb-true b 91 c) ∙ ap (λ bs. 91 ∷ bs) same.1), e ∙ ap (λ n. Some n) same.0)
 bracket_found digits b behind rest j k false e c g = cc
 
-opened_found : (digits behind rest : Bytes) (k : ℕ) (r : Option ℕ) → word_threshold digits ≡ r → opened r behind ≡ Some (k, rest) → FoundThreshold (digits ++ behind) k rest
+opened_found : (digits behind rest : Bytes) (k : ℕ) (r : Option ℕ) → word_threshold digits ≡ r → threshold_and_rest r behind ≡ Some (k, rest) → FoundThreshold (digits ++ behind) k rest
 opened_found digits behind rest k None e g = cc
 opened_found digits [] rest k (Some j) e g = cc
 opened_found digits (b ∷ behind) rest k (Some j) e g = bracket_found digits b behind rest j k (b == 91) e refl g

@@ -13,7 +13,7 @@ use Rattle.types.specs.declared.nested.Member.TheVariants.{Node, Set}
 use Rattle.scripts.specs.Script.{Bytes}
 use Rattle.scripts.specs.Values.{is_plain, is_lower_hex, is_lower_digit}
 use Rattle.scripts.specs.Numbers.{is_digit, decimal as number}
-use Rattle.scripts.specs.Names.{decoded, is_short_name, name_of_bytes, padded, word_name}
+use Rattle.scripts.specs.Names.{bytes_of_result, is_short_name, name_of_bytes, name_with_zeros, word_name}
 use Rattle.scripts.specs.Words.{is_decimal, word_threshold}
 use Rattle.scripts.specs.Fronts.{SetReader, plain_count, plain_part, behind_plain, threshold_front, member_front, with_more, members_front, members_in, set_of, set_front, inner_front}
 use Rattle.scripts.specs.Slices.{SpellsMembers, SpellsSlices, AreSlices, SlicesSpelledOnce}
@@ -49,7 +49,7 @@ pub name_plain : (word : Bytes) (u : ℕ) → word_name word ≡ Some u → is_p
 name_plain word u e = go (length word == 64) (is_lower_hex word) (is_short_name word) (nat_le (length word) 32) refl refl e
   where
     go : (long lower short fits : Bool) → is_lower_hex word ≡ lower → is_short_name word ≡ short
-        → option_map name_of_bytes (if long then (if lower then decoded (Rattle.hex.specs.Hex.decode_of word) else None) else if short && fits then Some (padded word) else None) ≡ Some u → is_plain word ≡ true
+        → option_map name_of_bytes (if long then (if lower then bytes_of_result (Rattle.hex.specs.Hex.decode_of word) else None) else if short && fits then Some (name_with_zeros word) else None) ≡ Some u → is_plain word ≡ true
     go true true short fits f g h = all_pass is_lower_digit is_ascii_alphanumeric lower_plain word f
     go true false short fits f g h = cc
     go false lower true fits f g h = (both_true (nat_lt 0 (length word)) (is_plain word) g).1

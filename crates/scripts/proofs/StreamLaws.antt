@@ -9,7 +9,7 @@ use Rattle.std.specs.Io.{StopsAt}
 use Rattle.std.specs.Io.BufRead.{ends_with_byte, strip_last, take_through}
 use Rattle.std.specs.Io.KnownBytes.{Appends, Keeps, Consumes, IsAtEnd}
 use Rattle.std.proofs.BufReadLemmas.{take_through-append, take_through-nil}
-use Rattle.scripts.specs.Script.{Bytes, closed, lines_of, numbered_lines}
+use Rattle.scripts.specs.Script.{Bytes, text_with_last_feed, lines_of, numbered_lines}
 use Rattle.scripts.specs.Runs.{Telling, Refusing, Passes, Runs, HasRun, HasRunLine}
 use Rattle.scripts.specs.Streams.{IsNext, IsWhole, IsFrontOf, HasRunFront, HasRunRead, HasRunStream}
 use Rattle.scripts.proofs.RunLaws.{append_nothing, appends_nothing, appends_both, appends_kept}
@@ -25,7 +25,7 @@ use Rattle.scripts.specs.declared.run.Stop.TheVariants as stop
 abbrev NoFeed : Bytes → Type 0
 NoFeed xs = All (λ x. x ≢ 10) xs
 
-pub closed_feed : (xs : Bytes) → closed (xs ++ 10 ∷ []) ≡ xs ++ 10 ∷ []
+pub closed_feed : (xs : Bytes) → text_with_last_feed (xs ++ 10 ∷ []) ≡ xs ++ 10 ∷ []
 closed_feed [] = refl
 closed_feed (b ∷ []) = refl
 closed_feed (b ∷ c ∷ more) = ap (λ xs. b ∷ xs) (closed_feed (c ∷ more))

@@ -22,25 +22,26 @@ plain_part text = take (plain_count text) text
 abbrev pub behind_plain : Bytes → Bytes
 behind_plain text = drop (plain_count text) text
 
-abbrev pub opened : Option ℕ → Bytes → Option (ℕ × Bytes)
-opened None rest = None
-opened (Some k) [] = None
-opened (Some k) (b ∷ rest) = if b == 91 then Some (k, rest) else None
+abbrev pub threshold_and_rest : Option ℕ → Bytes → Option (ℕ × Bytes)
+threshold_and_rest None rest = None
+threshold_and_rest (Some k) [] = None
+threshold_and_rest (Some k) (b ∷ rest) = if b == 91 then Some (k, rest) else None
 
 -- the threshold, and what follows the opening bracket (91) behind it
 abbrev pub threshold_front : Bytes → Option (ℕ × Bytes)
-threshold_front text = opened (word_threshold (plain_part text)) (behind_plain text)
+threshold_front text = threshold_and_rest (word_threshold (plain_part text)) (behind_plain text)
 
 -- what is read as a set
 abbrev pub SetReader : Type 0
 SetReader = Bytes → Option (Slices × Bytes)
 
-abbrev pub named : Option ℕ → Bytes → Option (Member × Bytes)
-named name rest = option_map (λ u. (Node u, rest)) name
+abbrev pub node_and_rest : Option ℕ → Bytes → Option (Member × Bytes)
+node_and_rest name rest = option_map (λ u. (Node u, rest)) name
 
 abbrev pub member_with : Option (Slices × Bytes) → Option ℕ → Bytes → Option (Member × Bytes)
-member_with inner name [] = named name []
-member_with inner name (b ∷ rest) = if b == 91 then option_map (λ r. (Set r.0, r.1)) inner else named name (b ∷ rest)
+member_with inner name [] = node_and_rest name []
+member_with inner name (b ∷ rest) =
+    if b == 91 then option_map (λ r. (Set r.0, r.1)) inner else node_and_rest name (b ∷ rest)
 
 -- a member: a set where an opening bracket follows the letters and digits, else a name
 abbrev pub member_front : SetReader → Bytes → Option (Member × Bytes)

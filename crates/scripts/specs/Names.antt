@@ -45,17 +45,17 @@ text_of_name u = text_of_bytes (bytes_of_name u)
 -- ---- read
 
 -- up to 32 bytes, and zero bytes after them up to 32
-abbrev pub padded : Bytes → Bytes
-padded front = front ++ replicate (32 - length front) 0
+abbrev pub name_with_zeros : Bytes → Bytes
+name_with_zeros front = front ++ replicate (32 - length front) 0
 
 -- the bytes that were decoded
-abbrev pub decoded : Result Bytes FromHexError → Option Bytes
-decoded (Ok bytes) = Some bytes
-decoded (Err e) = None
+abbrev pub bytes_of_result : Result Bytes FromHexError → Option Bytes
+bytes_of_result (Ok bytes) = Some bytes
+bytes_of_result (Err e) = None
 
 -- the bytes that lower-case hexadecimal digits spell
 abbrev pub digits_bytes : Bytes → Option Bytes
-digits_bytes digits = if is_lower_hex digits then decoded (decode_of digits) else None
+digits_bytes digits = if is_lower_hex digits then bytes_of_result (decode_of digits) else None
 
 -- the bytes that a word spells: `-` (45) alone for none, else digits
 abbrev pub octets_in : Bytes → Option Bytes
@@ -69,7 +69,7 @@ octets_in word =
 abbrev pub word_bytes : Bytes → Option Bytes
 word_bytes word =
     if length word == 64 then digits_bytes word
-    else if is_short_name word && nat_le (length word) 32 then Some (padded word)
+    else if is_short_name word && nat_le (length word) 32 then Some (name_with_zeros word)
     else None
 
 -- the name that a word spells

@@ -11,15 +11,15 @@ Bytes = List ℕ
 -- ---- lines
 
 -- the lines, with a line feed (10) after each
-abbrev pub ended : List Bytes → Bytes
-ended [] = []
-ended (line ∷ more) = line ++ 10 ∷ ended more
+abbrev pub lines_with_feeds : List Bytes → Bytes
+lines_with_feeds [] = []
+lines_with_feeds (line ∷ more) = line ++ 10 ∷ lines_with_feeds more
 
 -- the text, with a line feed after its last line where it lacks one
-abbrev pub closed : Bytes → Bytes
-closed [] = []
-closed (b ∷ []) = if b == 10 then b ∷ [] else b ∷ 10 ∷ []
-closed (b ∷ c ∷ more) = b ∷ closed (c ∷ more)
+abbrev pub text_with_last_feed : Bytes → Bytes
+text_with_last_feed [] = []
+text_with_last_feed (b ∷ []) = if b == 10 then b ∷ [] else b ∷ 10 ∷ []
+text_with_last_feed (b ∷ c ∷ more) = b ∷ text_with_last_feed (c ∷ more)
 
 abbrev pub has_no_feed : Bytes → Bool
 has_no_feed line = list_all (λ b. not (b == 10)) line
@@ -27,7 +27,7 @@ has_no_feed line = list_all (λ b. not (b == 10)) line
 -- the lines hold no line feed, and with one after each they are the text, of which the last may be
 -- missing
 abbrev pub AreLines : Bytes → List Bytes → Type 0
-AreLines text lines = (ended lines ≡ closed text) × IsTrue (list_all has_no_feed lines)
+AreLines text lines = (lines_with_feeds lines ≡ text_with_last_feed text) × IsTrue (list_all has_no_feed lines)
 
 -- the lines of a text, byte by byte
 abbrev pub lines_of : Bytes → List Bytes

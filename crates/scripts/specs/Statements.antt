@@ -29,8 +29,8 @@ before_bracket text =
     if pointwise nat_eq (drop (length text - 1) text) (41 ∷ []) then Some (take (length text - 1) text) else None
 
 -- what stands between a front and a closing bracket at the end
-abbrev pub enclosed : Bytes → Bytes → Option Bytes
-enclosed head word = option_and_then before_bracket (behind head word)
+abbrev pub inside_brackets : Bytes → Bytes → Option Bytes
+inside_brackets head word = option_and_then before_bracket (behind head word)
 
 -- ---- values, ballots and counters
 
@@ -92,7 +92,7 @@ of_kinds None None None None = None
 -- the statement that a word spells: the word of its kind, and in brackets its fields
 abbrev pub word_statement : Bytes → Option Statement
 word_statement word =
-    of_kinds (enclosed (codes "nom(") word) (enclosed (codes "prep(") word) (enclosed (codes "comm(") word) (enclosed (codes "ext(") word)
+    of_kinds (inside_brackets (codes "nom(") word) (inside_brackets (codes "prep(") word) (inside_brackets (codes "comm(") word) (inside_brackets (codes "ext(") word)
 
 -- ---- read back
 

@@ -3,7 +3,7 @@ use Rattle.std.specs.Prelude.{◌≡◌, ◌++◌, ◌⊎◌, ◌≤◌, ℕ, fa
 use Rattle.std.specs.Io.{StopsAt}
 use Rattle.std.specs.Io.BufRead.{ends_with_byte}
 use Rattle.std.specs.Io.KnownBytes.{Consumes, IsAtEnd}
-use Rattle.scripts.specs.Script.{Bytes, closed}
+use Rattle.scripts.specs.Script.{Bytes, text_with_last_feed}
 use Rattle.scripts.specs.Runs.{Telling, Refusing, HasRun}
 use Rattle.scripts.specs.declared.run.Stop.{Stop}
 use Rattle.scripts.specs.declared.run.Stop.TheVariants as stop
@@ -16,7 +16,7 @@ pub record IsNext (old new : Option Bytes) (bytes : Bytes) : Type 0 where
 
 -- each line of the text ends with a line feed
 abbrev pub IsWhole : Bytes → Type 0
-IsWhole text = closed text ≡ text
+IsWhole text = text_with_last_feed text ≡ text
 
 -- the text is a front of a script: whole lines, or all of it
 pub record IsFrontOf (text script : Bytes) : Type 0 where

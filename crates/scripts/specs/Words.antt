@@ -35,18 +35,18 @@ with_counter (Some counter) behind = Some (counter, behind)
 with_counter None behind = None
 
 -- a counter, and what stands behind it
-abbrev pub counted : Option (Bytes × Bytes) → Option (ℕ × Bytes)
-counted (Some parts) = with_counter (word_counter parts.0) parts.1
-counted None = None
+abbrev pub counter_and_rest : Option (Bytes × Bytes) → Option (ℕ × Bytes)
+counter_and_rest (Some parts) = with_counter (word_counter parts.0) parts.1
+counter_and_rest None = None
 
 -- a counter and the word of a value as a ballot
-abbrev pub valued : Option (ℕ × Bytes) → Option Ballot
-valued (Some parts) = option_map (λ v. record { counter = parts.0; value = v }) (word_value parts.1)
-valued None = None
+abbrev pub ballot_of_parts : Option (ℕ × Bytes) → Option Ballot
+ballot_of_parts (Some parts) = option_map (λ v. record { counter = parts.0; value = v }) (word_value parts.1)
+ballot_of_parts None = None
 
 -- the ballot that a word spells: a counter, a colon (58) and a value
 abbrev pub word_ballot : Bytes → Option Ballot
-word_ballot word = valued (counted (split_once 58 word))
+word_ballot word = ballot_of_parts (counter_and_rest (split_once 58 word))
 
 -- a counter, a colon (58) and a value
 abbrev pub text_of_ballot : Ballot → Bytes

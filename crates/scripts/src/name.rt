@@ -2,7 +2,7 @@
 
 ghost use Rattle.std.specs.Prelude.{◌≡◌, ◌≤◌, ◌++◌, ◌-◌, ◌+◌, OnOk, length, take, drop, string_bytes, option_map, replicate};
 ghost use Rattle.std.specs.Int.{w64, from_be_bytes};
-ghost use Rattle.scripts.specs.Names.{bytes_of_name, name_of_bytes, short, text_of_bytes, text_of_name, digits_bytes, padded, word_bytes, word_name, NamesReadBack};
+ghost use Rattle.scripts.specs.Names.{bytes_of_name, name_of_bytes, short, text_of_bytes, text_of_name, digits_bytes, name_with_zeros, word_bytes, word_name, NamesReadBack};
 
 use crate::hexadecimal::{is_lower_hex, push_hex, push_plain};
 use crate::splitting::is_plain;
@@ -51,7 +51,7 @@ fn bytes_of_digits(digits: &[u8]) -> Option<[u8; 32]>
 /// The bytes, and zero bytes after them.
 fn with_zeros(front: &[u8]) -> [u8; 32]
     requires { length front.now ≤ 32 }
-    ensures { result ≡ padded front.now }
+    ensures { result ≡ name_with_zeros front.now }
 {
     let mut bytes = [0u8; 32];
     bytes[..front.len()].copy_from_slice(front);

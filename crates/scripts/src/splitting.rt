@@ -12,7 +12,7 @@ ghost use Rattle.scripts.specs.Words.{split_once};
 pub(crate) fn split_once(text: &[u8], at: u8) -> Option<(&[u8], &[u8])>
     ensures { option_map (λ r. (r.0.now, r.1.now)) result ≡ split_once at text.now }
 {
-    match place_of(text, at) {
+    match first_place(text, at) {
         Some(place) => Some((&text[..place], &text[place + 1..])),
         None => None,
     }
@@ -33,7 +33,7 @@ pub(crate) fn split_twice(text: &[u8], at: u8) -> Option<(&[u8], &[u8], &[u8])>
 }
 
 /// The place of the first such byte.
-fn place_of(text: &[u8], at: u8) -> Option<usize>
+fn first_place(text: &[u8], at: u8) -> Option<usize>
     ensures { result ≡ position (λ byte. byte == at) text.now }
 {
     text.iter().position(|byte| *byte == at)

@@ -3,7 +3,7 @@
 ghost use Rattle.std.specs.Prelude.{◌≡◌, ◌++◌, IfOk, OnOk, option_map, string_bytes};
 ghost use Rattle.std.specs.List.{flat_map};
 ghost use Rattle.scripts.specs.Printed.{behind_comma, behind_plus, fields_of_statement, kind_text, text_of_optional, text_of_statement, text_of_values};
-ghost use Rattle.scripts.specs.Statements.{StatementsReadBack, commit_in, enclosed, externalize_in, nomination_in, prepare_in, three_counters as counters_in, word_optional, word_statement, word_values};
+ghost use Rattle.scripts.specs.Statements.{StatementsReadBack, commit_in, inside_brackets, externalize_in, nomination_in, prepare_in, three_counters as counters_in, word_optional, word_statement, word_values};
 
 use crate::number::counter_of;
 use crate::splitting::{split_once, split_twice};
@@ -36,7 +36,7 @@ pub fn statement_of(alloc: Global, word: &[u8]) -> Result<Option<Statement>, All
 
 /// What stands between a front and a closing bracket at the end.
 fn fields_behind<'a>(word: &'a [u8], head: &[u8]) -> Option<&'a [u8]>
-    ensures { option_map (λ r. r.now) result ≡ enclosed head.now word.now }
+    ensures { option_map (λ r. r.now) result ≡ inside_brackets head.now word.now }
 {
     let Some(rest) = word.strip_prefix(head) else {
         return None;

@@ -2,7 +2,7 @@
 
 ghost use Rattle.std.specs.Prelude.{◌≡◌, ◌++◌, Ok, None, IfOk, OnOk, option_map, string_bytes};
 ghost use Rattle.scripts.specs.Values.{ValuesReadBack, digits_value, text_of_value, value_in as bytes_value, word_value};
-ghost use Rattle.scripts.specs.Words.{counted, split_once, text_of_ballot, with_counter as counter_before, word_ballot};
+ghost use Rattle.scripts.specs.Words.{counter_and_rest, split_once, text_of_ballot, with_counter as counter_before, word_ballot};
 
 use crate::hexadecimal::{is_lower_hex, push_hex, push_plain};
 use crate::number::counter_of;
@@ -80,7 +80,7 @@ fn with_counter(counter: Option<u32>, value: &[u8]) -> Option<(u32, &[u8])>
 
 /// The counter before the colon of a ballot, and the word behind it.
 fn ballot_fields(word: &[u8]) -> Option<(u32, &[u8])>
-    ensures { option_map (λ r. (r.0, r.1.now)) result ≡ counted (split_once 58 word.now) }
+    ensures { option_map (λ r. (r.0, r.1.now)) result ≡ counter_and_rest (split_once 58 word.now) }
 {
     match split_once(word, b':') {
         Some((counter, value)) => with_counter(counter_of(counter), value),

@@ -21,7 +21,7 @@ use Rattle.listening.proofs.Offers.{table_with_offer-stale, table_with_offer-tak
 use Rattle.listening.specs.Listening.{ListenerState, IsStranger}
 use Rattle.slot.specs.Listening.{AddsRowAlone, node_of}
 use Rattle.envstore.specs.Archives.{sents_of}
-use Rattle.slot.specs.Wholes.{whole}
+use Rattle.slot.specs.Wholes.{node_from_parts}
 
 -- what is not so is false
 pub untrue : (b : Bool) → IsTrue (not b) → b ≡ false
@@ -64,8 +64,8 @@ over-row n u over = λ e from.
 
 -- ---- the step
 -- the listener after an offer
-table_with_offer-to : (h k : ListenerState) (inputs : Inputs) (votes : Votes) (x : Sent) → k.configured ≡ h.configured → sents_of k.table ≡ table_with_offer (sents_of h.table) x → whole h.configured inputs votes (table_with_offer (sents_of h.table) x) ≡ node_of k inputs votes
-table_with_offer-to h k inputs votes x c t = λ i. whole (sym c i) inputs votes (sym t i)
+table_with_offer-to : (h k : ListenerState) (inputs : Inputs) (votes : Votes) (x : Sent) → k.configured ≡ h.configured → sents_of k.table ≡ table_with_offer (sents_of h.table) x → node_from_parts h.configured inputs votes (table_with_offer (sents_of h.table) x) ≡ node_of k inputs votes
+table_with_offer-to h k inputs votes x c t = λ i. node_from_parts (sym c i) inputs votes (sym t i)
 
 -- the step offers the envelope, and gives nothing out
 pub row-step : (n : Node) (h k : ListenerState) (inputs : Inputs) (votes : Votes) (x : Sent) → n ≡ node_of h inputs votes → AddsRowAlone n x.sender → k.configured ≡ h.configured → sents_of k.table ≡ table_with_offer (sents_of h.table) x

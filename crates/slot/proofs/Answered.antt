@@ -35,7 +35,7 @@ use Rattle.slot.specs.Listening.{Held, node_of}
 use Rattle.slot.specs.declared.filed.GivenOut.{GivenOut}
 use Rattle.slot.specs.Filings.{outs_of}
 use Rattle.slot.specs.declared.changes.Changed.{Changed}
-use Rattle.slot.specs.Wholes.{ChangesTo, IsChange, SendWellFormed, led, whole, with_changed}
+use Rattle.slot.specs.Wholes.{ChangesTo, IsChange, SendWellFormed, inputs_in_round, node_from_parts, with_changed}
 
 -- the node that is held
 abbrev pub node_in : Held → Node
@@ -65,21 +65,21 @@ made-of : (m n : Node) (event : NodeEvent) (a d : Changed) → m ≡ n → chang
 made-of m n event a d e made is = ap (λ x. change x event) (sym e) ∙ made ∙ (λ i. Some (with_changed (e i) (sym is i)))
 
 -- a round begins with the same leader where the same is configured
-led-by : (k c : Configured) (inputs : Inputs) (votes : Votes) (round : ℕ) (d : Changed) → k ≡ c → d ≡ record { inputs = led k inputs round; votes = votes } → d ≡ record { inputs = led c inputs round; votes = votes }
-led-by k c inputs votes round d same is = is ∙ (λ i. record { inputs = led (same i) inputs round; votes = votes })
+led-by : (k c : Configured) (inputs : Inputs) (votes : Votes) (round : ℕ) (d : Changed) → k ≡ c → d ≡ record { inputs = inputs_in_round k inputs round; votes = votes } → d ≡ record { inputs = inputs_in_round c inputs round; votes = votes }
+led-by k c inputs votes round d same is = is ∙ (λ i. record { inputs = inputs_in_round (same i) inputs round; votes = votes })
 
 pub change-propose : (k : Configured) (h : ListenerState) (inputs : Inputs) (votes : Votes) (n : Node) (x : List ℕ) (d : Changed) → node_of h inputs votes ≡ n → k ≡ h.configured
-    → d ≡ record { inputs = led k (record inputs { proposal = Some x }) 1; votes = votes } → ChangesTo n (Propose x) (Some d)
+    → d ≡ record { inputs = inputs_in_round k (record inputs { proposal = Some x }) 1; votes = votes } → ChangesTo n (Propose x) (Some d)
 unfolding change
 change-propose k h inputs votes n x d e same is =
-    made-of (node_of h inputs votes) n (Propose x) (record { inputs = led h.configured (record inputs { proposal = Some x }) 1; votes = votes }) d e refl (led-by k h.configured (record inputs { proposal = Some x }) votes 1 d same is)
+    made-of (node_of h inputs votes) n (Propose x) (record { inputs = inputs_in_round h.configured (record inputs { proposal = Some x }) 1; votes = votes }) d e refl (led-by k h.configured (record inputs { proposal = Some x }) votes 1 d same is)
 
 pub change-round : (k : Configured) (h : ListenerState) (inputs : Inputs) (votes : Votes) (n : Node) (r : ℕ) (d : Changed) → node_of h inputs votes ≡ n → is_nomination_timer_live r inputs.round (is_some votes.confirmed_prepared) ≡ true
-    → k ≡ h.configured → d ≡ record { inputs = led k inputs (r + 1); votes = votes } → ChangesTo n (NominationTimer r) (Some d)
+    → k ≡ h.configured → d ≡ record { inputs = inputs_in_round k inputs (r + 1); votes = votes } → ChangesTo n (NominationTimer r) (Some d)
 unfolding change
 change-round k h inputs votes n r d e live same is =
     let m = node_of h inputs votes in
-    made-of m n (NominationTimer r) (record { inputs = led h.configured inputs (r + 1); votes = votes }) d e (ap (λ b. if b then Some (in_round m (r + 1)) else None) live) (led-by k h.configured inputs votes (r + 1) d same is)
+    made-of m n (NominationTimer r) (record { inputs = inputs_in_round h.configured inputs (r + 1); votes = votes }) d e (ap (λ b. if b then Some (in_round m (r + 1)) else None) live) (led-by k h.configured inputs votes (r + 1) d same is)
 
 pub change-no_round : (h : ListenerState) (inputs : Inputs) (votes : Votes) (n : Node) (r : ℕ) → node_of h inputs votes ≡ n → is_nomination_timer_live r inputs.round (is_some votes.confirmed_prepared) ≡ false → change n (NominationTimer r) ≡ None
 unfolding change
@@ -118,8 +118,8 @@ unfolding change
 change-put h k inputs votes n x p e put same is =
     let taken = put-takes h.table k.table x p put is in
     ap (λ m. change m (Take x)) (sym e)
-    ∙ ap (λ b. if b then Some (whole h.configured inputs votes (with_row x (sents_of h.table))) else None) taken.0
-    ∙ (λ i. Some (whole (sym same i) inputs votes (sym taken.1 i)))
+    ∙ ap (λ b. if b then Some (node_from_parts h.configured inputs votes (with_row x (sents_of h.table))) else None) taken.0
+    ∙ (λ i. Some (node_from_parts (sym same i) inputs votes (sym taken.1 i)))
 
 -- two listeners with the same parts
 heard-same : (h k : ListenerState) → k.configured ≡ h.configured → k.table ≡ h.table → k ≡ h
@@ -130,7 +130,7 @@ pub stale-put : (h k : ListenerState) (inputs : Inputs) (votes : Votes) (n : Nod
 unfolding change
 stale-put h k inputs votes n x p e put same is =
     let left = subst (λ (q : Put). IsPut h.table x q k.table) is put in
-    let idle : change n (Take x) ≡ None = ap (λ m. change m (Take x)) (sym e) ∙ ap (λ b. if b then Some (whole h.configured inputs votes (with_row x (sents_of h.table))) else None) left.0 in
+    let idle : change n (Take x) ≡ None = ap (λ m. change m (Take x)) (sym e) ∙ ap (λ b. if b then Some (node_from_parts h.configured inputs votes (with_row x (sents_of h.table))) else None) left.0 in
     step-is n (Take x) None idle ∙ ap {B = Node × List Out} (λ (m : Node). (m, [])) (sym e ∙ ap (λ (l : ListenerState). node_of l inputs votes) (sym (heard-same h k same left.1)))
 
 -- ---- slices
@@ -170,12 +170,12 @@ pub reached-after : (k : ListenerState) (inputs : Inputs) (votes : Votes) (d : I
 reached-after k inputs votes d h u w settled same set = subst ComesOfEvents (sym (node-after k inputs votes d h u w settled same set)) (next d.reached d.event)
 
 -- and what is given out is the step's: it does not depend on the slices and rows before the event
-outs-by_new : (c d : Configured) (inputs : Inputs) (votes : Votes) (before table : List Sent) (new : Node) → outs (whole c inputs votes before) new ≡ outs (whole d inputs votes table) new
+outs-by_new : (c d : Configured) (inputs : Inputs) (votes : Votes) (before table : List Sent) (new : Node) → outs (node_from_parts c inputs votes before) new ≡ outs (node_from_parts d inputs votes table) new
 unfolding outs
 outs-by_new c d inputs votes before table new = refl
 
 pub outs-after : (k : ListenerState) (inputs : Inputs) (votes : Votes) (d : IsChange (node_of k inputs votes)) (h : ListenerState) (a : Inputs) (v w : Votes) (os : List Out) → settle most_passes (after_pass (node_of k inputs votes)) votes ≡ Some w → node_of h a v ≡ d.before
-    → ((before after : List Sent) → os ≡ outs (whole k.configured a v before) (whole k.configured inputs w after)) → os ≡ (step d.before d.event).1
+    → ((before after : List Sent) → os ≡ outs (node_from_parts k.configured a v before) (node_from_parts k.configured inputs w after)) → os ≡ (step d.before d.event).1
 outs-after k inputs votes d h a v w os settled is given =
     given (sents_of k.table) (sents_of k.table)
     ∙ outs-by_new k.configured h.configured a v (sents_of k.table) (sents_of h.table) (node_of k inputs w)
@@ -186,8 +186,8 @@ outs-after k inputs votes d h a v w os settled is given =
 -- an envelope from outside of a set that holds the node's reach, and not from a leader
 pub quiet-after : {E : Type 0} (n new : Node) (event : NodeEvent) (r : Result GivenOut E) → ComesOfEvents n → OnOk r (new ≡ (step n event).0) → IfOk r (λ v. outs_of v.outs.items ≡ (step n event).1)
     → (R : Names) (x : Sent) → event ≡ Take x → HoldsReach n.name n.slices n.table R → IsFalse (R x.sender) → IsFalse (among n.inputs.leaders x.sender) → IfOk r (λ v. IsQuiet R n new (outs_of v.outs.items))
-quiet-after n new event (Ok v) h node outs R x is held out led =
-    let q = outsiders_are_quiet R n x h held out led in
+quiet-after n new event (Ok v) h node outs R x is held out inputs_in_round =
+    let q = outsiders_are_quiet R n x h held out inputs_in_round in
     let same : new ≡ (step n (Take x)).0 = node ∙ ap (λ (e : NodeEvent). (step n e).0) is in
     let items : outs_of v.outs.items ≡ (step n (Take x)).1 = outs ∙ ap (λ (e : NodeEvent). (step n e).1) is in
     record {
@@ -196,4 +196,4 @@ quiet-after n new event (Ok v) h node outs R x is held out led =
       votes = ap (λ (m : Node). m.votes) same ∙ q.votes;
       rows = λ u k i. ap (λ (m : Node). row m.table u k) same ∙ q.rows u k i;
     }
-quiet-after n new event (Err e) h node outs R x is held out led = tt
+quiet-after n new event (Err e) h node outs R x is held out inputs_in_round = tt

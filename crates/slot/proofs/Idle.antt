@@ -9,7 +9,7 @@ use Rattle.types.specs.declared.state.Votes.{Votes}
 use Rattle.protocol.specs.Nodes.{Node, change, is_counter_live, is_round_live}
 use Rattle.protocol.specs.Rows.{is_taken}
 use Rattle.listening.specs.declared.configured.Configured.{Configured}
-use Rattle.slot.specs.Wholes.{whole}
+use Rattle.slot.specs.Wholes.{node_from_parts}
 
 -- what is done on a condition alone changes nothing only without it
 guarded : (b : Bool) (m : Node) → (if b then Some m else None) ≡ None → b ≡ false
@@ -29,7 +29,7 @@ unfolding change
 reslice-changes n q e = false≢true (sym (ap is_some e))
 
 -- an envelope is stale, and a timer not live
-pub idle-stale : (c : Configured) (inputs : Inputs) (votes : Votes) (table : List Sent) (n : Node) (x : Sent) → n ≡ whole c inputs votes table → change n (Take x) ≡ None → is_taken table x ≡ false
+pub idle-stale : (c : Configured) (inputs : Inputs) (votes : Votes) (table : List Sent) (n : Node) (x : Sent) → n ≡ node_from_parts c inputs votes table → change n (Take x) ≡ None → is_taken table x ≡ false
 unfolding change
 idle-stale c inputs votes table n x e idle = guarded _ _ (sym (ap (λ m. change m (Take x)) e) ∙ idle)
 

@@ -14,7 +14,7 @@ use Rattle.slot.specs.declared.stirring.Stirred.TheVariants.{All, Ballots, Nomin
 use Rattle.listening.specs.Listening.{ListenerState}
 use Rattle.slot.specs.Listening.{node_of}
 use Rattle.slot.specs.Stirrings.{IsStart, IsStirred, StirsIn}
-use Rattle.slot.specs.Wholes.{IsChange, whole}
+use Rattle.slot.specs.Wholes.{IsChange, node_from_parts}
 use Rattle.slot.proofs.Answered.{sends_of, settles_of}
 
 -- ---- what is stirred
@@ -23,8 +23,8 @@ stirs-all : (m : Node) → IsChange m → StirsIn All m
 stirs-all m d = nomination_rests_after_a_pass d.before d.reached d.event m d.is
 
 -- the listener after a row
-row-in : (h k : ListenerState) (inputs : Inputs) (votes : Votes) (x : Sent) → k.configured ≡ h.configured → sents_of k.table ≡ with_row x (sents_of h.table) → whole h.configured inputs votes (with_row x (sents_of h.table)) ≡ node_of k inputs votes
-row-in h k inputs votes x c t = λ i. whole (sym c i) inputs votes (sym t i)
+row-in : (h k : ListenerState) (inputs : Inputs) (votes : Votes) (x : Sent) → k.configured ≡ h.configured → sents_of k.table ≡ with_row x (sents_of h.table) → node_from_parts h.configured inputs votes (with_row x (sents_of h.table)) ≡ node_of k inputs votes
+row-in h k inputs votes x c t = λ i. node_from_parts (sym c i) inputs votes (sym t i)
 
 kept-row : (h k : ListenerState) (x : Sent) → sents_of k.table ≡ with_row x (sents_of h.table) → ReachesSame h.configured.name h.configured.slices (sents_of h.table) (sents_of k.table) → ReachesSame h.configured.name h.configured.slices (sents_of h.table) (with_row x (sents_of h.table))
 kept-row h k x t kept = subst (λ (table : List Sent). ReachesSame h.configured.name h.configured.slices (sents_of h.table) table) t kept

@@ -9,7 +9,7 @@ use Rattle.protocol.specs.Rows.{table_with_offer}
 use Rattle.envstore.specs.declared.filed.Filed.{Filed}
 use Rattle.envstore.specs.Archives.{sents_of}
 use Rattle.listening.specs.Listening.{ListenerState}
-use Rattle.slot.specs.Wholes.{whole}
+use Rattle.slot.specs.Wholes.{node_from_parts}
 
 -- the node of the definitions, and the rows of its table as they were filed
 pub record Held : Type 0 where
@@ -18,7 +18,7 @@ pub record Held : Type 0 where
 
 -- what a listener has, with inputs and votes
 abbrev pub node_of : ListenerState → Inputs → Votes → Node
-node_of h inputs votes = whole h.configured inputs votes (sents_of h.table)
+node_of h inputs votes = node_from_parts h.configured inputs votes (sents_of h.table)
 
 -- an envelope of this sender is no more than a row: where it is newer than that which stands it takes its place, and
 -- nothing else happens

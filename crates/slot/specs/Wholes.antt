@@ -16,13 +16,13 @@ use Rattle.listening.specs.declared.configured.Configured.{Configured}
 use Rattle.slot.specs.declared.changes.Changed.{Changed}
 
 -- who it is with its slices, its inputs, its votes, and the table
-abbrev pub whole : Configured → Inputs → Votes → List Sent → Node
-whole c inputs votes table =
+abbrev pub node_from_parts : Configured → Inputs → Votes → List Sent → Node
+node_from_parts c inputs votes table =
     record { name = c.name; slot = c.slot; slices = c.slices; inputs = inputs; votes = votes; table = table }
 
 -- the inputs as a round begins with its leader
-abbrev pub led : Configured → Inputs → ℕ → Inputs
-led c inputs round =
+abbrev pub inputs_in_round : Configured → Inputs → ℕ → Inputs
+inputs_in_round c inputs round =
     record inputs { round = round; leaders = inputs.leaders ++ leader c.slot round c.name c.slices ∷ [] }
 
 -- a statement as the node sends it

@@ -6,7 +6,7 @@ ghost use Rattle.listening.specs.Listening.{IsKnownOf};
 ghost use Rattle.protocol.specs.Nodes.{most_passes, outs, after_pass, settle};
 ghost use Rattle.slot.specs.Listening.{node_of};
 ghost use Rattle.slot.specs.Stirrings.{IsStart, is_listed};
-ghost use Rattle.slot.specs.Wholes.{whole};
+ghost use Rattle.slot.specs.Wholes.{node_from_parts};
 ghost use Rattle.types.specs.Statements.{Sent};
 ghost use Rattle.view.specs.Knowing.{IsKnown};
 
@@ -32,7 +32,7 @@ pub(crate) fn answer<S: Places>(
     requires rows { AreFiled archive.now listener.old.table }
     requires start { IsStart start.now.stirred (node_of listener.old start.now.inputs.now start.now.votes.now) }
     ensures votes { IfOk result (λ a. settle most_passes (after_pass (node_of listener.old start.now.inputs.now start.now.votes.now)) start.now.votes.now ≡ Some a.votes) }
-    ensures outs { IfOk result (λ a. (before after : List Sent) → a.outs.items ≡ outs (whole listener.old.configured old.now.inputs.now old.now.votes.now before) (whole listener.old.configured start.now.inputs.now a.votes after)) }
+    ensures outs { IfOk result (λ a. (before after : List Sent) → a.outs.items ≡ outs (node_from_parts listener.old.configured old.now.inputs.now old.now.votes.now before) (node_from_parts listener.old.configured start.now.inputs.now a.votes after)) }
     ensures same { listener.new ≡ listener.old }
 {
     let settled = votes_after(alloc, archive, listener, start)?;

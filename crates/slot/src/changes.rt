@@ -4,7 +4,7 @@ ghost use Rattle.std.specs.Prelude.{◌≡◌, ◌<◌, ◌+◌, IfOk, Some, is_
 ghost use Rattle.protocol.specs.Nodes.{at_next_counter, is_externalized};
 ghost use Rattle.protocol.specs.Timers.{is_ballot_timer_live, is_nomination_timer_live};
 ghost use Rattle.protocol.specs.States.{counter_of};
-ghost use Rattle.slot.specs.Wholes.{led};
+ghost use Rattle.slot.specs.Wholes.{inputs_in_round};
 
 use crate::outs::is_externalized;
 use ballot::ballot_at_counter;
@@ -48,7 +48,7 @@ pub(crate) fn with_proposal(
     votes: &Votes,
     value: Value,
 ) -> Result<Changed, AllocError>
-    ensures { IfOk result (λ d. d ≡ record { inputs = led configured.now (record inputs.now { proposal = Some value }) 1; votes = votes.now }) }
+    ensures { IfOk result (λ d. d ≡ record { inputs = inputs_in_round configured.now (record inputs.now { proposal = Some value }) 1; votes = votes.now }) }
 {
     let copy = inputs.try_copy(alloc)?;
     let inputs = Inputs {
@@ -71,7 +71,7 @@ pub(crate) fn in_next_round(
     round: u32,
 ) -> Result<Changed, AllocError>
     requires { round < 4294967295 }
-    ensures { IfOk result (λ d. d ≡ record { inputs = led configured.now inputs.now (round + 1); votes = votes.now }) }
+    ensures { IfOk result (λ d. d ≡ record { inputs = inputs_in_round configured.now inputs.now (round + 1); votes = votes.now }) }
 {
     Ok(Changed {
         inputs: in_round(configured, inputs.try_copy(alloc)?, round + 1)?,
@@ -81,7 +81,7 @@ pub(crate) fn in_next_round(
 
 /// The round begins with its leader; earlier leaders stay.
 fn in_round(configured: &Configured, inputs: Inputs, round: u32) -> Result<Inputs, AllocError>
-    ensures { IfOk result (λ g. g ≡ led configured.now inputs round) }
+    ensures { IfOk result (λ g. g ≡ inputs_in_round configured.now inputs round) }
 {
     let mut inputs = inputs;
     let leader = leader(configured.slot, round, &configured.name, &configured.slices);

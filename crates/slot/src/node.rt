@@ -11,7 +11,7 @@ ghost use Rattle.envstore.specs.Archives.{AreFiled, IsFiled, Keeps, sent_of};
 ghost use Rattle.slot.specs.Filings.{AreFiledOuts, HasCopies, IsFiledEvent, event_of, outs_of};
 ghost use Rattle.slot.specs.Listening.{AddsRowAlone, node_of};
 ghost use Rattle.slot.specs.Stirrings.{IsStart};
-ghost use Rattle.slot.specs.Wholes.{ChangesTo, IsSentBy, whole};
+ghost use Rattle.slot.specs.Wholes.{ChangesTo, IsSentBy, node_from_parts};
 ghost use Rattle.types.specs.Statements.{Sent};
 ghost use Rattle.types.specs.declared.event.NodeEvent.{NodeEvent};
 ghost use Rattle.types.specs.declared.event.Out.TheVariants.{Emit};
@@ -432,7 +432,7 @@ fn answer_anew<S: Shelf>(
     requires rows { AreFiled archive.old listener.old.table }
     requires start { IsStart start.now.stirred (node_of listener.old start.now.inputs.now start.now.votes.now) }
     ensures votes { IfOk result (λ a. settle most_passes (after_pass (node_of listener.old start.now.inputs.now start.now.votes.now)) start.now.votes.now ≡ Some (unwrap_or a.votes start.now.votes.now)) }
-    ensures outs { IfOk result (λ a. (before after : List Sent) → outs_of a.given_out.outs.items ≡ outs (whole listener.old.configured start.now.inputs.now start.now.votes.now before) (whole listener.old.configured start.now.inputs.now (unwrap_or a.votes start.now.votes.now) after)) }
+    ensures outs { IfOk result (λ a. (before after : List Sent) → outs_of a.given_out.outs.items ≡ outs (node_from_parts listener.old.configured start.now.inputs.now start.now.votes.now before) (node_from_parts listener.old.configured start.now.inputs.now (unwrap_or a.votes start.now.votes.now) after)) }
     ensures same { listener.new ≡ listener.old }
     ensures filed { IfOk result (λ a. AreFiledOuts archive.new a.given_out.outs.items) }
     ensures copies { IfOk result (λ a. HasCopies copies a.given_out) }

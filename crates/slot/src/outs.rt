@@ -5,7 +5,7 @@
 ghost use Rattle.std.specs.Prelude.{◌≡◌, ◌++◌, [], List, Option, IfOk, IfSome, OnOk, not, ◌&&◌, if◌then◌else◌};
 ghost use Rattle.protocol.specs.Nodes.{externalization, is_externalized, outs, when};
 ghost use Rattle.protocol.specs.States.{sent_nomination, sent_vote};
-ghost use Rattle.slot.specs.Wholes.{emitted_by, whole, SendWellFormed};
+ghost use Rattle.slot.specs.Wholes.{emitted_by, node_from_parts, SendWellFormed};
 ghost use Rattle.types.specs.Statements.{IsWellFormed, Sent};
 ghost use Rattle.types.specs.declared.statement.Statement.{Statement};
 
@@ -27,7 +27,7 @@ pub(crate) fn outs(
     new: &State<'_>,
 ) -> Result<Vec<Out>, AllocError>
     requires { SendWellFormed new.now.votes.now }
-    ensures { IfOk result (λ v. (before after : List Sent) → v.items ≡ outs (whole configured.now old.now.inputs.now old.now.votes.now before) (whole configured.now new.now.inputs.now new.now.votes.now after)) }
+    ensures { IfOk result (λ v. (before after : List Sent) → v.items ≡ outs (node_from_parts configured.now old.now.inputs.now old.now.votes.now before) (node_from_parts configured.now new.now.inputs.now new.now.votes.now after)) }
 {
     let mut given_out = Vec::new(alloc);
     let round = new.inputs.round;

@@ -5,7 +5,7 @@ ghost use Rattle.std.specs.Prelude.{◌≡◌, ◌≢◌, ◌↔◌, IsTrue, IfO
 ghost use Rattle.fedvote.specs.Questions.{backs};
 ghost use Rattle.fedvote.specs.declared.claim.Claim.{Claim};
 ghost use Rattle.types.specs.declared.kind.Kind.{Kind};
-ghost use Rattle.protocol.specs.Backing.{passing};
+ghost use Rattle.protocol.specs.Backing.{passing_senders};
 ghost use Rattle.protocol.specs.Rows.{is_taken, table_with_offer};
 ghost use Rattle.protocol.specs.Reach.{IsReach};
 ghost use Rattle.tables.specs.Listeners.{IsBacked};
@@ -191,7 +191,7 @@ fn claim_of(ballot: &Ballot) -> Result<Claim, AllocError>
 
 /// Whether the sender's ballot row votes for or accepts the claim.
 fn is_claim_backed<S: Places>(rows: &Rows<'_, S>, sender: &NodeId, claim: &Claim) -> bool
-    ensures { result ≡ passing rows.now Kind.Ballot (backs claim.now) sender.now }
+    ensures { result ≡ passing_senders rows.now Kind.Ballot (backs claim.now) sender.now }
 {
     match rows.row(sender, Kind::Ballot) {
         Some(row) => claim.is_backed_by(row.body()),

@@ -1,6 +1,8 @@
 //! Hosts run by several workers, with gates that hold jobs up.
 
-use fixtures::{Offer, Tally, close_all, joined, numbers_closed, openings, proposals, run_jobs};
+use fixtures::{
+    Offer, Tally, close_all, host_of_networks, numbers_closed, openings, proposals, run_jobs,
+};
 use std::sync::Wait;
 use std::sync::atomic::{AtomicU64, Ordering};
 use std::test::Fail;
@@ -118,7 +120,7 @@ impl Gate for Slow {
 #[test]
 fn two_workers_apply_at_once(rt: HostRuntime) -> Result<(), Fail> {
     let alloc = rt.alloc();
-    let mut host = joined(&rt, alloc, 2, 1, 2).ok_or("memory")?;
+    let mut host = host_of_networks(&rt, alloc, 2, 1, 2).ok_or("memory")?;
     let jobs = openings(alloc, 2).ok_or("memory")?;
     let gate = Meeting {
         first: AtomicU64::new(0),
@@ -138,7 +140,7 @@ fn two_workers_apply_at_once(rt: HostRuntime) -> Result<(), Fail> {
 #[test]
 fn a_network_that_is_held_up_holds_up_no_other(rt: HostRuntime) -> Result<(), Fail> {
     let alloc = rt.alloc();
-    let mut host = joined(&rt, alloc, 2, 1, 2).ok_or("memory")?;
+    let mut host = host_of_networks(&rt, alloc, 2, 1, 2).ok_or("memory")?;
     let jobs = openings(alloc, 2).ok_or("memory")?;
     let gate = Holding {
         released: AtomicU64::new(0),
@@ -153,7 +155,7 @@ fn a_network_that_is_held_up_holds_up_no_other(rt: HostRuntime) -> Result<(), Fa
 #[test]
 fn a_queue_of_one_place_loses_no_job(rt: HostRuntime) -> Result<(), Fail> {
     let alloc = rt.alloc();
-    let mut host = joined(&rt, alloc, 3, 3, 2).ok_or("memory")?;
+    let mut host = host_of_networks(&rt, alloc, 3, 3, 2).ok_or("memory")?;
     let jobs = openings(alloc, 3).ok_or("memory")?;
     let opened = run_jobs(&rt, alloc, &mut host, Offer::new(1, 2, jobs), &Open).ok_or("memory")?;
     assert_eq!(rt; (opened.applied, opened.refused, opened.unrun), (3, 0, 0));
@@ -171,7 +173,7 @@ fn a_queue_of_one_place_loses_no_job(rt: HostRuntime) -> Result<(), Fail> {
 #[test]
 fn four_workers_with_a_slow_gate_apply_each_job_once(rt: HostRuntime) -> Result<(), Fail> {
     let alloc = rt.alloc();
-    let mut host = joined(&rt, alloc, 6, 3, 4).ok_or("memory")?;
+    let mut host = host_of_networks(&rt, alloc, 6, 3, 4).ok_or("memory")?;
     let gate = Slow {
         before: AtomicU64::new(0),
         after: AtomicU64::new(0),
@@ -199,7 +201,7 @@ fn four_workers_with_a_slow_gate_apply_each_job_once(rt: HostRuntime) -> Result<
 #[test]
 fn what_a_full_queue_hands_back_is_applied_at_once(rt: HostRuntime) -> Result<(), Fail> {
     let alloc = rt.alloc();
-    let mut host = joined(&rt, alloc, 3, 1, 1).ok_or("memory")?;
+    let mut host = host_of_networks(&rt, alloc, 3, 1, 1).ok_or("memory")?;
     // Network 5 is not there.
     let jobs = openings(alloc, 5).ok_or("memory")?;
     let offer = Offer::new(2, 1, jobs);
@@ -219,7 +221,7 @@ fn what_a_full_queue_hands_back_is_applied_at_once(rt: HostRuntime) -> Result<()
 #[test]
 fn what_follows_from_a_job_comes_before_the_next_job(rt: HostRuntime) -> Result<(), Fail> {
     let alloc = rt.alloc();
-    let mut host = joined(&rt, alloc, 2, 3, 1).ok_or("memory")?;
+    let mut host = host_of_networks(&rt, alloc, 2, 3, 1).ok_or("memory")?;
     let jobs = openings(alloc, 2).ok_or("memory")?;
     let opened = run_jobs(&rt, alloc, &mut host, Offer::new(64, 1, jobs), &Open).ok_or("memory")?;
     assert_eq!(rt; opened.applied, 2);
@@ -241,7 +243,7 @@ fn what_follows_from_a_job_comes_before_the_next_job(rt: HostRuntime) -> Result<
 #[test]
 fn four_workers_leave_journals_of_one_thread(rt: HostRuntime) -> Result<(), Fail> {
     let alloc = rt.alloc();
-    let mut host = joined(&rt, alloc, 4096, 3, 4).ok_or("memory")?;
+    let mut host = host_of_networks(&rt, alloc, 4096, 3, 4).ok_or("memory")?;
     let jobs = openings(alloc, 4096).ok_or("memory")?;
     let opened = run_jobs(&rt, alloc, &mut host, Offer::new(256, 4, jobs), &Open).ok_or("memory")?;
     assert_eq!(rt;
@@ -286,7 +288,7 @@ fn a_number_joins_once_and_networks_close_descending(rt: HostRuntime) -> Result<
 #[test]
 fn the_parts_of_a_host_have_all_its_networks(rt: HostRuntime) -> Result<(), Fail> {
     let alloc = rt.alloc();
-    let host = joined(&rt, alloc, 5, 1, 1).ok_or("memory")?;
+    let host = host_of_networks(&rt, alloc, 5, 1, 1).ok_or("memory")?;
     let count = host.len() / 2;
     let (mut first, mut others) = host.split_at(count)?;
     let closed = numbers_closed(&rt, alloc, &mut others).ok_or("memory")?;

@@ -20,7 +20,7 @@ use Rattle.protocol.specs.Runs.{IsRun}
 use Rattle.protocol.proofs.Runs.KeptWithin.{closure-start}
 use Rattle.protocol.proofs.Verdicts.IsolatedRuns.{isolated_runs}
 use Rattle.twoworlds.specs.declared.verdict.Verdict.{Verdict}
-use Rattle.twoworlds.specs.Meanings.{AreIsolated, IsVerdictOn, hosts_in, meant}
+use Rattle.twoworlds.specs.Meanings.{AreIsolated, IsVerdictOn, nodes_in, meant}
 use Rattle.twoworlds.specs.OutLists.{hosted_in, outs_of_each}
 
 -- ---- what passes a test
@@ -47,42 +47,42 @@ module _ (R : Names) where
       go false e (inr k) f = f k
 
 -- ---- hosted nodes
-abbrev host_names : List HostedNode → List ℕ
-host_names hosts = map (λ h. h.name) hosts
+abbrev node_names : List HostedNode → List ℕ
+node_names nodes = map (λ h. h.name) nodes
 
-named_host : (hosts : List HostedNode) (u : ℕ) → is_some (slices_of hosts u) ≡ true → Contains (host_names hosts) u
-named_host [] u h = absurd (false≢true h)
-named_host (x ∷ xs) u h = go (x.name == u) refl h (named_host xs u)
+named_hosted : (nodes : List HostedNode) (u : ℕ) → is_some (slices_of nodes u) ≡ true → Contains (node_names nodes) u
+named_hosted [] u h = absurd (false≢true h)
+named_hosted (x ∷ xs) u h = go (x.name == u) refl h (named_hosted xs u)
   where
-    go : (b : Bool) → (x.name == u) ≡ b → is_some (if b then Some x.slices else slices_of xs u) ≡ true → (is_some (slices_of xs u) ≡ true → Contains (host_names xs) u) → Contains (x.name ∷ host_names xs) u
-    go true e k f = subst (λ y. Contains (x.name ∷ host_names xs) y) (eqb-true x.name u e) (contains_head x.name (host_names xs))
-    go false e k f = contains_tail u x.name (host_names xs) (f k)
+    go : (b : Bool) → (x.name == u) ≡ b → is_some (if b then Some x.slices else slices_of xs u) ≡ true → (is_some (slices_of xs u) ≡ true → Contains (node_names xs) u) → Contains (x.name ∷ node_names xs) u
+    go true e k f = subst (λ y. Contains (x.name ∷ node_names xs) y) (eqb-true x.name u e) (contains_head x.name (node_names xs))
+    go false e k f = contains_tail u x.name (node_names xs) (f k)
 
-host_named : (hosts : List HostedNode) (u : ℕ) → Contains (host_names hosts) u → is_some (slices_of hosts u) ≡ true
-host_named [] u c = absurd (let l = c.1 in omega arith)
-host_named (x ∷ xs) u c = go (x.name == u) refl (contained_cases u x.name (host_names xs) c) (host_named xs u)
+hosted_named : (nodes : List HostedNode) (u : ℕ) → Contains (node_names nodes) u → is_some (slices_of nodes u) ≡ true
+hosted_named [] u c = absurd (let l = c.1 in omega arith)
+hosted_named (x ∷ xs) u c = go (x.name == u) refl (contained_cases u x.name (node_names xs) c) (hosted_named xs u)
   where
-    go : (b : Bool) → (x.name == u) ≡ b → (x.name ≡ u) ⊎ Contains (host_names xs) u → (Contains (host_names xs) u → is_some (slices_of xs u) ≡ true) → is_some (if b then Some x.slices else slices_of xs u) ≡ true
+    go : (b : Bool) → (x.name == u) ≡ b → (x.name ≡ u) ⊎ Contains (node_names xs) u → (Contains (node_names xs) u → is_some (slices_of xs u) ≡ true) → is_some (if b then Some x.slices else slices_of xs u) ≡ true
     go true e s f = refl
     go false e (inl q) f = absurd (true≢false (sym (eq-eqb x.name u q) ∙ e))
     go false e (inr k) f = f k
 
 -- ---- the list of hosted members
-module _ (R : Names) (hosts : List HostedNode) (i : ℕ) (run : List Entry) where
+module _ (R : Names) (nodes : List HostedNode) (i : ℕ) (run : List Entry) where
   names_kept : (list : List ℕ) → map (λ p. p.0) (outs_of_each i run list) ≡ list
   names_kept [] = refl
   names_kept (u ∷ us) = ap (λ (ys : List ℕ). u ∷ ys) (names_kept us)
 
-  each_right : (others : List Entry) (list : List ℕ) → ((u : ℕ) → Contains list u → (outs_of i u run ≡ outs_of i u others) × (IsTrue (R u) × IsTrue (is_some (slices_of hosts u))))
-      → AllByRecursion (λ p. (p.1 ≡ outs_of i p.0 others) × (IsTrue (R p.0) × IsTrue (is_some (slices_of hosts p.0)))) (outs_of_each i run list)
+  each_right : (others : List Entry) (list : List ℕ) → ((u : ℕ) → Contains list u → (outs_of i u run ≡ outs_of i u others) × (IsTrue (R u) × IsTrue (is_some (slices_of nodes u))))
+      → AllByRecursion (λ p. (p.1 ≡ outs_of i p.0 others) × (IsTrue (R p.0) × IsTrue (is_some (slices_of nodes p.0)))) (outs_of_each i run list)
   each_right others [] f = tt
   each_right others (u ∷ us) f = (f u (contains_head u us), each_right others us (λ w c. f w (contains_tail w u us c)))
 
-  pub is_list : (others : List Entry) → IsAscending (host_names hosts) → ((u : ℕ) → IsTrue (R u) → outs_of i u run ≡ outs_of i u others) → IsListOf R hosts i others (outs_of_each i run (hosted_in R hosts))
+  pub is_list : (others : List Entry) → IsAscending (node_names nodes) → ((u : ℕ) → IsTrue (R u) → outs_of i u run ≡ outs_of i u others) → IsListOf R nodes i others (outs_of_each i run (hosted_in R nodes))
   is_list others up same = record {
-    outs = each_right others (hosted_in R hosts) (λ u c. let p = passed R (host_names hosts) u c in (same u p.1, (p.1, host_named hosts u p.0)));
-    all = λ u r h. subst (λ (xs : List ℕ). Contains xs u) (sym (names_kept (hosted_in R hosts))) (passes R (host_names hosts) u (named_host hosts u h) r);
-    ascending = subst IsAscending (sym (names_kept (hosted_in R hosts))) (AllPairs-filter (λ x y. x < y) R (host_names hosts) up);
+    outs = each_right others (hosted_in R nodes) (λ u c. let p = passed R (node_names nodes) u c in (same u p.1, (p.1, hosted_named nodes u p.0)));
+    all = λ u r h. subst (λ (xs : List ℕ). Contains xs u) (sym (names_kept (hosted_in R nodes))) (passes R (node_names nodes) u (named_hosted nodes u h) r);
+    ascending = subst IsAscending (sym (names_kept (hosted_in R nodes))) (AllPairs-filter (λ x y. x < y) R (node_names nodes) up);
   }
 
 -- ---- verdicts
@@ -101,7 +101,7 @@ pub isolated_both : (one other : Log) (i v : ℕ) → IsRun one.config one.entri
 isolated_both one other i v a b = isolated_runs one.config other.config one.entries other.entries i v a b
 
 pub isolated_alone : (one : Log) (i v : ℕ) → AreIsolated (Some one) None i v
-isolated_alone one i v cast same u m = absurd (true≢false (sym cast.hosted ∙ ap is_some (cast.same v (closure-start one.config.hosts i v one.entries))))
+isolated_alone one i v cast same u m = absurd (true≢false (sym cast.hosted ∙ ap is_some (cast.same v (closure-start one.config.nodes i v one.entries))))
 
 module _ (one other : List HostedNode) (run others : List Entry) (i v : ℕ) where
   module _ (list : MemberList) (c : IsClosureList one i v run list) (hosted : is_some (slices_of one v) ≡ true) where
@@ -121,7 +121,7 @@ module _ (one other : List HostedNode) (run others : List Entry) (i v : ℕ) whe
     pub judged_inputs : AreAlike one other (names_of list) → (place : ℕ) → IsFirstDifference (kept_of here i run) (kept_of here i others) place → IsVerdictOf one other run others i v (InputsDiffer place)
     judged_inputs a place d = (cast a, subst (λ (R : Names). IsFirstDifference (kept_of R i run) (kept_of R i others) place) set_is d)
 
-    pub judged_same : IsAscending (host_names one) → AreAlike one other (names_of list) → kept_of here i run ≡ kept_of here i others → AreIsolatedRuns one other run others i v → (given : List (ℕ × List Out)) → given ≡ outs_of_each i run (hosted_in here one)
+    pub judged_same : IsAscending (node_names one) → AreAlike one other (names_of list) → kept_of here i run ≡ kept_of here i others → AreIsolatedRuns one other run others i v → (given : List (ℕ × List Out)) → given ≡ outs_of_each i run (hosted_in here one)
         → IsVerdictOf one other run others i v (Same given)
     judged_same up a same isolated given is =
         let R = closure one i v run in
@@ -138,21 +138,21 @@ module _ (one other : List HostedNode) (run others : List Entry) (i v : ℕ) whe
         )
 
 -- ---- verdicts on what two worlds have of a network
-module _ (one : Log) (o : Option Log) (i v : ℕ) (list : MemberList) (c : IsClosureList one.config.hosts i v one.entries list) (hosted : is_some (slices_of one.config.hosts v) ≡ true) (alike : AreAlike one.config.hosts (hosts_in o) (names_of list)) where
-  alike_in : (p : Option Log) → o ≡ p → AreAlike one.config.hosts (hosts_in p) (names_of list)
-  alike_in p q = subst (λ (r : Option Log). AreAlike one.config.hosts (hosts_in r) (names_of list)) q alike
+module _ (one : Log) (o : Option Log) (i v : ℕ) (list : MemberList) (c : IsClosureList one.config.nodes i v one.entries list) (hosted : is_some (slices_of one.config.nodes v) ≡ true) (alike : AreAlike one.config.nodes (nodes_in o) (names_of list)) where
+  alike_in : (p : Option Log) → o ≡ p → AreAlike one.config.nodes (nodes_in p) (names_of list)
+  alike_in p q = subst (λ (r : Option Log). AreAlike one.config.nodes (nodes_in r) (names_of list)) q alike
 
   pub never_without : o ≡ None → ⊥
-  never_without q = never_alone one.config.hosts [] one.entries [] i v list c hosted (alike_in None q)
+  never_without q = never_alone one.config.nodes [] one.entries [] i v list c hosted (alike_in None q)
 
   module _ (other : Log) (q : o ≡ Some other) where
     pub inputs_with : (place : ℕ) → IsFirstDifference (kept_of (among (names_of list)) i one.entries) (kept_of (among (names_of list)) i other.entries) place → IsVerdictOn (Some one) o i v (InputsDiffer place)
-    inputs_with place d = subst (λ (r : Option Log). IsVerdictOn (Some one) r i v (InputsDiffer place)) (sym q) (judged_inputs one.config.hosts other.config.hosts one.entries other.entries i v list c hosted (alike_in (Some other) q) place d)
+    inputs_with place d = subst (λ (r : Option Log). IsVerdictOn (Some one) r i v (InputsDiffer place)) (sym q) (judged_inputs one.config.nodes other.config.nodes one.entries other.entries i v list c hosted (alike_in (Some other) q) place d)
 
-    pub same_with : IsAscending (host_names one.config.hosts) → kept_of (among (names_of list)) i one.entries ≡ kept_of (among (names_of list)) i other.entries → AreIsolated (Some one) o i v
-        → (given : List (ℕ × List Out)) → given ≡ outs_of_each i one.entries (hosted_in (among (names_of list)) one.config.hosts) → IsVerdictOn (Some one) o i v (Same given)
+    pub same_with : IsAscending (node_names one.config.nodes) → kept_of (among (names_of list)) i one.entries ≡ kept_of (among (names_of list)) i other.entries → AreIsolated (Some one) o i v
+        → (given : List (ℕ × List Out)) → given ≡ outs_of_each i one.entries (hosted_in (among (names_of list)) one.config.nodes) → IsVerdictOn (Some one) o i v (Same given)
     same_with up same isolated given is = subst (λ (r : Option Log). IsVerdictOn (Some one) r i v (Same given)) (sym q)
-        (judged_same one.config.hosts other.config.hosts one.entries other.entries i v list c hosted up (alike_in (Some other) q) same (subst (λ (r : Option Log). AreIsolated (Some one) r i v) q isolated) given is)
+        (judged_same one.config.nodes other.config.nodes one.entries other.entries i v list c hosted up (alike_in (Some other) q) same (subst (λ (r : Option Log). AreIsolated (Some one) r i v) q isolated) given is)
 
 pub some_mapped : {X Y : Type 0} (f : X → Y) (o : Option X) → is_some (option_map f o) ≡ is_some o
 some_mapped f None = refl

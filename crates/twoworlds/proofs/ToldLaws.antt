@@ -2,7 +2,7 @@
 use Rattle.std.proofs.Common.{◌≡◌, ℕ, Bool, true, false, ◌==◌, Option, Some, None, List, [], ◌∷◌, map, if◌then◌else◌, is_some, refl, sym, ◌∙◌, ap, subst, inl, inr}
 use Rattle.std.proofs.lemmas.Bool.{true≢false}
 use Rattle.protocol.specs.Networks.{HostedNode}
-use Rattle.protocol.specs.Hosts.{Entry, History, entries, hosts_of}
+use Rattle.protocol.specs.Hosts.{Entry, History, entries, nodes_of}
 use Rattle.protocol.specs.Isolation.{SameCast, closure}
 use Rattle.protocol.specs.Verdicts.{IsVerdict, Verdict}
 use Rattle.protocol.specs.Verdicts.Verdict.{CastDiffers, InputsDiffer, Same}
@@ -10,20 +10,20 @@ use Rattle.network.specs.Decoding.{reading}
 use Rattle.hoststep.specs.Logs.{Log}
 use Rattle.hoststep.specs.Worlds.{AreJournalsOf, log_at}
 use Rattle.protocol.proofs.Runs.KeptWithin.{closure-start}
-use Rattle.twoworlds.specs.Meanings.{IsVerdictBetween, IsVerdictOn, entries_in, hosts_in, meant}
+use Rattle.twoworlds.specs.Meanings.{IsVerdictBetween, IsVerdictOn, entries_in, nodes_in, meant}
 use Rattle.twoworlds.specs.declared.verdict.Verdict as code
 
 -- the hosted nodes of a network are those of the history
-hosts-map : (ls : List Log) (g : ℕ) → hosts_in (log_at ls g) ≡ hosts_of (map (λ l. l.config) ls) g
-hosts-map [] g = refl
-hosts-map (l ∷ ls) g = go (l.config.number == g) (hosts-map ls g)
+nodes-map : (ls : List Log) (g : ℕ) → nodes_in (log_at ls g) ≡ nodes_of (map (λ l. l.config) ls) g
+nodes-map [] g = refl
+nodes-map (l ∷ ls) g = go (l.config.number == g) (nodes-map ls g)
   where
-    go : (b : Bool) → hosts_in (log_at ls g) ≡ hosts_of (map (λ l. l.config) ls) g → hosts_in (if b then Some l else log_at ls g) ≡ (if b then l.config.hosts else hosts_of (map (λ l. l.config) ls) g)
+    go : (b : Bool) → nodes_in (log_at ls g) ≡ nodes_of (map (λ l. l.config) ls) g → nodes_in (if b then Some l else log_at ls g) ≡ (if b then l.config.nodes else nodes_of (map (λ l. l.config) ls) g)
     go true ih = refl
     go false ih = ih
 
-hosts-told : (h : History) (ls : List Log) (g : ℕ) → AreJournalsOf h ls → hosts_in (log_at ls g) ≡ hosts_of h.configs g
-hosts-told h ls g told = hosts-map ls g ∙ ap (λ cs. hosts_of cs g) told.configs
+nodes-told : (h : History) (ls : List Log) (g : ℕ) → AreJournalsOf h ls → nodes_in (log_at ls g) ≡ nodes_of h.configs g
+nodes-told h ls g told = nodes-map ls g ∙ ap (λ cs. nodes_of cs g) told.configs
 
 -- where a world hosts nobody its entries do not matter
 first-without : (other : List HostedNode) (run runs others : List Entry) (i v : ℕ) (r : Verdict) → IsVerdict [] other run others i v r → IsVerdict [] other runs others i v r
@@ -41,21 +41,21 @@ second-without one run others more i v (InputsDiffer place) h = absurd (nobody-e
 second-without one run others more i v (Same list) h = absurd (nobody-else one run i v h.0)
 
 -- the history in the place of the journal, in the first world and in the second
-first-told : (o : Option Log) (hosts : List HostedNode) (run : List Entry) → hosts_in o ≡ hosts → ((l : Log) → o ≡ Some l → l.entries ≡ run) → (other : List HostedNode) (others : List Entry) (i v : ℕ) (r : Verdict)
-    → IsVerdict (hosts_in o) other (entries_in o) others i v r → IsVerdict hosts other run others i v r
-first-told (Some l) hosts run same entered other others i v r x = subst (λ k. IsVerdict k other run others i v r) same (subst (λ e. IsVerdict l.config.hosts other e others i v r) (entered l refl) x)
-first-told None hosts run same entered other others i v r x = subst (λ k. IsVerdict k other run others i v r) same (first-without other [] run others i v r x)
+first-told : (o : Option Log) (nodes : List HostedNode) (run : List Entry) → nodes_in o ≡ nodes → ((l : Log) → o ≡ Some l → l.entries ≡ run) → (other : List HostedNode) (others : List Entry) (i v : ℕ) (r : Verdict)
+    → IsVerdict (nodes_in o) other (entries_in o) others i v r → IsVerdict nodes other run others i v r
+first-told (Some l) nodes run same entered other others i v r x = subst (λ k. IsVerdict k other run others i v r) same (subst (λ e. IsVerdict l.config.nodes other e others i v r) (entered l refl) x)
+first-told None nodes run same entered other others i v r x = subst (λ k. IsVerdict k other run others i v r) same (first-without other [] run others i v r x)
 
-second-told : (o : Option Log) (hosts : List HostedNode) (run : List Entry) → hosts_in o ≡ hosts → ((l : Log) → o ≡ Some l → l.entries ≡ run) → (one : List HostedNode) (ones : List Entry) (i v : ℕ) (r : Verdict)
-    → IsVerdict one (hosts_in o) ones (entries_in o) i v r → IsVerdict one hosts ones run i v r
-second-told (Some l) hosts run same entered one ones i v r x = subst (λ k. IsVerdict one k ones run i v r) same (subst (λ e. IsVerdict one l.config.hosts ones e i v r) (entered l refl) x)
-second-told None hosts run same entered one ones i v r x = subst (λ k. IsVerdict one k ones run i v r) same (second-without one ones [] run i v r x)
+second-told : (o : Option Log) (nodes : List HostedNode) (run : List Entry) → nodes_in o ≡ nodes → ((l : Log) → o ≡ Some l → l.entries ≡ run) → (one : List HostedNode) (ones : List Entry) (i v : ℕ) (r : Verdict)
+    → IsVerdict one (nodes_in o) ones (entries_in o) i v r → IsVerdict one nodes ones run i v r
+second-told (Some l) nodes run same entered one ones i v r x = subst (λ k. IsVerdict one k ones run i v r) same (subst (λ e. IsVerdict one l.config.nodes ones e i v r) (entered l refl) x)
+second-told None nodes run same entered one ones i v r x = subst (λ k. IsVerdict one k ones run i v r) same (second-without one ones [] run i v r x)
 
 -- a verdict on the journals is one on the histories
 pub told_verdict : (h k : History) (ls ms : List Log) (g i v : ℕ) (r : code.Verdict) → AreJournalsOf h ls → AreJournalsOf k ms → IsVerdictOn (log_at ls g) (log_at ms g) i v r → IsVerdictBetween h k g i v r
 told_verdict h k ls ms g i v r one other x =
-    second-told (log_at ms g) (hosts_of k.configs g) (entries reading k g) (hosts-told k ms g other) (other.entries g) (hosts_of h.configs g) (entries reading h g) i v (meant r)
-    (first-told (log_at ls g) (hosts_of h.configs g) (entries reading h g) (hosts-told h ls g one) (one.entries g) (hosts_in (log_at ms g)) (entries_in (log_at ms g)) i v (meant r) x)
+    second-told (log_at ms g) (nodes_of k.configs g) (entries reading k g) (nodes-told k ms g other) (other.entries g) (nodes_of h.configs g) (entries reading h g) i v (meant r)
+    (first-told (log_at ls g) (nodes_of h.configs g) (entries reading h g) (nodes-told h ls g one) (one.entries g) (nodes_in (log_at ms g)) (entries_in (log_at ms g)) i v (meant r) x)
 
 -- a world that lacks the network does not host the node
 pub told_nowhere : (h k : History) (ls ms : List Log) (g i v : ℕ) → AreJournalsOf h ls → AreJournalsOf k ms → log_at ls g ≡ None → IsVerdictBetween h k g i v (code.TheVariants.CastDiffers v)

@@ -1,7 +1,7 @@
 -- Verdicts, and the isolation that each comparison carries, over journals.
 use Rattle.std.specs.Prelude.{◌≡◌, ℕ, List, [], Option, Some, None, IsTrue}
 use Rattle.protocol.specs.Networks.{HostedNode}
-use Rattle.protocol.specs.Hosts.{Entry, History, entries, hosts_of}
+use Rattle.protocol.specs.Hosts.{Entry, History, entries, nodes_of}
 use Rattle.protocol.specs.Verdicts as verdicts
 use Rattle.protocol.specs.Isolation.{closure, kept_of, outs_of, SameCast}
 use Rattle.network.specs.Decoding.{reading}
@@ -16,9 +16,9 @@ meant (InputsDiffer place) = verdicts.Verdict.InputsDiffer place
 meant (Same list) = verdicts.Verdict.Same list
 
 -- the hosted nodes of a network; nobody where a world lacks it
-abbrev pub hosts_in : Option Log → List HostedNode
-hosts_in None = []
-hosts_in (Some l) = l.config.hosts
+abbrev pub nodes_in : Option Log → List HostedNode
+nodes_in None = []
+nodes_in (Some l) = l.config.nodes
 
 -- the entries of its journal; none where a world lacks it
 abbrev pub entries_in : Option Log → List Entry
@@ -28,17 +28,17 @@ entries_in (Some l) = l.entries
 -- A verdict is right of what two worlds have of a network, for the closure of v at slot i in the first.
 abbrev pub IsVerdictOn : Option Log → Option Log → ℕ → ℕ → Verdict → Type 0
 IsVerdictOn one other i v verdict =
-    verdicts.IsVerdict (hosts_in one) (hosts_in other) (entries_in one) (entries_in other) i v (meant verdict)
+    verdicts.IsVerdict (nodes_in one) (nodes_in other) (entries_in one) (entries_in other) i v (meant verdict)
 
 -- It is right of a network in two histories, whose bytes are read as the codec reads them.
 abbrev pub IsVerdictBetween : History → History → ℕ → ℕ → ℕ → Verdict → Type 0
 IsVerdictBetween h k g i v verdict =
-    verdicts.IsVerdict (hosts_of h.configs g) (hosts_of k.configs g) (entries reading h g) (entries reading k g) i v (meant verdict)
+    verdicts.IsVerdict (nodes_of h.configs g) (nodes_of k.configs g) (entries reading h g) (entries reading k g) i v (meant verdict)
 
 -- Where both worlds have the same cast for the closure of v in the first, and the same kept steps, each member gave out
 -- the same in both.
 abbrev pub AreIsolated : Option Log → Option Log → ℕ → ℕ → Type 0
 AreIsolated one other i v =
-    let R = closure (hosts_in one) i v (entries_in one) in
-    SameCast R v (hosts_in one) (hosts_in other) → kept_of R i (entries_in one) ≡ kept_of R i (entries_in other)
+    let R = closure (nodes_in one) i v (entries_in one) in
+    SameCast R v (nodes_in one) (nodes_in other) → kept_of R i (entries_in one) ≡ kept_of R i (entries_in other)
     → (u : ℕ) → IsTrue (R u) → outs_of i u (entries_in one) ≡ outs_of i u (entries_in other)

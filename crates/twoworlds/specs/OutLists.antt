@@ -12,7 +12,7 @@ outs_of_each i run list = map (λ u. (u, outs_of i u run)) list
 
 -- the hosted nodes that are in the set, in their order
 abbrev pub hosted_in : Names → List HostedNode → List ℕ
-hosted_in R hosts = filter R (map (λ h. h.name) hosts)
+hosted_in R nodes = filter R (map (λ h. h.name) nodes)
 
 -- What an entry adds to a list of nodes with their outs: its own to the node that it is of, where that is one of the
 -- names.

@@ -4,7 +4,7 @@ ghost use Rattle.std.specs.Prelude.{◌≡◌, MatchOption, option_map};
 ghost use Rattle.protocol.specs.Networks.{slices_of};
 ghost use Rattle.closure.specs.Announcing.{names_of};
 ghost use Rattle.differences.specs.Hosting.{AreAlike, IsLeastUnlike};
-ghost use Rattle.twoworlds.specs.Meanings.{hosts_in};
+ghost use Rattle.twoworlds.specs.Meanings.{nodes_in};
 
 use closure::{Announcements, ClosureList};
 use differences::{is_hosted_alike, least_failing};
@@ -19,7 +19,7 @@ pub fn least_unlike<S: Shelf, T: Shelf>(
     other: Option<&Journal<T>>,
     members: &ClosureList,
 ) -> Option<NodeId>
-    ensures { MatchOption result (AreAlike one.now.config.hosts (hosts_in (option_map (λ j. j.now) other.entry)) (names_of members.now)) (λ u. IsLeastUnlike one.now.config.hosts (hosts_in (option_map (λ j. j.now) other.entry)) (names_of members.now) u) }
+    ensures { MatchOption result (AreAlike one.now.config.nodes (nodes_in (option_map (λ j. j.now) other.entry)) (names_of members.now)) (λ u. IsLeastUnlike one.now.config.nodes (nodes_in (option_map (λ j. j.now) other.entry)) (names_of members.now) u) }
 {
     least_failing(members, |name| {
         is_hosted_alike(one.slices(name), slices_in(other, name))
@@ -28,7 +28,7 @@ pub fn least_unlike<S: Shelf, T: Shelf>(
 
 /// The configured slices of a node in a world, where it has the network and the node is hosted there.
 fn slices_in<'a, S: Shelf>(journal: Option<&'a Journal<S>>, node: &NodeId) -> Option<&'a Nested>
-    ensures { option_map (λ q. q.now) result ≡ slices_of (hosts_in (option_map (λ j. j.now) journal.entry)) node.now }
+    ensures { option_map (λ q. q.now) result ≡ slices_of (nodes_in (option_map (λ j. j.now) journal.entry)) node.now }
 {
     match journal {
         None => None,

@@ -70,7 +70,7 @@ fn compare_journal<S: Shelf, T: Shelf>(
     if let Some(place) = first_difference(one, other, &members, slot) {
         return Ok(Verdict::InputsDiffer(place));
     }
-    let names = hosted_members(alloc, one.config().hosts(), &members)?;
+    let names = hosted_members(alloc, one.config().nodes(), &members)?;
     Ok(Verdict::Same(outs_of_each(alloc, one, slot, &names)?))
 }
 

@@ -26,15 +26,15 @@ struct EntryOf<'a, S: Shelf> {
 /// The hosted nodes that are members, in their order.
 pub fn hosted_members(
     alloc: Global,
-    hosts: &[HostedNode],
+    nodes: &[HostedNode],
     members: &ClosureList,
 ) -> Result<Vec<NodeId>, AllocError>
-    ensures { IfOk result (λ v. v.items ≡ hosted_in (among (names_of members.now)) hosts.now) }
+    ensures { IfOk result (λ v. v.items ≡ hosted_in (among (names_of members.now)) nodes.now) }
 {
     let mut names = Vec::new(alloc);
-    for host in hosts {
-        if members.has(host.name()) {
-            names.push(*host.name())?;
+    for hosted in nodes {
+        if members.has(hosted.name()) {
+            names.push(*hosted.name())?;
         }
     }
     Ok(names)

@@ -41,11 +41,11 @@ pub(crate) enum Said<'a> {
 
 impl<'a> Model for LentStatement<'a> {
     ghost use Rattle.types.specs.declared.statement.Statement.{Statement};
-    ghost use Rattle.types.specs.LentStatements.{stated};
+    ghost use Rattle.types.specs.LentStatements.{statement_of_said};
 
     ghost Value = { Statement };
 
-    ghost view = { λ s. stated s.said };
+    ghost view = { λ s. statement_of_said s.said };
 }
 
 impl<'a> LentStatement<'a> {

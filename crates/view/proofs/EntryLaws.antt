@@ -17,11 +17,11 @@ use Rattle.protocol.specs.Reach.{IsReach}
 use Rattle.protocol.specs.Rows.{row, with_row, is_row_of, is_kind}
 use Rattle.protocol.proofs.Statements.Offers.{row-with}
 use Rattle.compiled.specs.Places.{Compiled, Numbered}
-use Rattle.compiled.specs.Met.{IsCompiled, picked}
+use Rattle.compiled.specs.Met.{IsCompiled, nodes_at}
 use Rattle.compiled.specs.Searching.{AreCompiled, met_at}
 use Rattle.view.specs.declared.region.RegionEntry.{RegionEntry}
 use Rattle.view.specs.declared.region.Region.{Region}
-use Rattle.latest.specs.Places.{place_of}
+use Rattle.latest.specs.Places.{place_of_row}
 use Rattle.view.specs.Forms.{AreBelow, Fits, IsFoundWithin, MayJoin}
 use Rattle.view.specs.Regions.{IsCopy, IsEntry, IsRegion, forms_of, row_places}
 use Rattle.view.proofs.FormLaws.{agreed_set, below_more, below_set}
@@ -63,7 +63,7 @@ same_compiled : (own : ℕ) (configured : Slices) (table : List Sent) (e : Sent)
     → AreCompiled us (slices_by own configured table k) cs → AreCompiled us (slices_by own configured (with_row e table) k) cs
 same_compiled own configured table e k us cs others are = record {
   as_many = are.as_many;
-  each = λ i h ws. are.each i h ws ∙ ap (λ (o : Option Slices). is_satisfied sat o (among (picked us ws))) (slices_same own configured table e k (get_or us i 0) (others i h));
+  each = λ i h ws. are.each i h ws ∙ ap (λ (o : Option Slices). is_satisfied sat o (among (nodes_at us ws))) (slices_same own configured table e k (get_or us i 0) (others i h));
   agreed = are.agreed;
 }
 
@@ -88,14 +88,14 @@ set_compiled own configured table e k us cs p f up inside sender_is another kind
         ∙ (ap (slices_by own configured (with_row e table) k) sender_is ∙ slices_now own configured table e k another kind) in
         ap (λ j. met_at (get_or (set cs p (Some f)) j None) ws) is
         ∙ (ap (λ (o : Option Numbered). met_at o ws) (get_or-set_same cs p (Some f) None room)
-        ∙ (compiled ws ∙ sym (ap (λ (o : Option Slices). is_satisfied sat o (among (picked us ws))) now)))
+        ∙ (compiled ws ∙ sym (ap (λ (o : Option Slices). is_satisfied sat o (among (nodes_at us ws))) now)))
     | inr there ↦
         let other : i ≢ p = λ is. true≢false (sym (eq-eqb i p is) ∙ there) in
         let sender : (e.sender == get_or us i 0) ≡ false =
         ap (λ w. w == get_or us i 0) (sym sender_is) ∙ apart us p i up inside h (λ is. other (sym is)) in
         ap (λ (o : Option Numbered). met_at o ws) (get_or-set_other cs p i (Some f) None other)
         ∙ (are.each i h ws
-        ∙ ap (λ (o : Option Slices). is_satisfied sat o (among (picked us ws))) (slices_same own configured table e k (get_or us i 0) (inr (other_node k e (get_or us i 0) sender))))
+        ∙ ap (λ (o : Option Slices). is_satisfied sat o (among (nodes_at us ws))) (slices_same own configured table e k (get_or us i 0) (inr (other_node k e (get_or us i 0) sender))))
   ];
   agreed = agreed_set cs p f (omega (arith, inside, are.as_many)) fits are.agreed;
 }
@@ -119,7 +119,7 @@ module _ (table : List Sent) (e : Sent) (r : Region) (own : ℕ) (configured : S
     row_set : (k : Kind) → k ≡ kind_of e.body → set (row_places table k r.nodes.items) x.place x.row ≡ row_places (with_row e table) k r.nodes.items
     row_set k same =
         place_set table e k r.nodes.items x.place x.row entry.within entry.sender
-        (ap (λ j. place_of (with_row e table) e.sender j) same ∙ entry.row)
+        (ap (λ j. place_of_row (with_row e table) e.sender j) same ∙ entry.row)
         (λ i h other. other_node k e (get_or r.nodes.items i 0) (other_sender i h other))
 
     -- and those of the other kind
@@ -138,7 +138,7 @@ module _ (table : List Sent) (e : Sent) (r : Region) (own : ℕ) (configured : S
         → IsRegion own configured (with_row e table) (record r { ballots = v; ballot_rows = w; numbers = x.numbers; latest = x.place })
     ballot_set kind v now w row_now =
         let is_now = now (omega (arith, entry.within, is.ballots.as_many)) in
-        let row_is_now = row_now (omega (arith, entry.within, ap (λ (os : List (Option ℕ)). length os) is.ballot_rows, length-map r.nodes.items (λ u. place_of table u Kind.Ballot))) in
+        let row_is_now = row_now (omega (arith, entry.within, ap (λ (os : List (Option ℕ)). length os) is.ballot_rows, length-map r.nodes.items (λ u. place_of_row table u Kind.Ballot))) in
         let k : Kind.Ballot ≡ kind_of e.body = sym kind ∙ entry.kind in
         let room : x.place < length r.ballots.items = omega (arith, entry.within, is.ballots.as_many) in
         let joins : MayJoin r.nodes.items r.ballots.items x.numbers e.slices x.slices = joining Kind.Ballot k is.ballots is.ballot_numbers in
@@ -161,7 +161,7 @@ module _ (table : List Sent) (e : Sent) (r : Region) (own : ℕ) (configured : S
         → IsRegion own configured (with_row e table) (record r { nominations = v; nomination_rows = w; numbers = x.numbers; latest = x.place })
     nomination_set kind v now w row_now =
         let is_now = now (omega (arith, entry.within, is.nominations.as_many)) in
-        let row_is_now = row_now (omega (arith, entry.within, ap (λ (os : List (Option ℕ)). length os) is.nomination_rows, length-map r.nodes.items (λ u. place_of table u Nomination))) in
+        let row_is_now = row_now (omega (arith, entry.within, ap (λ (os : List (Option ℕ)). length os) is.nomination_rows, length-map r.nodes.items (λ u. place_of_row table u Nomination))) in
         let k : Nomination ≡ kind_of e.body = sym kind ∙ entry.kind in
         let room : x.place < length r.nominations.items = omega (arith, entry.within, is.nominations.as_many) in
         let joins : MayJoin r.nodes.items r.nominations.items x.numbers e.slices x.slices = joining Nomination k is.nominations is.nomination_numbers in

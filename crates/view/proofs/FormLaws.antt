@@ -9,7 +9,7 @@ use Rattle.protocol.specs.Sets.{AreWithin, among}
 use Rattle.protocol.specs.Satisfaction.{names, sat}
 use Rattle.protocol.specs.Quorums.{is_satisfied}
 use Rattle.compiled.specs.Places.{Numbered}
-use Rattle.compiled.specs.Met.{IsCompiled, picked}
+use Rattle.compiled.specs.Met.{IsCompiled, nodes_at}
 use Rattle.compiled.specs.Searching.{AreAgreed, AreCompiled, met_at}
 use Rattle.view.specs.Forms.{AreAllForms, AreBelow, ArePart, Fits, IsFormer, IsFound, IsFoundWithin, IsTwin, MayJoin}
 
@@ -18,11 +18,11 @@ same_form f g h = ap (λ (o : Option Numbered). unwrap_or o f) h
 
 module _ (us : List ℕ) (slices_at : ℕ → Option Slices) (fs : List (Option Numbered)) (q : Slices) (f : Numbered) where
   -- a form at a node with these slices is of them
-  twin_compiled : ((i : ℕ) → i < length fs → (ws : List ℕ) → met_at (get_or fs i None) ws ≡ is_satisfied sat (slices_at (get_or us i 0)) (among (picked us ws)))
+  twin_compiled : ((i : ℕ) → i < length fs → (ws : List ℕ) → met_at (get_or fs i None) ws ≡ is_satisfied sat (slices_at (get_or us i 0)) (among (nodes_at us ws)))
       → IsTwin us slices_at fs q f → IsCompiled false us q f.set
   twin_compiled each t ws =
       ap (λ (o : Option Numbered). met_at o ws) (sym t.there)
-      ∙ (each t.place t.inside ws ∙ ap (λ (o : Option Slices). is_satisfied sat o (among (picked us ws))) t.same)
+      ∙ (each t.place t.inside ws ∙ ap (λ (o : Option Slices). is_satisfied sat o (among (nodes_at us ws))) t.same)
 
   -- a form that was found may join the list
   pub found_joins : (n m : ℕ) → n < m → IsFound us slices_at fs n q f → AreCompiled us slices_at fs → AreBelow n fs → MayJoin us fs m q f
@@ -51,7 +51,7 @@ at_more (f ∷ fs) o zero g h = inl h
 at_more (f ∷ fs) o (suc i) g h = at_more fs o i g h
 
 module _ (us : List ℕ) (slices_at : ℕ → Option Slices) (fs : List (Option Numbered)) (part : ArePart us slices_at fs) where
-  part_more : (o : Option Numbered) → ((ws : List ℕ) → met_at o ws ≡ is_satisfied sat (slices_at (get_or us (length fs) 0)) (among (picked us ws)))
+  part_more : (o : Option Numbered) → ((ws : List ℕ) → met_at o ws ≡ is_satisfied sat (slices_at (get_or us (length fs) 0)) (among (nodes_at us ws)))
       → ((f : Numbered) → o ≡ Some f → Fits f fs × (f.number ≤ length fs)) → ArePart us slices_at (fs ++ o ∷ [])
   part_more o is joins = record {
     each = λ i h ws. elim (cases_lt i (length fs)) [
@@ -60,7 +60,7 @@ module _ (us : List ℕ) (slices_at : ℕ → Option Slices) (fs : List (Option 
           let last : i ≡ length fs = omega (arith, behind, h, length-append fs (o ∷ [])) in
           ap (λ n. met_at (get_or (fs ++ o ∷ []) n None) ws) last
           ∙ (ap (λ (p : Option Numbered). met_at p ws) (get_or-append_seam fs o [] None)
-          ∙ (is ws ∙ ap (λ n. is_satisfied sat (slices_at (get_or us n 0)) (among (picked us ws))) (sym last)))
+          ∙ (is ws ∙ ap (λ n. is_satisfied sat (slices_at (get_or us n 0)) (among (nodes_at us ws))) (sym last)))
     ];
     agreed = λ i j f g at_f at_g same. elim (at_more fs o i f at_f) [
       | inl old_f ↦ elim (at_more fs o j g at_g) [
@@ -87,7 +87,7 @@ module _ (us : List ℕ) (slices_at : ℕ → Option Slices) (fs : List (Option 
         | inr new ↦ (λ i g at same. absurd (omega (arith, part.below i g at, same, new.0, many)), omega (arith, new.0, many))
       ] in
       part_more (Some f)
-      (λ ws. own ws ∙ ap (λ (o : Option Slices). is_satisfied sat o (among (picked us ws))) (some ∙ ap (λ k. slices_at (get_or us k 0)) (sym many)))
+      (λ ws. own ws ∙ ap (λ (o : Option Slices). is_satisfied sat o (among (nodes_at us ws))) (some ∙ ap (λ k. slices_at (get_or us k 0)) (sym many)))
       (λ g is. subst_joins g (same_form f g is) joins)
     where
       subst_joins : (g : Numbered) → f ≡ g → Fits f fs × (f.number ≤ length fs) → Fits g fs × (g.number ≤ length fs)
@@ -97,7 +97,7 @@ module _ (us : List ℕ) (slices_at : ℕ → Option Slices) (fs : List (Option 
   pub part_none : (n : ℕ) → length fs ≡ n → None ≡ slices_at (get_or us n 0) → ArePart us slices_at (fs ++ None ∷ [])
   part_none n many none =
       part_more None
-      (λ ws. ap (λ (o : Option Slices). is_satisfied sat o (among (picked us ws))) (none ∙ ap (λ k. slices_at (get_or us k 0)) (sym many)))
+      (λ ws. ap (λ (o : Option Slices). is_satisfied sat o (among (nodes_at us ws))) (none ∙ ap (λ k. slices_at (get_or us k 0)) (sym many)))
       (λ f is. cc)
 
   -- and where all nodes have their forms, they are compiled
@@ -150,7 +150,7 @@ pub form_again : (all us places : List ℕ) (slices_at : ℕ → Option Slices) 
 form_again all us places slices_at fs sender former u q i f inside node other there its listed = (
   λ ws. ap (λ (o : Option Numbered). met_at o ws) (sym there)
       ∙ (former.forms i inside (λ same. other (sym node ∙ same)) ws
-      ∙ ap (λ (o : Option Slices). is_satisfied sat o (among (picked us ws))) (ap slices_at node ∙ its)),
+      ∙ ap (λ (o : Option Slices). is_satisfied sat o (among (nodes_at us ws))) (ap slices_at node ∙ its)),
   former.within u q (list_any_at (λ y. y == u) us i 0 inside (eq-eqb (get_or us i 0) u node)) other its,
   former.closed u q listed its,
 )

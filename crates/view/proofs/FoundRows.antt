@@ -8,7 +8,7 @@ use Rattle.types.specs.declared.kind.Kind.{Kind}
 use Rattle.types.specs.declared.statement.Statement.{Statement}
 use Rattle.types.specs.Statements.{Sent, kind_of}
 use Rattle.protocol.specs.Sets.{among}
-use Rattle.protocol.specs.Reach.{reached}
+use Rattle.protocol.specs.Reach.{reach_of}
 use Rattle.protocol.specs.Rows.{row, is_kind, is_row_of, has_single_rows}
 use Rattle.protocol.specs.Views.{others_reached, rows_seen}
 use Rattle.protocol.proofs.Sets.Contained.{contained_cases, contains_head, contains_tail}
@@ -56,7 +56,7 @@ said_from own (Some e) s h = go (own == e.sender) refl h
 said_to : (own : ℕ) (e : Sent) (o : Option Sent) → o ≡ Some e → (own == e.sender) ≡ false → said_by_another own o ≡ Some e.body
 said_to own e o is other = ap (said_by_another own) is ∙ ap (λ b. if b then None else Some e.body) other
 
-module _ (own : ℕ) (q : Slices) (table : List Sent) (reach : List ℕ) (exactly : (u : ℕ) → among reach u ≡ reached own q table u) (single : has_single_rows table ≡ true) where
+module _ (own : ℕ) (q : Slices) (table : List Sent) (reach : List ℕ) (exactly : (u : ℕ) → among reach u ≡ reach_of own q table u) (single : has_single_rows table ≡ true) where
   same_rows : (k : Kind) → AreSame (rows_of_others own k table reach) (rows_seen own q table k)
   unfolding rows_seen
   same_rows k s = (λ c. over c, λ c. back c)
@@ -75,8 +75,8 @@ module _ (own : ℕ) (q : Slices) (table : List Sent) (reach : List ℕ) (exactl
           let r = row_contained table f.0 k e b.1 in
           let p = is_row_of-parts f.0 k e (row_is table f.0 k e b.1) in
           let kind : is_kind k (kind_of e.body) ≡ true = subst (λ j. is_kind k j ≡ true) (sym p.1) (is_kind-itself k) in
-          let in_reach : reached own q table e.sender ≡ true = subst (λ u. reached own q table u ≡ true) (sym p.0) (sym (exactly f.0) ∙ among_from reach f.0 f.1) in
-          let other : others_reached own q table e.sender ≡ true = and_from (not (own == e.sender)) (reached own q table e.sender) (ap not b.2) in_reach in
+          let in_reach : reach_of own q table e.sender ≡ true = subst (λ u. reach_of own q table u ≡ true) (sym p.0) (sym (exactly f.0) ∙ among_from reach f.0 f.1) in
+          let other : others_reached own q table e.sender ≡ true = and_from (not (own == e.sender)) (reach_of own q table e.sender) (ap not b.2) in_reach in
           subst (λ t. Contains (map (λ (x : Sent). x.body) (filter is_seen table)) t) b.3
           (mapped_to (λ (x : Sent). x.body) (filter is_seen table) e
           (kept_to is_seen table e r.0 (and_from (is_kind k (kind_of e.body)) (others_reached own q table e.sender) kind other)))
@@ -86,7 +86,7 @@ module _ (own : ℕ) (q : Slices) (table : List Sent) (reach : List ℕ) (exactl
           let m = mapped_from (λ (e : Sent). e.body) (filter is_seen table) s c in
           let f = kept_from is_seen table m.0 m.1 in
           let p = and_parts (is_kind k (kind_of m.0.body)) (others_reached own q table m.0.sender) f.1 in
-          let o = and_parts (not (own == m.0.sender)) (reached own q table m.0.sender) p.1 in
+          let o = and_parts (not (own == m.0.sender)) (reach_of own q table m.0.sender) p.1 in
           let at : row table m.0.sender k ≡ Some m.0 = subst (λ j. row table m.0.sender j ≡ Some m.0) (sym (same_kind k (kind_of m.0.body) p.0)) (row_found table m.0 single f.0) in
           found_to found reach m.0.sender s (among_to reach m.0.sender (exactly m.0.sender ∙ o.1)) (said_to own m.0 (row table m.0.sender k) at (not-true (own == m.0.sender) o.0) ∙ ap Some m.2)
 

@@ -3,7 +3,7 @@ use Rattle.std.proofs.Common.{◌≡◌, ℕ, ◌<◌, List, Option, None, lengt
 use Rattle.std.proofs.lemmas.List.{get_or-map, length-map}
 use Rattle.types.specs.declared.kind.Kind.{Kind}
 use Rattle.types.specs.Statements.{Sent}
-use Rattle.latest.specs.Places.{place_of}
+use Rattle.latest.specs.Places.{place_of_row}
 use Rattle.protocol.specs.Rows.{row}
 use Rattle.view.specs.Regions.{row_places}
 use Rattle.view.specs.Watching.{ArePlaces, row_where}
@@ -12,7 +12,7 @@ use Rattle.view.proofs.PlaceLaws.{one_where, rows_where_placed}
 module _ (kind : Kind) (table : List Sent) (nodes : List ℕ) where
   -- there is a place for each node
   pub as_many : (places : List (Option ℕ)) → places ≡ row_places table kind nodes → length places ≡ length nodes
-  as_many places is = ap (λ (os : List (Option ℕ)). length os) is ∙ length-map nodes (λ u. place_of table u kind)
+  as_many places is = ap (λ (os : List (Option ℕ)). length os) is ∙ length-map nodes (λ u. place_of_row table u kind)
 
   -- what stands at a node's place is its row
   pub row_there : (places : List (Option ℕ)) (i : ℕ) (o : Option ℕ) → ArePlaces table kind nodes places → i < length places → o ≡ get_or places i None → row_where table o ≡ row table (get_or nodes i 0) kind
@@ -21,7 +21,7 @@ module _ (kind : Kind) (table : List Sent) (nodes : List ℕ) where
   -- where places of all are kept
   pub places_of_all : (places : List (Option ℕ)) → places ≡ row_places table kind nodes → ArePlaces table kind nodes places
   places_of_all places is i inside =
-      ap (λ (os : List (Option ℕ)). get_or os i None) is ∙ get_or-map (λ (u : ℕ). place_of table u kind) nodes i 0 None (subst (λ n. i < n) (as_many places is) inside)
+      ap (λ (os : List (Option ℕ)). get_or os i None) is ∙ get_or-map (λ (u : ℕ). place_of_row table u kind) nodes i 0 None (subst (λ n. i < n) (as_many places is) inside)
 
   -- and so is what was read there
   pub row_gathered : {X : Type 0} (f : X → Option Sent) (xs : List X) (d : X) (places : List (Option ℕ)) → map f xs ≡ map (row_where table) places → places ≡ row_places table kind nodes

@@ -12,10 +12,10 @@ use Rattle.protocol.specs.Reach.{IsReach}
 use Rattle.protocol.specs.Rows.{is_kind, with_row}
 use Rattle.protocol.specs.Satisfaction.{sat}
 use Rattle.protocol.specs.Sets.{among}
-use Rattle.compiled.specs.Met.{picked}
+use Rattle.compiled.specs.Met.{nodes_at}
 use Rattle.compiled.specs.Places.{Numbered}
 use Rattle.compiled.specs.Searching.{AreCompiled}
-use Rattle.latest.specs.Places.{place_of}
+use Rattle.latest.specs.Places.{place_of_row}
 use Rattle.latest.proofs.Placing.{place-of_others}
 use Rattle.closure.specs.Searching.{ArePlacesBut}
 use Rattle.view.specs.declared.region.Region.{Region}
@@ -28,7 +28,7 @@ places_but : (table : List Sent) (e : Sent) (k : Kind) (us : List ℕ) (places :
 places_but table e k us places are i h other =
     let u = get_or us i 0 in
     ap (λ (os : List (Option ℕ)). get_or os i None) are
-    ∙ (get_or-map (λ v. place_of table v k) us i 0 None h
+    ∙ (get_or-map (λ v. place_of_row table v k) us i 0 None h
     ∙ sym (place-of_others e table u k (ap (λ b. b && is_kind k (kind_of e.body)) (ne_eqb e.sender u (λ same. other (sym same))))))
 
 -- and their slices are compiled as they were
@@ -37,7 +37,7 @@ forms_but : (own : ℕ) (configured : Slices) (table : List Sent) (e : Sent) (k 
 forms_but own configured table e k us cs are i h other ws =
     let u = get_or us i 0 in
     let another = ap (λ b. b && is_kind k (kind_of e.body)) (ne_eqb e.sender u (λ same. other (sym same))) in
-    are.each i h ws ∙ ap (λ (o : Option Slices). is_satisfied sat o (among (picked us ws))) (slices_same own configured table e k u (inr another))
+    are.each i h ws ∙ ap (λ (o : Option Slices). is_satisfied sat o (among (nodes_at us ws))) (slices_same own configured table e k u (inr another))
 
 -- and name none but reached nodes
 names_but : (own : ℕ) (configured : Slices) (table : List Sent) (e : Sent) (k : Kind) (us : List ℕ) → IsReach own configured table us → NameWithinBut e.sender us (slices_by own configured (with_row e table) k)

@@ -6,7 +6,7 @@ use Rattle.types.specs.declared.kind.Kind.{Kind}
 use Rattle.types.specs.declared.kind.Kind.TheVariants.{Nomination}
 use Rattle.types.specs.Statements.{Sent, kind_of}
 use Rattle.protocol.specs.Rows.{is_row_of, row, with_row}
-use Rattle.latest.specs.Places.{place_of}
+use Rattle.latest.specs.Places.{place_of_row}
 use Rattle.latest.specs.declared.places.RowPlaces.{RowPlaces}
 use Rattle.protocol.proofs.Statements.Offers.{is_row_of-own}
 use Rattle.latest.proofs.Placing.{place-of_others, place-of_replaced, row-at_place}
@@ -16,14 +16,14 @@ use Rattle.view.specs.Watching.{row_where, rows_at}
 use Rattle.view.specs.declared.region.KindPlaces.{KindPlaces}
 
 -- what stands at the place of a row is the row
-pub one_where : (table : List Sent) (u : ℕ) (k : Kind) (o : Option ℕ) → place_of table u k ≡ o → row_where table o ≡ row table u k
+pub one_where : (table : List Sent) (u : ℕ) (k : Kind) (o : Option ℕ) → place_of_row table u k ≡ o → row_where table o ≡ row table u k
 one_where table u k None is = sym (row-nowhere table u k is)
 one_where table u k (Some i) is = row-at_place table u k i is
 
 -- and so for all nodes
 pub rows_where_placed : (table : List Sent) (k : Kind) (us : List ℕ) → map (row_where table) (row_places table k us) ≡ rows_at k table us
 rows_where_placed table k [] = refl
-rows_where_placed table k (u ∷ us) = ap₂ (λ x xs. x ∷ xs) (one_where table u k (place_of table u k) refl) (rows_where_placed table k us)
+rows_where_placed table k (u ∷ us) = ap₂ (λ x xs. x ∷ xs) (one_where table u k (place_of_row table u k) refl) (rows_where_placed table k us)
 
 -- the place of one node more
 place_more : (f : ℕ → Option ℕ) (us : List ℕ) (i u : ℕ) (o : Option ℕ) (xs ys : List (Option ℕ)) → i < length us → u ≡ get_or us i u → o ≡ f u → ys ≡ xs ++ o ∷ []
@@ -47,18 +47,18 @@ pub record AreSoFar (table : List Sent) (us : List ℕ) (i : ℕ) (found : KindP
 
 module _ (table : List Sent) (us : List ℕ) (i : ℕ) (found : KindPlaces) (so_far : AreSoFar table us i found) where
   -- those of one node more
-  pub both_more : (u : ℕ) (places : RowPlaces) (now : KindPlaces) → i < length us → u ≡ get_or us i u → places.ballot ≡ place_of table u Kind.Ballot → places.nomination ≡ place_of table u Nomination
+  pub both_more : (u : ℕ) (places : RowPlaces) (now : KindPlaces) → i < length us → u ≡ get_or us i u → places.ballot ≡ place_of_row table u Kind.Ballot → places.nomination ≡ place_of_row table u Nomination
       → now.ballots.items ≡ found.ballots.items ++ places.ballot ∷ [] → now.nominations.items ≡ found.nominations.items ++ places.nomination ∷ [] → AreSoFar table us (i + 1) now
   both_more u places now within at ballot nomination ballots nominations = record {
-    ballots = place_more (λ w. place_of table w Kind.Ballot) us i u places.ballot found.ballots.items now.ballots.items within at ballot ballots so_far.ballots;
-    nominations = place_more (λ w. place_of table w Nomination) us i u places.nomination found.nominations.items now.nominations.items within at nomination nominations so_far.nominations;
+    ballots = place_more (λ w. place_of_row table w Kind.Ballot) us i u places.ballot found.ballots.items now.ballots.items within at ballot ballots so_far.ballots;
+    nominations = place_more (λ w. place_of_row table w Nomination) us i u places.nomination found.nominations.items now.nominations.items within at nomination nominations so_far.nominations;
   }
 
   -- those of all, where none is left
   pub both_all : length us ≤ i → AreRowPlaces table us found
   both_all done = record {
-    ballots = places_all (λ w. place_of table w Kind.Ballot) us i found.ballots.items done so_far.ballots;
-    nominations = places_all (λ w. place_of table w Nomination) us i found.nominations.items done so_far.nominations;
+    ballots = places_all (λ w. place_of_row table w Kind.Ballot) us i found.ballots.items done so_far.ballots;
+    nominations = places_all (λ w. place_of_row table w Nomination) us i found.nominations.items done so_far.nominations;
   }
 
 -- lists that are the same place by place
@@ -72,7 +72,7 @@ same_lists d (x ∷ xs) (y ∷ ys) l h = ap₂ (λ z zs. z ∷ zs) (h 0 (omega a
 abbrev pub LeavesPlace : List Sent → Sent → Kind → ℕ → Type 0
 LeavesPlace table e k u = (is_row_of u k e ≡ false) ⊎ ((r : Sent) × (row table u k ≡ Some r))
 
-place_kept : (table : List Sent) (e : Sent) (k : Kind) (u : ℕ) → LeavesPlace table e k u → place_of (with_row e table) u k ≡ place_of table u k
+place_kept : (table : List Sent) (e : Sent) (k : Kind) (u : ℕ) → LeavesPlace table e k u → place_of_row (with_row e table) u k ≡ place_of_row table u k
 place_kept table e k u (inl other) = place-of_others e table u k other
 place_kept table e k u (inr there) = elim (cases_Bool (is_row_of u k e)) [
   | inl its ↦ place-of_replaced e table u k there.0 there.1 its
@@ -84,33 +84,33 @@ places_kept table e k [] leaves = refl
 places_kept table e k (u ∷ us) leaves = ap₂ (λ x xs. x ∷ xs) (sym (place_kept table e k u (leaves 0 (omega arith)))) (places_kept table e k us (λ i within. leaves (suc i) (omega (arith, within))))
 
 -- a row that comes stands in the place of the one before it, or behind all others
-stands_at : (e : Sent) (table : List Sent) → place_of (with_row e table) e.sender (kind_of e.body) ≡ Some (unwrap_or (place_of table e.sender (kind_of e.body)) (length table))
+stands_at : (e : Sent) (table : List Sent) → place_of_row (with_row e table) e.sender (kind_of e.body) ≡ Some (unwrap_or (place_of_row table e.sender (kind_of e.body)) (length table))
 unfolding with_row
 stands_at e [] = rw (is_row_of-own e) refl
-stands_at e (x ∷ xs) = go (is_row_of e.sender (kind_of e.body) x) refl (place_of xs e.sender (kind_of e.body)) (stands_at e xs)
+stands_at e (x ∷ xs) = go (is_row_of e.sender (kind_of e.body) x) refl (place_of_row xs e.sender (kind_of e.body)) (stands_at e xs)
   where
     later : (o : Option ℕ) → suc (unwrap_or o (length xs)) ≡ unwrap_or (option_map suc o) (suc (length xs))
     later None = refl
     later (Some i) = refl
 
-    go : (b : Bool) → is_row_of e.sender (kind_of e.body) x ≡ b → (o : Option ℕ) → place_of (with_row e xs) e.sender (kind_of e.body) ≡ Some (unwrap_or o (length xs))
-        → place_of (if b then e ∷ xs else x ∷ with_row e xs) e.sender (kind_of e.body) ≡ Some (unwrap_or (cond b (Some 0) (option_map suc o)) (suc (length xs)))
+    go : (b : Bool) → is_row_of e.sender (kind_of e.body) x ≡ b → (o : Option ℕ) → place_of_row (with_row e xs) e.sender (kind_of e.body) ≡ Some (unwrap_or o (length xs))
+        → place_of_row (if b then e ∷ xs else x ∷ with_row e xs) e.sender (kind_of e.body) ≡ Some (unwrap_or (cond b (Some 0) (option_map suc o)) (suc (length xs)))
     go true its o ih = rw (is_row_of-own e) refl
     go false its o ih = rw its (ap (option_map suc) ih ∙ ap Some (later o))
 
 -- as the code reads it
-pub stands_behind : (e : Sent) (table : List Sent) → None ≡ place_of table e.sender (kind_of e.body) → place_of (with_row e table) e.sender (kind_of e.body) ≡ Some (length table)
+pub stands_behind : (e : Sent) (table : List Sent) → None ≡ place_of_row table e.sender (kind_of e.body) → place_of_row (with_row e table) e.sender (kind_of e.body) ≡ Some (length table)
 stands_behind e table none = stands_at e table ∙ ap (λ o. Some (unwrap_or o (length table))) (sym none)
 
-pub stands_there : (e : Sent) (table : List Sent) (i : ℕ) → Some i ≡ place_of table e.sender (kind_of e.body) → place_of (with_row e table) e.sender (kind_of e.body) ≡ Some i
+pub stands_there : (e : Sent) (table : List Sent) (i : ℕ) → Some i ≡ place_of_row table e.sender (kind_of e.body) → place_of_row (with_row e table) e.sender (kind_of e.body) ≡ Some i
 stands_there e table i there = stands_at e table ∙ ap (λ o. Some (unwrap_or o (length table))) (sym there)
 
 -- where the row of one node then stands, while those of all others keep their places
-pub place_set : (table : List Sent) (e : Sent) (k : Kind) (us : List ℕ) (p : ℕ) (n : Option ℕ) → p < length us → get_or us p 0 ≡ e.sender → place_of (with_row e table) e.sender k ≡ n
+pub place_set : (table : List Sent) (e : Sent) (k : Kind) (us : List ℕ) (p : ℕ) (n : Option ℕ) → p < length us → get_or us p 0 ≡ e.sender → place_of_row (with_row e table) e.sender k ≡ n
     → ((i : ℕ) → i < length us → i ≢ p → is_row_of (get_or us i 0) k e ≡ false) → set (row_places table k us) p n ≡ row_places (with_row e table) k us
 place_set table e k us p n within sender stands others =
-    let old = λ (u : ℕ). place_of table u k in
-    let new = λ (u : ℕ). place_of (with_row e table) u k in
+    let old = λ (u : ℕ). place_of_row table u k in
+    let new = λ (u : ℕ). place_of_row (with_row e table) u k in
     same_lists None (set (map old us) p n) (map new us) (length-set (map old us) p n ∙ length-map us old ∙ sym (length-map us new))
     (λ i inside.
     let here : i < length us = omega (arith, inside, length-set (map old us) p n, length-map us old) in

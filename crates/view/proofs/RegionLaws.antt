@@ -26,7 +26,7 @@ use Rattle.closure.specs.Keeping.KeepsReach.{stranger, same_slices}
 use Rattle.view.proofs.QuorumLaws.{from_all, quorum_of_all}
 use Rattle.compiled.specs.Asking.{ArePassing}
 use Rattle.compiled.specs.Places.{bit_of, Numbered}
-use Rattle.compiled.specs.Met.{met, picked, picked_from, one_where}
+use Rattle.compiled.specs.Met.{has_needed, nodes_at, nodes_at_from, one_where}
 use Rattle.compiled.specs.Searching.{AreCompiled, met_at}
 use Rattle.view.specs.declared.region.Region.{Region}
 use Rattle.view.specs.Regions.{IsRegion, row_places}
@@ -49,7 +49,7 @@ pub one_is : (b : Bool) → (one_where b == 1) ≡ b
 one_is true = refl
 one_is false = refl
 
-filter_from : (us : List ℕ) (j : ℕ) (ws : List ℕ) (p : Names) → ((i : ℕ) → i < length us → bit_of ws (j + i) ≡ one_where (p (get_or us i 0))) → picked_from j us ws ≡ filter p us
+filter_from : (us : List ℕ) (j : ℕ) (ws : List ℕ) (p : Names) → ((i : ℕ) → i < length us → bit_of ws (j + i) ≡ one_where (p (get_or us i 0))) → nodes_at_from j us ws ≡ filter p us
 filter_from [] j ws p h = refl
 filter_from (u ∷ us) j ws p h =
     let first : (bit_of ws j == 1) ≡ p u = ap (λ n. bit_of ws n == 1) (omega arith) ∙ (ap (λ d. d == 1) (h 0 (omega arith)) ∙ one_is (p u)) in
@@ -57,25 +57,25 @@ filter_from (u ∷ us) j ws p h =
     λ i. cond (first i) (u ∷ rest i) (rest i)
 
 -- the nodes at the places are those of the set
-pub picked_is : (us ws : List ℕ) (p : Names) → AreBits us ws p → picked us ws ≡ filter p us
+pub picked_is : (us ws : List ℕ) (p : Names) → AreBits us ws p → nodes_at us ws ≡ filter p us
 picked_is us ws p h = filter_from us 0 ws p (λ i l. ap (bit_of ws) (omega arith) ∙ h i l)
 
 module _ (own : ℕ) (configured : Slices) (table : List Sent) (r : Region) (is : IsRegion own configured table r) where
   -- a quorum over places is one among all who pass
   pub quorum_found : (kind : Kind) (cs : List (Option Numbered)) → AreCompiled r.nodes.items (slices_by own configured table kind) cs
       → (ws : List ℕ) (p : Names) → AreBits r.nodes.items ws p → (b : Bool)
-      → ((us : List ℕ) (slices_at : ℕ → Option Slices) → IsAscending us → AreCompiled us slices_at cs → IsTrue b ↔ HasQuorum sat slices_at (among (picked us ws)) (get_or us r.place 0))
+      → ((us : List ℕ) (slices_at : ℕ → Option Slices) → IsAscending us → AreCompiled us slices_at cs → IsTrue b ↔ HasQuorum sat slices_at (among (nodes_at us ws)) (get_or us r.place 0))
       → IsTrue b ↔ HasQuorum sat (slices_by own configured table kind) p own
   quorum_found kind cs compiled ws p bits b found =
       let us = r.nodes.items in
       let slices_at = slices_by own configured table kind in
       let over_places = found us slices_at is.reach.ascending compiled in
       let among_reached = subst (λ (vs : List ℕ). IsTrue b ↔ HasQuorum sat slices_at (among vs) own) (picked_is us ws p bits)
-      (subst (λ v. IsTrue b ↔ HasQuorum sat slices_at (among (picked us ws)) v) is.itself over_places) in
+      (subst (λ v. IsTrue b ↔ HasQuorum sat slices_at (among (nodes_at us ws)) v) is.itself over_places) in
       quorum_of_all sat names slices_at sat_local p us (is.reach.closed kind) own (itself_reached own configured table us is.reach.exactly) b among_reached
 
 -- whoever is reached is at a place of the set where it is one of them
-picked_where : (us ws : List ℕ) (p : Names) (u : ℕ) → AreBits us ws p → among us u ≡ true → among (picked us ws) u ≡ p u
+picked_where : (us ws : List ℕ) (p : Names) (u : ℕ) → AreBits us ws p → among us u ≡ true → among (nodes_at us ws) u ≡ p u
 picked_where us ws p u bits reached = ap (λ (vs : List ℕ). among vs u) (picked_is us ws p bits) ∙ go (p u) refl
   where
     go : (b : Bool) → p u ≡ b → among (filter p us) u ≡ b
@@ -84,10 +84,10 @@ picked_where us ws p u bits reached = ap (λ (vs : List ℕ). among vs u) (picke
 
 module _ (own : ℕ) (configured : Slices) (table : List Sent) (r : Region) (is : IsRegion own configured table r) where
   -- places of all who pass meet what blocks where these block
-  blocking_found : (ws : List ℕ) (p : Names) → AreBits r.nodes.items ws p → met r.blocking ws ≡ is_blocked configured p
+  blocking_found : (ws : List ℕ) (p : Names) → AreBits r.nodes.items ws p → has_needed r.blocking ws ≡ is_blocked configured p
   blocking_found ws p bits =
       let us = r.nodes.items in
-      is.blocking ws ∙ is_blocked-local configured (among (picked us ws)) p (λ u named. picked_where us ws p u bits (is.reach.exactly u ∙ names_reached own configured table u named))
+      is.blocking ws ∙ is_blocked-local configured (among (nodes_at us ws)) p (λ u named. picked_where us ws p u bits (is.reach.exactly u ∙ names_reached own configured table u named))
 
   -- where those who pass do not satisfy the node's slices, no quorum that contains it all passes
   none_unsatisfied : (kind : Kind) (cs : List (Option Numbered)) → AreCompiled r.nodes.items (slices_by own configured table kind) cs
@@ -116,7 +116,7 @@ module _ (own : ℕ) (configured : Slices) (table : List Sent) (r : Region) (is 
         )
 
     -- they block the node's slices where they meet what blocks these
-    pub blocking_asked : (b : Bool) → ((ws : List ℕ) → ArePassing (passes_within k a.place a.passes test) ws → b ≡ met r.blocking ws) → b ≡ is_blocked configured (passing_with own table kind own_passes test)
+    pub blocking_asked : (b : Bool) → ((ws : List ℕ) → ArePassing (passes_within k a.place a.passes test) ws → b ≡ has_needed r.blocking ws) → b ≡ is_blocked configured (passing_with own table kind own_passes test)
     blocking_asked b asked = asked supporting_words.0 supporting_words.1 ∙ blocking_found supporting_words.0 (passing_with own table kind own_passes test) supporting_words.2
 
     -- and where they do not meet its own form, no quorum that contains it all passes
@@ -158,7 +158,7 @@ compiled_stay us table e keeps own configured k cs are = record {
   each = λ i h ws.
       let u = get_or us i 0 in
       let inside : among us u ≡ true = list_any_at (λ y. y == u) us i 0 h (eq-eqb u u refl) in
-      are.each i h ws ∙ ap (λ (o : Option Slices). is_satisfied sat o (among (picked us ws))) (slices_stay us table e keeps own configured k u inside);
+      are.each i h ws ∙ ap (λ (o : Option Slices). is_satisfied sat o (among (nodes_at us ws))) (slices_stay us table e keeps own configured k u inside);
   agreed = are.agreed;
 }
 

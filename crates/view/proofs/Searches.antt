@@ -5,7 +5,7 @@ use Rattle.std.proofs.Math.Seq.{drop-cons}
 use Rattle.std.proofs.lemmas.List.{append-nil, drop_all}
 use Rattle.types.specs.declared.ballot.Ballot.{Ballot}
 use Rattle.types.specs.declared.statement.Statement.{Statement}
-use Rattle.fedvote.specs.Searching.{bettered, counter_by, lesser, least_above, next_counter}
+use Rattle.fedvote.specs.Searching.{better_under, counter_by, lesser, least_above, next_counter}
 use Rattle.fedvote.proofs.Bettering.{bettered_append, bettered_none}
 use Rattle.view.specs.Watching.{lesser_of}
 
@@ -53,35 +53,35 @@ one_lesser_if least n (Some s) ss = one_lesser least n s ss
 
 -- ---- the best ballot
 -- what nobody says names none
-pub nothing_said : (best bound : Option Ballot) → best ≡ bettered best bound []
+pub nothing_said : (best bound : Option Ballot) → best ≡ better_under best bound []
 nothing_said best bound = sym (bettered_none best bound)
 
 -- what one statement names
-pub one_named : (best bound : Option Ballot) (o : Option Ballot) (ts : List Ballot) → o ≡ bettered best bound ts → o ≡ bettered best bound (ts ++ [])
-one_named best bound o ts is = is ∙ ap (bettered best bound) (sym (append-nil ts))
+pub one_named : (best bound : Option Ballot) (o : Option Ballot) (ts : List Ballot) → o ≡ better_under best bound ts → o ≡ better_under best bound (ts ++ [])
+one_named best bound o ts is = is ∙ ap (better_under best bound) (sym (append-nil ts))
 
 -- what one says, if it does, and then the others
 best_then : (by : Statement → List Ballot) (best bound : Option Ballot) (o : Option Statement) (ss : List Statement)
-    → bettered (bettered best bound (flat_map by (option_to_list o))) bound (flat_map by ss) ≡ bettered best bound (flat_map by (cons_option o ss))
-best_then by best bound None ss = ap (λ (o : Option Ballot). bettered o bound (flat_map by ss)) (bettered_none best bound)
+    → better_under (better_under best bound (flat_map by (option_to_list o))) bound (flat_map by ss) ≡ better_under best bound (flat_map by (cons_option o ss))
+best_then by best bound None ss = ap (λ (o : Option Ballot). better_under o bound (flat_map by ss)) (bettered_none best bound)
 best_then by best bound (Some s) ss =
-    ap (λ (ts : List Ballot). bettered (bettered best bound ts) bound (flat_map by ss)) (append-nil (by s)) ∙ bettered_append best bound (by s) (flat_map by ss)
+    ap (λ (ts : List Ballot). better_under (better_under best bound ts) bound (flat_map by ss)) (append-nil (by s)) ∙ bettered_append best bound (by s) (flat_map by ss)
 
 module _ (said : ℕ → Option Statement) (us : List ℕ) (i : ℕ) where
   -- one step of the search for the best ballot among what the nodes say
-  pub best_goes_on : (by : Statement → List Ballot) (best bound after all : Option Ballot) → i < length us → after ≡ bettered best bound (flat_map by (option_to_list (said (get_or us i 0))))
-      → bettered best bound (flat_map by (filter_map said (drop i us))) ≡ all → bettered after bound (flat_map by (filter_map said (drop (i + 1) us))) ≡ all
+  pub best_goes_on : (by : Statement → List Ballot) (best bound after all : Option Ballot) → i < length us → after ≡ better_under best bound (flat_map by (option_to_list (said (get_or us i 0))))
+      → better_under best bound (flat_map by (filter_map said (drop i us))) ≡ all → better_under after bound (flat_map by (filter_map said (drop (i + 1) us))) ≡ all
   best_goes_on by best bound after all within is so_far =
       let next : drop i us ≡ get_or us i 0 ∷ drop (i + 1) us = rw add-one (drop-cons us i 0 within) in
-      ap (λ (o : Option Ballot). bettered o bound (flat_map by (filter_map said (drop (i + 1) us)))) is
+      ap (λ (o : Option Ballot). better_under o bound (flat_map by (filter_map said (drop (i + 1) us)))) is
       ∙ best_then by best bound (said (get_or us i 0)) (filter_map said (drop (i + 1) us))
-      ∙ ap (λ (ws : List ℕ). bettered best bound (flat_map by (filter_map said ws))) (sym next)
+      ∙ ap (λ (ws : List ℕ). better_under best bound (flat_map by (filter_map said ws))) (sym next)
       ∙ so_far
 
   -- its end
-  pub best_ends : (by : Statement → List Ballot) (best bound all : Option Ballot) → length us ≤ i → bettered best bound (flat_map by (filter_map said (drop i us))) ≡ all → best ≡ all
+  pub best_ends : (by : Statement → List Ballot) (best bound all : Option Ballot) → length us ≤ i → better_under best bound (flat_map by (filter_map said (drop i us))) ≡ all → best ≡ all
   best_ends by best bound all end so_far =
-      sym (bettered_none best bound) ∙ ap (λ (ws : List ℕ). bettered best bound (flat_map by (filter_map said ws))) (sym (drop_all i us end)) ∙ so_far
+      sym (bettered_none best bound) ∙ ap (λ (ws : List ℕ). better_under best bound (flat_map by (filter_map said ws))) (sym (drop_all i us end)) ∙ so_far
 
   -- one step of the search for the least counter among what the nodes say
   pub least_goes_on : (least : Option ℕ) (n : ℕ) (after all : Option ℕ) → i < length us → after ≡ lesser_of least (next_counter n (option_to_list (said (get_or us i 0))))

@@ -10,7 +10,7 @@ use Rattle.protocol.specs.Sets.{among}
 use Rattle.protocol.specs.Satisfaction.{sat}
 use Rattle.protocol.specs.Quorums.{HasQuorum}
 use Rattle.protocol.specs.Backing.{slices_by}
-use Rattle.protocol.specs.Reach.{reached}
+use Rattle.protocol.specs.Reach.{reach_of}
 use Rattle.protocol.specs.Views.{rows_seen, led_by, passing_with, quorum_passes, seen}
 use Rattle.protocol.proofs.Balloting.FairSight.{seen-fair}
 use Rattle.protocol.proofs.Slices.Quorums.{has_quorum-from, has_quorum-found}
@@ -35,7 +35,7 @@ unfolding led_by
 leaders_rows leaders table = refl
 
 -- the node is in its own reach
-pub itself_reached : (own : ℕ) (q : Slices) (table : List Sent) (reach : List ℕ) → ((u : ℕ) → among reach u ≡ reached own q table u) → IsTrue (among reach own)
+pub itself_reached : (own : ℕ) (q : Slices) (table : List Sent) (reach : List ℕ) → ((u : ℕ) → among reach u ≡ reach_of own q table u) → IsTrue (among reach own)
 itself_reached own q table reach exactly = exactly own ∙ (reach_least own q table).holds.itself
 
 -- no quorum passes where the node's own position does not

@@ -5,7 +5,7 @@ use Rattle.protocol.specs.Sets.{AreWithin, among, within}
 use Rattle.protocol.specs.Satisfaction.{names, sat}
 use Rattle.protocol.specs.Quorums.{NamesWithin, is_satisfied}
 use Rattle.compiled.specs.Places.{Numbered}
-use Rattle.compiled.specs.Met.{IsCompiled, picked}
+use Rattle.compiled.specs.Met.{IsCompiled, nodes_at}
 use Rattle.compiled.specs.Moving.{AreMoved}
 use Rattle.compiled.specs.Searching.{AreAgreed, AreCompiled, met_at}
 use Rattle.view.specs.declared.forms.Former.{Former}
@@ -26,7 +26,7 @@ Fits f fs = (i : ℕ) (g : Numbered) → get_or fs i None ≡ Some g → g.numbe
 -- the first of these nodes have these forms, of their slices, and each number is below how many there are
 pub record ArePart (us : List ℕ) (slices_at : ℕ → Option Slices) (fs : List (Option Numbered)) : Type 0 where
   pub each : (i : ℕ) → i < length fs → (ws : List ℕ)
-      → met_at (get_or fs i None) ws ≡ is_satisfied sat (slices_at (get_or us i 0)) (among (picked us ws))
+      → met_at (get_or fs i None) ws ≡ is_satisfied sat (slices_at (get_or us i 0)) (among (nodes_at us ws))
   pub agreed : AreAgreed fs
   pub below : AreBelow (length fs) fs
 
@@ -59,7 +59,7 @@ pub record MayJoin (us : List ℕ) (fs : List (Option Numbered)) (n : ℕ) (q : 
 abbrev pub AreFormsBut : ℕ → List ℕ → (ℕ → Option Slices) → List (Option Numbered) → Type 0
 AreFormsBut sender us slices_at fs =
     (i : ℕ) → i < length us → get_or us i 0 ≢ sender → (ws : List ℕ)
-    → met_at (get_or fs i None) ws ≡ is_satisfied sat (slices_at (get_or us i 0)) (among (picked us ws))
+    → met_at (get_or fs i None) ws ≡ is_satisfied sat (slices_at (get_or us i 0)) (among (nodes_at us ws))
 
 -- the slices of these nodes, but for one of them, name no others
 abbrev pub NameWithinBut : ℕ → List ℕ → (ℕ → Option Slices) → Type 0

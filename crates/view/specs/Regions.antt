@@ -14,7 +14,7 @@ use Rattle.compiled.specs.Met.{IsCompiled}
 use Rattle.compiled.specs.Places.{Numbered}
 use Rattle.compiled.specs.Searching.{AreCompiled}
 use Rattle.view.specs.Forms.{AreBelow, AreFormsBut, IsFormer, MayJoin, NameWithinBut}
-use Rattle.latest.specs.Places.{place_of}
+use Rattle.latest.specs.Places.{place_of_row}
 use Rattle.view.specs.declared.changing.Extent.{Extent}
 use Rattle.view.specs.declared.changing.Extent.TheVariants.{Wider, Other}
 use Rattle.view.specs.declared.region.Change.{Change}
@@ -27,7 +27,7 @@ use Rattle.view.specs.declared.region.Region.{Region}
 
 -- where the rows of a kind that these nodes have stand in a table, in the order of the nodes
 abbrev pub row_places : List Sent → Kind → List ℕ → List (Option ℕ)
-row_places table kind nodes = map (λ u. place_of table u kind) nodes
+row_places table kind nodes = map (λ u. place_of_row table u kind) nodes
 
 -- the places of a kind
 abbrev pub places_of_kind : Kind → KindPlaces → List (Option ℕ)
@@ -92,7 +92,7 @@ pub record IsEntry (own : ℕ) (configured : Slices) (table : List Sent) (e : Se
   pub form : AreCompiled r.nodes.items (slices_by own configured table (kind_of e.body)) (forms_of (kind_of e.body) r)
       → AreBelow r.numbers (forms_of (kind_of e.body) r)
       → MayJoin r.nodes.items (forms_of (kind_of e.body) r) x.numbers e.slices x.slices
-  pub row : place_of (with_row e table) e.sender (kind_of e.body) ≡ x.row
+  pub row : place_of_row (with_row e table) e.sender (kind_of e.body) ≡ x.row
 
 -- The region of an earlier table, of which the rows of one reached node may be others since: the slices of the other
 -- nodes are compiled, and name no other nodes, and the places of their rows are kept.

@@ -3,7 +3,7 @@ use Rattle.std.specs.Prelude.{◌≡◌, ℕ, ◌<◌, ◌==◌, ◌&&◌, List,
 use Rattle.types.specs.declared.kind.Kind.{Kind}
 use Rattle.types.specs.declared.statement.Statement.{Statement}
 use Rattle.types.specs.Statements.{Sent}
-use Rattle.latest.specs.Places.{place_of}
+use Rattle.latest.specs.Places.{place_of_row}
 use Rattle.protocol.specs.Rows.{row}
 use Rattle.protocol.specs.Candidates.{as_set, values_by}
 use Rattle.protocol.specs.Views.{passing_with}
@@ -18,7 +18,7 @@ pub record RowsOfNodes : Type 0 where
 -- the first of these nodes, of whom places are kept, have their rows of a kind there
 abbrev pub ArePlaces : List Sent → Kind → List ℕ → List (Option ℕ) → Type 0
 ArePlaces table kind nodes places =
-    (i : ℕ) → i < length places → get_or places i None ≡ place_of table (get_or nodes i 0) kind
+    (i : ℕ) → i < length places → get_or places i None ≡ place_of_row table (get_or nodes i 0) kind
 
 -- the rows of a kind that these nodes have, in the order of the nodes: nothing for a node without one
 abbrev pub rows_at : Kind → List Sent → List ℕ → List (Option Sent)

@@ -7,7 +7,7 @@ ghost use Rattle.protocol.specs.Reach.{IsReach};
 ghost use Rattle.protocol.specs.Sets.{IsAscending, among};
 ghost use Rattle.compiled.specs.Moving.{AreMoved};
 ghost use Rattle.closure.specs.Searching.{ArePlacesBut};
-ghost use Rattle.latest.specs.Places.{place_of};
+ghost use Rattle.latest.specs.Places.{place_of_row};
 ghost use Rattle.view.specs.Regions.{AreRowPlaces, IsKeptRegion, IsOfExtent, IsPlaced, IsRegion};
 
 use crate::own::Own;
@@ -166,8 +166,8 @@ fn places_of<S: Places>(
     requires known_ballots { ArePlacesBut sender.now table.now Kind.Ballot region.now.nodes.items region.now.ballot_rows.items }
     requires known_nominations { ArePlacesBut sender.now table.now Nomination region.now.nodes.items region.now.nomination_rows.items }
     requires place { IfSome place (λ i. (i < length region.now.nodes.items) × (get_or region.now.nodes.items i 0 ≡ node.now)) }
-    ensures ballot { result.ballot ≡ place_of table.now node.now Kind.Ballot }
-    ensures nomination { result.nomination ≡ place_of table.now node.now Nomination }
+    ensures ballot { result.ballot ≡ place_of_row table.now node.now Kind.Ballot }
+    ensures nomination { result.nomination ≡ place_of_row table.now node.now Nomination }
 {
     let Some(place) = place else {
         return table.places(node);

@@ -9,7 +9,7 @@ ghost use Rattle.protocol.specs.Backing.{slices_by};
 ghost use Rattle.protocol.specs.Rows.{with_row};
 ghost use Rattle.protocol.specs.Sets.{IsAscending, among};
 ghost use Rattle.compiled.specs.Searching.{AreCompiled};
-ghost use Rattle.latest.specs.Places.{place_of};
+ghost use Rattle.latest.specs.Places.{place_of_row};
 ghost use Rattle.view.specs.Forms.{AreAllForms, IsFormerOf, IsFoundWithin};
 ghost use Rattle.view.specs.Regions.{AreRowPlaces, IsChange, IsCopy, IsEntry, IsFormerRegion, IsPlaced, IsRegion, forms_of, places_of_kind, row_places, rows_of};
 
@@ -18,7 +18,7 @@ use crate::forms::{Candidates, Former, SlicesInReach};
 use crate::own::Own;
 use crate::reached::ReachedRows;
 use closure::{drops_none, keeps_reach, reach};
-use compiled::{CompiledSet, Form, compile, place_of};
+use compiled::{CompiledSet, Form, compile, node_place};
 use envstore::Places;
 use latest::{RowPlace, RowPlaces, Rows};
 use std::alloc::{AllocError, Global};
@@ -157,7 +157,7 @@ impl Region {
         requires { IsAscending self.now.nodes.items }
         ensures { IfOk result (IsChange own.entry.name.now own.entry.slices.now table.now envelope.now self.now) }
     {
-        let Some(place) = place_of(&self.nodes, envelope.sender()) else {
+        let Some(place) = node_place(&self.nodes, envelope.sender()) else {
             return Ok(Change::Reach(Extent::Other));
         };
         if place == self.place {
@@ -259,7 +259,7 @@ impl Region {
 /// all others.
 #[tactic(auto, using(crate::proofs::PlaceLaws::stands_behind, crate::proofs::PlaceLaws::stands_there))]
 fn row_place<S: Places>(table: &Rows<'_, S>, envelope: &Envelope) -> RowPlace
-    ensures { place_of (with_row envelope.now table.now) envelope.now.sender (kind_of envelope.now.body) ≡ result }
+    ensures { place_of_row (with_row envelope.now table.now) envelope.now.sender (kind_of envelope.now.body) ≡ result }
 {
     let place = table.place(envelope.sender(), envelope.body().kind());
     match place.get() {
@@ -314,7 +314,7 @@ fn place_in(nodes: &[NodeId], node: &NodeId) -> usize
     ensures within { result < length nodes.now }
     ensures is { get_or nodes.now result 0 ≡ node.now }
 {
-    let Some(place) = place_of(nodes, node) else {
+    let Some(place) = node_place(nodes, node) else {
         unreachable!()
     };
     place

@@ -3,7 +3,7 @@
 
 ghost use Rattle.std.specs.Prelude.{◌≡◌, IfOk, IfSome, flat_map, option_map, option_to_list};
 ghost use Rattle.fedvote.specs.Mentions.{mentioned_by, mentioned_in};
-ghost use Rattle.fedvote.specs.Searching.{bettered, next_under};
+ghost use Rattle.fedvote.specs.Searching.{better_under, next_under};
 ghost use Rattle.view.specs.Knowing.{AreSearched};
 ghost use Rattle.view.specs.Watching.{rows_of_others, values_in};
 
@@ -74,7 +74,7 @@ fn mentioned_with<'a>(
     bound: &Option<LentBallot>,
     said: Option<&'a Statement>,
 ) -> Option<LentBallot<'a>>
-    ensures { result ≡ bettered best.entry bound.now (flat_map (mentioned_by mention) (option_to_list (option_map (λ s. s.now) said.entry))) }
+    ensures { result ≡ better_under best.entry bound.now (flat_map (mentioned_by mention) (option_to_list (option_map (λ s. s.now) said.entry))) }
 {
     match said {
         None => best,

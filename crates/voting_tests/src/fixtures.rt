@@ -55,7 +55,7 @@ pub fn prepare(alloc: Global, counter: u32) -> Result<Statement, Fail> {
 }
 
 /// What the node of this number says, with these slices.
-pub fn said(sender: u64, slices: Nested, body: Statement) -> Result<Envelope, Fail> {
+pub fn envelope_from(sender: u64, slices: Nested, body: Statement) -> Result<Envelope, Fail> {
     Ok(Envelope::new(name(sender), 1, slices, body).ok_or("statement")?)
 }
 
@@ -65,5 +65,5 @@ pub fn vote_of(alloc: Global, sender: u64, counter: u32, needed: &[u64]) -> Resu
     let threshold = u8::try_from(needed.len()).ok().ok_or("slices")?;
     let slices = slices_of(alloc, threshold, needed)?;
     let body = prepare(alloc, counter)?;
-    said(sender, slices, body)
+    envelope_from(sender, slices, body)
 }

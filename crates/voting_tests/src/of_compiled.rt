@@ -8,7 +8,7 @@ use std::test::Fail;
 use types::{Member, SliceSet};
 
 /// Two of the nodes 0 and 1 and of an inner set: two of 2, 3 and 4.
-fn nested(alloc: Global) -> Result<SliceSet, Fail> {
+fn nested_set(alloc: Global) -> Result<SliceSet, Fail> {
     let inner = set_of(alloc, 2, &[2, 3, 4])?;
     let mut members = Vec::new(alloc);
     members.push(Member::Node(name(0)))?;
@@ -51,7 +51,7 @@ fn is_first_in_quorum(
 fn compiles_and_searches_where_there_is_memory(rt: HostRuntime) -> Result<(), Fail> {
     let alloc = rt.alloc();
     let nodes = nodes_of(alloc, &[0, 1, 2, 3, 4])?;
-    let set = compile(alloc, &nested(alloc)?, &nodes, false)?;
+    let set = compile(alloc, &nested_set(alloc)?, &nodes, false)?;
     let copy = set.try_copy(alloc)?;
     assert!(rt; is_met(&copy, &places_of(alloc, &[1, 3, 4])?));
     assert!(rt; !is_met(&copy, &places_of(alloc, &[1, 3])?));

@@ -1,7 +1,7 @@
 //! That with memory what is accepted and confirmed is answered, by a view of a table. No clause says so; what is
 //! answered is federated voting by the rows of the table.
 
-use crate::fixtures::{ballot, name, prepare, said, slices_of};
+use crate::fixtures::{ballot, envelope_from, name, prepare, slices_of};
 use envstore::{Archive, VecShelf};
 use fedvote::{Claim, Sight, is_accepted, is_confirmed};
 use latest::{Offer, Rows, Table};
@@ -28,7 +28,7 @@ fn vote(alloc: Global, accepts: bool) -> Result<Statement, Fail> {
 fn row_of(alloc: Global, sender: u64, accepts: bool) -> Result<Envelope, Fail> {
     let slices = slices_of(alloc, 2, &[1, 2, 3])?;
     let body = vote(alloc, accepts)?;
-    said(sender, slices, body)
+    envelope_from(sender, slices, body)
 }
 
 /// Whether the node in this position accepts that the ballot is prepared, and whether it confirms it.

@@ -5,7 +5,7 @@
 ghost use Rattle.std.specs.Prelude.{◌≡◌, [], IfOk};
 ghost use Rattle.envstore.specs.Archives.{AreFiled};
 
-use crate::fixtures::{name, said, slices_of, vote_of};
+use crate::fixtures::{envelope_from, name, slices_of, vote_of};
 use envstore::{Archive, VecShelf};
 use latest::Rows;
 use listening::{Configured, Listener};
@@ -34,7 +34,7 @@ fn nomination(alloc: Global) -> Result<Envelope, Fail> {
         accepted: Values::empty(alloc),
     };
     let slices = slices_of(alloc, 2, &[1, 2])?;
-    said(2, slices, body)
+    envelope_from(2, slices, body)
 }
 
 #[test]

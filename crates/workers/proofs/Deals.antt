@@ -13,7 +13,7 @@ use Rattle.cells.specs.Sights.{SeatSight}
 use Rattle.workers.specs.declared.deal.SpareSeats.{SpareSeats}
 use Rattle.workers.specs.declared.walk.Walk.{Walk}
 use Rattle.workers.specs.declared.worker.Worker.{Worker}
-use Rattle.workers.specs.Sums.{AllPassing, IsPassing, parts_of, put, taken}
+use Rattle.workers.specs.Sums.{AllPassing, IsPassing, parts_of, weight_put, weight_taken}
 use Rattle.workers.specs.Spares.{AllHave, AllRoomy, IsDealt, IsDealtAll, IsDealtSeat, IsGiven, IsGivenSeat, IsSplit, at_work, on_spares}
 use Rattle.workers.proofs.Sums.{weigh-last}
 use Rattle.workers.proofs.Pools.{parts_weigh, put_weighs, taken_weighs}
@@ -125,12 +125,12 @@ split_more before ws w mid after s is = record {
       (t.0, All-push (λ (v : Worker _ _ _). IsPassing q v.pass) ws w r.1 t.1));
   put_all = λ h.
       (let a = s.put_all h in
-      let b : put_by h mid ≡ put_by h after + put h w = ap (put_by h) is ∙ weigh-append (λ (p : Pass Job Hand). weigh h (view p).put) after (option_to_list w.pass) ∙ ap (λ n. put_by h after + n) (put_weighs h w.pass) in
-      let d = weigh-append (put h) ws (w ∷ []) in omega arith);
+      let b : put_by h mid ≡ put_by h after + weight_put h w = ap (put_by h) is ∙ weigh-append (λ (p : Pass Job Hand). weigh h (view p).put) after (option_to_list w.pass) ∙ ap (λ n. put_by h after + n) (put_weighs h w.pass) in
+      let d = weigh-append (weight_put h) ws (w ∷ []) in omega arith);
   taken_all = λ h.
       (let a = s.taken_all h in
-      let b : taken_by h mid ≡ taken_by h after + taken h w = ap (taken_by h) is ∙ weigh-append (λ (p : Pass Job Hand). weigh h (view p).taken) after (option_to_list w.pass) ∙ ap (λ n. taken_by h after + n) (taken_weighs h w.pass) in
-      let d = weigh-append (taken h) ws (w ∷ []) in omega arith);
+      let b : taken_by h mid ≡ taken_by h after + weight_taken h w = ap (taken_by h) is ∙ weigh-append (λ (p : Pass Job Hand). weigh h (view p).taken) after (option_to_list w.pass) ∙ ap (λ n. taken_by h after + n) (taken_weighs h w.pass) in
+      let d = weigh-append (weight_taken h) ws (w ∷ []) in omega arith);
   parts_all =
       (let a = s.parts_all in
       let b : parts_by mid ≡ parts_by after + parts_of w = ap parts_by is ∙ weigh-append parts after (option_to_list w.pass) ∙ ap (λ n. parts_by after + n) (parts_weigh w.pass) in

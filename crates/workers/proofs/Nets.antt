@@ -22,7 +22,7 @@ use Rattle.workers.specs.Sums.{IsLater, applied_of, heard_of, refused_of, seat_a
 use Rattle.workers.specs.Spares.{AllGrown, AllGrownSpares, AllHosted, IsHosted, IsWorked, on_spares}
 use Rattle.workers.specs.HostStates.{AreParts, IsPut, IsRemoved, IsSameHostState}
 use Rattle.workers.specs.NetSights.{Net}
-use Rattle.workers.specs.Nets.{AllElsewhere, AllGrownNets, IsDone, IsHostState, IsGreatest, NoNet, denied, done_since, gained, heard_since, nets_of, nets_with, over_nets, over_seats}
+use Rattle.workers.specs.Nets.{AllElsewhere, AllGrownNets, IsDone, IsHostState, IsGreatest, NoNet, denials_gained, done_since, receipts_gained, heard_since, nets_of, nets_with, over_nets, over_seats}
 use Rattle.workers.specs.Numbers.{AllAbove, AllLack, IsNumbered, IsRising, Lacks, number_of}
 use Rattle.workers.proofs.Numbers.{IsPlace, lacks_at}
 use Rattle.workers.proofs.Pairs.{zip-last, zip-same}
@@ -271,17 +271,17 @@ gains f g one (c ∷ cs) (x ∷ xs) (y ∷ ys) hosted all =
     let a = gains_seats f g one x.seats.items y.seats.items all.0.0 in
     let r = gains f g one cs xs ys hosted.1 all.1 in omega arith
 
-gained_is : (a b : SeatSight) (l : IsLater a b) → gained a b ≡ l.receipts
+gained_is : (a b : SeatSight) (l : IsLater a b) → receipts_gained a b ≡ l.receipts
 gained_is a b l = ap (drop (length a.me.receipts)) l.gained ∙ drop-append_seam a.me.receipts l.receipts
 
-denied_is : (a b : SeatSight) (l : IsLater a b) → denied a b ≡ l.denials
+denied_is : (a b : SeatSight) (l : IsLater a b) → denials_gained a b ≡ l.denials
 denied_is a b l = ap (drop (length a.me.denials)) l.refused ∙ drop-append_seam a.me.denials l.denials
 
 one_done : (h : Job → ℕ) (a b : SeatSight) → IsLater a b → seat_done h b ≡ seat_done h a + done_since h a b
 one_done h a b l =
-    let p : applied_of h b.me.config b.me.receipts ≡ applied_of h a.me.config a.me.receipts + applied_of h a.me.config (gained a b) =
+    let p : applied_of h b.me.config b.me.receipts ≡ applied_of h a.me.config a.me.receipts + applied_of h a.me.config (receipts_gained a b) =
     (λ i. applied_of h (l.config i) (l.gained i)) ∙ weigh-append (λ (r : AppliedEvent). h (job a.me.config.number r.event)) a.me.receipts l.receipts ∙ ap (λ x. applied_of h a.me.config a.me.receipts + applied_of h a.me.config x) (sym (gained_is a b l)) in
-    let q : refused_of h b.me.config b.me.denials ≡ refused_of h a.me.config a.me.denials + refused_of h a.me.config (denied a b) =
+    let q : refused_of h b.me.config b.me.denials ≡ refused_of h a.me.config a.me.denials + refused_of h a.me.config (denials_gained a b) =
     (λ i. refused_of h (l.config i) (l.refused i)) ∙ weigh-append (λ (r : Denial). h (job a.me.config.number r.event)) a.me.denials l.denials ∙ ap (λ x. refused_of h a.me.config a.me.denials + refused_of h a.me.config x) (sym (denied_is a b l)) in
     omega arith
 
@@ -289,10 +289,10 @@ one_heard : (h : Job → ℕ) (a b : SeatSight) → IsLater a b → seat_heard h
 one_heard h a b l =
     (λ i. heard_of h (l.config i) (l.gained i)) ∙ weigh-append (λ (r : AppliedEvent). weigh h (hears a.me.config r)) a.me.receipts l.receipts ∙ ap (λ x. heard_of h a.me.config a.me.receipts + heard_of h a.me.config x) (sym (gained_is a b l))
 
-one_applied : (a b : SeatSight) → IsLater a b → seat_applied b ≡ seat_applied a + length (gained a b)
+one_applied : (a b : SeatSight) → IsLater a b → seat_applied b ≡ seat_applied a + length (receipts_gained a b)
 one_applied a b l = ap (λ (x : List AppliedEvent). length x) l.gained ∙ length-append a.me.receipts l.receipts ∙ ap (λ (x : List AppliedEvent). length a.me.receipts + length x) (sym (gained_is a b l))
 
-one_refused : (a b : SeatSight) → IsLater a b → seat_refused b ≡ seat_refused a + length (denied a b)
+one_refused : (a b : SeatSight) → IsLater a b → seat_refused b ≡ seat_refused a + length (denials_gained a b)
 one_refused a b l = ap (λ (x : List Denial). length x) l.refused ∙ length-append a.me.denials l.denials ∙ ap (λ (x : List Denial). length a.me.denials + length x) (sym (denied_is a b l))
 
 pub is_done : {S H P : Type 0} → (cs : List CellSight) (xs ys : List (SpareSeats S H P)) (came went : (Job → ℕ) → ℕ) (r : Report) → AllHosted cs xs → AllGrownSpares xs ys → IsWorked cs xs ys came went r → IsDone (nets_of cs xs) (nets_of cs ys) came went r
@@ -303,8 +303,8 @@ is_done cs xs ys came went r hosted grown w = record {
       let s = w.sum h in
       let a = gains (seat_done h) (done_since h) (one_done h) cs xs ys hosted grown in
       let b = gains (seat_heard h) (heard_since h) (one_heard h) cs xs ys hosted grown in omega arith;
-  applied = (let s = w.applied in let a = gains seat_applied (λ a b. length (gained a b)) one_applied cs xs ys hosted grown in omega arith);
-  refused = (let s = w.refused in let a = gains seat_refused (λ a b. length (denied a b)) one_refused cs xs ys hosted grown in omega arith);
+  applied = (let s = w.applied in let a = gains seat_applied (λ a b. length (receipts_gained a b)) one_applied cs xs ys hosted grown in omega arith);
+  refused = (let s = w.refused in let a = gains seat_refused (λ a b. length (denials_gained a b)) one_refused cs xs ys hosted grown in omega arith);
   unrun = w.unrun;
 }
 

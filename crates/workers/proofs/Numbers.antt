@@ -36,18 +36,18 @@ lacks_by cs x i low high k d lt e =
 abbrev pub IsPlace : List ℕ → ℕ → ℕ → Type 0
 IsPlace ns x i = (i ≤ length ns) × ((k : ℕ) → k < i → get_or ns k 0 < x) × ((k : ℕ) → i ≤ k → k < length ns → x < get_or ns k 0)
 
-pub place_of : (ns : List ℕ) (x i : ℕ) → IsRising ns → IsBinarySearchResult (λ y. nat_cmp y x) ns (Err i) → IsPlace ns x i
-place_of ns x i up result = searched ns x (Err i) result (rising_at ns up)
+pub is_insertion_place : (ns : List ℕ) (x i : ℕ) → IsRising ns → IsBinarySearchResult (λ y. nat_cmp y x) ns (Err i) → IsPlace ns x i
+is_insertion_place ns x i up result = searched ns x (Err i) result (rising_at ns up)
 
 -- the same of a search for this number among these numbers, as the code names both
 pub found_place : (ns seen : List ℕ) (x y i : ℕ) (r : Result ℕ ℕ) → IsRising ns → seen ≡ ns → y ≡ x → r ≡ Err i
     → IsBinarySearchResult (λ k. nat_cmp k y) seen r → IsPlace ns x i
 found_place ns seen x y i r up same named is result =
     subst (λ k. IsPlace ns k i) named
-    (place_of ns y i up (subst (λ (s : List ℕ × Result ℕ ℕ). IsBinarySearchResult (λ k. nat_cmp k y) s.0 s.1) (λ j. (same j, is j)) result))
+    (is_insertion_place ns y i up (subst (λ (s : List ℕ × Result ℕ ℕ). IsBinarySearchResult (λ k. nat_cmp k y) s.0 s.1) (λ j. (same j, is j)) result))
 
 pub lacks_at : (ns : List ℕ) (cs : List CellSight) (x i : ℕ) → IsNumbered ns cs → IsPlace ns x i → Lacks cs x
 lacks_at ns cs x i numbered p = let q = subst (λ (l : List ℕ). IsPlace l x i) numbered.0 p in lacks_by cs x i q.1 q.2
 
 pub absent : (ns : List ℕ) (cs : List CellSight) (x i : ℕ) → IsNumbered ns cs → IsBinarySearchResult (λ y. nat_cmp y x) ns (Err i) → Lacks cs x
-absent ns cs x i numbered result = lacks_at ns cs x i numbered (place_of ns x i numbered.1 result)
+absent ns cs x i numbered result = lacks_at ns cs x i numbered (is_insertion_place ns x i numbered.1 result)

@@ -12,7 +12,7 @@ use Rattle.work.specs.Queues.{put_by, taken_by, parts_by, parts, AllPasses, IsOf
 use Rattle.work.proofs.Balances.{weigh-append}
 use Rattle.cells.specs.Sights.{CellSight}
 use Rattle.workers.specs.declared.worker.Worker.{Worker}
-use Rattle.workers.specs.Sums.{AllLaterWorkers, AllPassing, AllReady, IsClosed, KeepsSums, IsPassing, IsReady, IsSummed, told, at_rest, denials_of, done, hand_of, applied_by, refused_by, parts_of, passes_of, put, receipts_of, taken}
+use Rattle.workers.specs.Sums.{AllLaterWorkers, AllPassing, AllReady, IsClosed, KeepsSums, IsPassing, IsReady, IsSummed, weight_told, at_rest, denials_of, weight_done, hand_of, applied_by, refused_by, parts_of, passes_of, weight_put, receipts_of, weight_taken}
 use Rattle.workers.specs.Numbers.{IsElsewhere}
 use Rattle.workers.proofs.Pairs.{zip-then}
 use Rattle.workers.proofs.Sums.{all_later_both, all_later_none}
@@ -49,10 +49,10 @@ taken_weighs h o = one_weighs (λ (p : Pass Job Hand). weigh h (view p).taken) (
 pub parts_weigh : (o : Option (Pass Job Hand)) → parts_by (option_to_list o) ≡ (hand_of o).parts
 parts_weigh o = one_weighs parts (λ (v : Hand). v.parts) (λ p. refl) refl o
 
-all_put : {S H P : Type 0} → (h : Job → ℕ) (ws : List (Worker S H P)) → put_by h (passes_of ws) ≡ weigh (put h) ws
+all_put : {S H P : Type 0} → (h : Job → ℕ) (ws : List (Worker S H P)) → put_by h (passes_of ws) ≡ weigh (weight_put h) ws
 all_put h ws = all_weigh (λ (p : Pass Job Hand). weigh h (view p).put) (λ (v : Hand). weigh h v.put) (λ p. refl) refl ws
 
-all_taken : {S H P : Type 0} → (h : Job → ℕ) (ws : List (Worker S H P)) → taken_by h (passes_of ws) ≡ weigh (taken h) ws
+all_taken : {S H P : Type 0} → (h : Job → ℕ) (ws : List (Worker S H P)) → taken_by h (passes_of ws) ≡ weigh (weight_taken h) ws
 all_taken h ws = all_weigh (λ (p : Pass Job Hand). weigh h (view p).taken) (λ (v : Hand). weigh h v.taken) (λ p. refl) refl ws
 
 all_parts_of : {S H P : Type 0} → (ws : List (Worker S H P)) → parts_by (passes_of ws) ≡ weigh parts_of ws
@@ -108,10 +108,10 @@ closed cs (x ∷ xs) zs ps qs a c left lt at after all close nc kept =
       elsewhere = k.elsewhere;
       sum = λ h.
           let s = k.sum h in
-          let d = w (done h) in
-          let e = w (told h) in
-          let p : put_by h qs ≡ put_by h ps + weigh (put h) (x ∷ xs) = ap (put_by h) all ∙ weigh-append (λ (p : Pass Job Hand). weigh h (view p).put) ps (passes_of (x ∷ xs)) ∙ (let r = all_put h (x ∷ xs) in omega arith) in
-          let t : taken_by h qs ≡ taken_by h ps + weigh (taken h) (x ∷ xs) = ap (taken_by h) all ∙ weigh-append (λ (p : Pass Job Hand). weigh h (view p).taken) ps (passes_of (x ∷ xs)) ∙ (let r = all_taken h (x ∷ xs) in omega arith) in
+          let d = w (weight_done h) in
+          let e = w (weight_told h) in
+          let p : put_by h qs ≡ put_by h ps + weigh (weight_put h) (x ∷ xs) = ap (put_by h) all ∙ weigh-append (λ (p : Pass Job Hand). weigh h (view p).put) ps (passes_of (x ∷ xs)) ∙ (let r = all_put h (x ∷ xs) in omega arith) in
+          let t : taken_by h qs ≡ taken_by h ps + weigh (weight_taken h) (x ∷ xs) = ap (taken_by h) all ∙ weigh-append (λ (p : Pass Job Hand). weigh h (view p).taken) ps (passes_of (x ∷ xs)) ∙ (let r = all_taken h (x ∷ xs) in omega arith) in
           let n = no_put h c.pass nc in
           let n0 = n.0 in let n1 = n.1 in
           let v = close h in omega arith;

@@ -25,7 +25,7 @@ use Rattle.workers.specs.declared.walk.Walk.{Walk}
 use Rattle.workers.specs.declared.worker.Worker.{Worker}
 use Rattle.workers.specs.Numbers.{IsElsewhere, Lacks, IsNumberAt}
 use Rattle.workers.proofs.Pairs.{zip-at, zip-same, zip-set, zip-then}
-use Rattle.workers.specs.Sums.{job, hears, applied_of, refused_of, heard_of, done_by, told_by, applied_many, refused_many, seat_done, hand_of, IsWalk, AllSeated, IsLater, AllLater, IsDone, done, told, put, taken, KeepsSums, with_put, with_taken, AllPast, AllPastBut, IsPast, hear_by, hears_of, hears_from, emission_in, IsNext, IsShort, SamePlaces, IsThrough, IsSummed, IsReady, IsBusy}
+use Rattle.workers.specs.Sums.{job, hears, applied_of, refused_of, heard_of, done_by, told_by, applied_many, refused_many, seat_done, hand_of, IsWalk, AllSeated, IsLater, AllLater, IsDone, weight_done, weight_told, weight_put, weight_taken, KeepsSums, with_put, with_taken, AllPast, AllPastBut, IsPast, hear_by, hears_of, hears_from, emission_in, IsNext, IsShort, SamePlaces, IsThrough, IsSummed, IsReady, IsBusy}
 use Rattle.work.specs.declared.line.Queue.{Queue}
 use Rattle.std.proofs.Common.{Option, Some, None, ⊎_elim}
 use Rattle.workers.specs.Sums.{IsPassing}
@@ -105,12 +105,12 @@ hears_more e hs k h lt at = sym (hears_of-append e (take k hs) h) ∙ ap (hears_
 
 -- jobs for one out more
 
-emits : (config : Config) (os : List Out) (ns : List ℕ) (o : Out) (e : SlotEmission) → emission_in config.number o (slice_get ns 0) ≡ Some e → hears_from config (o ∷ os) ns ≡ hears_of e config.hosts ++ hears_from config os (drop 1 ns)
+emits : (config : Config) (os : List Out) (ns : List ℕ) (o : Out) (e : SlotEmission) → emission_in config.number o (slice_get ns 0) ≡ Some e → hears_from config (o ∷ os) ns ≡ hears_of e config.nodes ++ hears_from config os (drop 1 ns)
 emits config os ns (ArmNomination r) e is = absurd (cc)
 emits config os ns (ArmBallot n) e is = absurd (cc)
 emits config os ns (Externalized v) e is = absurd (cc)
 emits config os [] (Emit s) e is = absurd (cc)
-emits config os (m ∷ ms) (Emit s) e is = ap (λ x. hears_of x config.hosts ++ hears_from config os ms) (some_same is)
+emits config os (m ∷ ms) (Emit s) e is = ap (λ x. hears_of x config.nodes ++ hears_from config os ms) (some_same is)
   where
     some_same : {X : Type 0} {x y : X} → Some x ≡ Some y → x ≡ y
     some_same e = cc
@@ -135,12 +135,12 @@ drop_suc (m ∷ ms) zero = refl
 drop_suc (m ∷ ms) (suc k) = drop_suc ms k
 
 pub found_some : (config : Config) (os : List Out) (ms : List ℕ) (index mark : ℕ) (o : Out) (e : SlotEmission) → index < length os → emission_in config.number (get_or os index o) (slice_get ms mark) ≡ Some e
-    → hears_from config (drop index os) (drop mark ms) ≡ hears_of e config.hosts ++ hears_from config (drop (index + 1) os) (drop (mark + 1) ms)
+    → hears_from config (drop index os) (drop mark ms) ≡ hears_of e config.nodes ++ hears_from config (drop (index + 1) os) (drop (mark + 1) ms)
 found_some config os ms index mark o e lt is =
     let more : suc mark ≡ mark + 1 = omega arith in
     at_drop_more (λ l. hears_from config l (drop mark ms)) os index o lt
     ∙ emits config (drop (index + 1) os) (drop mark ms) (get_or os index o) e (ap (emission_in config.number (get_or os index o)) (sym (get_drop ms mark)) ∙ is)
-    ∙ ap (λ l. hears_of e config.hosts ++ hears_from config (drop (index + 1) os) l) (sym (drop_suc ms mark) ∙ ap (λ k. drop k ms) more)
+    ∙ ap (λ l. hears_of e config.nodes ++ hears_from config (drop (index + 1) os) l) (sym (drop_suc ms mark) ∙ ap (λ k. drop k ms) more)
 
 pub found_none : (config : Config) (os : List Out) (ms : List ℕ) (index mark : ℕ) (o : Out) → index < length os → emission_in config.number (get_or os index o) (slice_get ms mark) ≡ None
     → hears_from config (drop index os) (drop mark ms) ≡ hears_from config (drop (index + 1) os) (drop mark ms)
@@ -248,10 +248,10 @@ kept_lacking cs a b j lacks walks pass applied refused = record {
   lacking = j ∷ [];
   elsewhere = All-cons (IsElsewhere cs) j [] lacks (All-nil (IsElsewhere cs));
   sum = λ h.
-      let d : done h b ≡ done h a = ap (weigh (done_by h)) walks in
-      let k : told h b ≡ told h a = ap (weigh (told_by h)) walks in
-      let p : put h b ≡ put h a = ap (λ p. weigh h (hand_of p).put) pass in
-      let t : taken h b ≡ taken h a = ap (λ p. weigh h (hand_of p).taken) pass in
+      let d : weight_done h b ≡ weight_done h a = ap (weigh (done_by h)) walks in
+      let k : weight_told h b ≡ weight_told h a = ap (weigh (told_by h)) walks in
+      let p : weight_put h b ≡ weight_put h a = ap (λ p. weigh h (hand_of p).put) pass in
+      let t : weight_taken h b ≡ weight_taken h a = ap (λ p. weigh h (hand_of p).taken) pass in
       omega arith;
   applied = let m : weigh applied_many b.walks.items ≡ weigh applied_many a.walks.items = ap (weigh applied_many) walks in omega arith;
   refused = let m : weigh refused_many b.walks.items ≡ weigh refused_many a.walks.items = ap (weigh refused_many) walks in omega arith;
@@ -268,14 +268,14 @@ kept_done cs a b j k old new well lt at one walks pass applied refused = record 
   lacking = [];
   elsewhere = All-nil (IsElsewhere cs);
   sum = λ h.
-      let d : done h b ≡ weigh (done_by h) (slice_set a.walks.items k new) = ap (weigh (done_by h)) walks in
+      let d : weight_done h b ≡ weigh (done_by h) (slice_set a.walks.items k new) = ap (weigh (done_by h)) walks in
       let s = weigh_set (done_by h) a.walks.items k old new lt at in
       let x = one.sum h in
-      let e : told h b ≡ weigh (told_by h) (slice_set a.walks.items k new) = ap (weigh (told_by h)) walks in
+      let e : weight_told h b ≡ weigh (told_by h) (slice_set a.walks.items k new) = ap (weigh (told_by h)) walks in
       let f = weigh_set (told_by h) a.walks.items k old new lt at in
       let y = one.told h in
-      let p : put h b ≡ put h a = ap (λ p. weigh h (hand_of p).put) pass in
-      let t : taken h b ≡ taken h a = ap (λ p. weigh h (hand_of p).taken) pass in
+      let p : weight_put h b ≡ weight_put h a = ap (λ p. weigh h (hand_of p).put) pass in
+      let t : weight_taken h b ≡ weight_taken h a = ap (λ p. weigh h (hand_of p).taken) pass in
       omega arith;
   applied =
       let m : weigh applied_many b.walks.items ≡ weigh applied_many (slice_set a.walks.items k new) = ap (weigh applied_many) walks in
@@ -297,10 +297,10 @@ kept_put cs a b j walks applied refused pass =
       lacking = [];
       elsewhere = All-nil (IsElsewhere cs);
       sum = λ h.
-          let d : done h b ≡ done h a = ap (weigh (done_by h)) items in
-          let k : told h b ≡ told h a = ap (weigh (told_by h)) items in
-          let p : put h b ≡ put h a + h j = ap (λ (v : Hand). weigh h v.put) pass ∙ weigh-append h (hand_of a.pass).put (j ∷ []) ∙ omega arith in
-          let t : taken h b ≡ taken h a = ap (λ (v : Hand). weigh h v.taken) pass in
+          let d : weight_done h b ≡ weight_done h a = ap (weigh (done_by h)) items in
+          let k : weight_told h b ≡ weight_told h a = ap (weigh (told_by h)) items in
+          let p : weight_put h b ≡ weight_put h a + h j = ap (λ (v : Hand). weigh h v.put) pass ∙ weigh-append h (hand_of a.pass).put (j ∷ []) ∙ omega arith in
+          let t : weight_taken h b ≡ weight_taken h a = ap (λ (v : Hand). weigh h v.taken) pass in
           omega arith;
       applied = let m : weigh applied_many b.walks.items ≡ weigh applied_many a.walks.items = ap (weigh applied_many) items in omega arith;
       refused = let m : weigh refused_many b.walks.items ≡ weigh refused_many a.walks.items = ap (weigh refused_many) items in omega arith;
@@ -316,10 +316,10 @@ kept_taken cs a b c j walks applied refused pass kept =
       lacking = kept.lacking;
       elsewhere = kept.elsewhere;
       sum = λ h.
-          let d : done h b ≡ done h a = ap (weigh (done_by h)) items in
-          let k : told h b ≡ told h a = ap (weigh (told_by h)) items in
-          let p : put h b ≡ put h a = ap (λ (v : Hand). weigh h v.put) pass in
-          let t : taken h b ≡ taken h a + h j = ap (λ (v : Hand). weigh h v.taken) pass ∙ weigh-append h (hand_of a.pass).taken (j ∷ []) ∙ omega arith in
+          let d : weight_done h b ≡ weight_done h a = ap (weigh (done_by h)) items in
+          let k : weight_told h b ≡ weight_told h a = ap (weigh (told_by h)) items in
+          let p : weight_put h b ≡ weight_put h a = ap (λ (v : Hand). weigh h v.put) pass in
+          let t : weight_taken h b ≡ weight_taken h a + h j = ap (λ (v : Hand). weigh h v.taken) pass ∙ weigh-append h (hand_of a.pass).taken (j ∷ []) ∙ omega arith in
           let s = kept.sum h in omega arith;
       applied = let m : weigh applied_many b.walks.items ≡ weigh applied_many a.walks.items = ap (weigh applied_many) items in let s = kept.applied in omega arith;
       refused = let m : weigh refused_many b.walks.items ≡ weigh refused_many a.walks.items = ap (weigh refused_many) items in let s = kept.refused in omega arith;
@@ -349,10 +349,10 @@ kept_moved cs a b c k w v r xs lt at next short is seat place walks pass applied
       elsewhere = kept.elsewhere;
       sum = λ h.
           let s = kept.sum h in
-          let d : done h c ≡ weigh (done_by h) (slice_set b.walks.items k v) = ap (weigh (done_by h)) walks in
+          let d : weight_done h c ≡ weigh (done_by h) (slice_set b.walks.items k v) = ap (weigh (done_by h)) walks in
           let d' = weigh_set (done_by h) b.walks.items k w v lt at in
           let same : done_by h v ≡ done_by h w = ap (seat_done h) seat in
-          let e : told h c ≡ weigh (told_by h) (slice_set b.walks.items k v) = ap (weigh (told_by h)) walks in
+          let e : weight_told h c ≡ weigh (told_by h) (slice_set b.walks.items k v) = ap (weigh (told_by h)) walks in
           let e' = weigh_set (told_by h) b.walks.items k w v lt at in
           let more : told_by h v ≡ told_by h w + weigh h xs =
           (λ i. heard_of h (seat i).me.config (take (place i) (seat i).me.receipts))
@@ -360,8 +360,8 @@ kept_moved cs a b c k w v r xs lt at next short is seat place walks pass applied
           ∙ weigh-append (λ (x : AppliedEvent). weigh h (hears w.seat.me.config x)) (take w.place w.seat.me.receipts) (r ∷ [])
           ∙ omega arith
           ∙ ap (λ (l : List Job). told_by h w + weigh h l) (sym is) in
-          let p : put h c ≡ put h b = ap (λ p. weigh h (hand_of p).put) pass in
-          let t : taken h c ≡ taken h b = ap (λ p. weigh h (hand_of p).taken) pass in
+          let p : weight_put h c ≡ weight_put h b = ap (λ p. weigh h (hand_of p).put) pass in
+          let t : weight_taken h c ≡ weight_taken h b = ap (λ p. weigh h (hand_of p).taken) pass in
           omega arith;
       applied =
           let m : weigh applied_many c.walks.items ≡ weigh applied_many (slice_set b.walks.items k v) = ap (weigh applied_many) walks in
@@ -421,8 +421,8 @@ is_seated cs q k w b = let m = AllZip-long IsWalk cs w.walks.items b.seated in l
 pub busy : {S H P : Type 0} → (cs : List CellSight) (q : Option Queue) (k : ℕ) (w : (Worker S H P)) → k < length cs → IsReady cs q w → IsBusy cs q k w
 busy cs q k w lt r = record { seated = r.seated; passing = r.passing; there = lt; past = λ i d apart. r.past i d }
 
-pub settled : {S H P : Type 0} → (cs : List CellSight) (q : Option Queue) (k : ℕ) (w : (Worker S H P)) (v : (Walk S H P)) → IsBusy cs q k w → v ≡ get_or w.walks.items k v → length v.seat.me.receipts ≤ v.place → IsReady cs q w
-settled cs q k w v b is past = record { seated = b.seated; passing = b.passing; past = past_all w.walks.items k v b.past is past }
+pub receipts_followed : {S H P : Type 0} → (cs : List CellSight) (q : Option Queue) (k : ℕ) (w : (Worker S H P)) (v : (Walk S H P)) → IsBusy cs q k w → v ≡ get_or w.walks.items k v → length v.seat.me.receipts ≤ v.place → IsReady cs q w
+receipts_followed cs q k w v b is past = record { seated = b.seated; passing = b.passing; past = past_all w.walks.items k v b.past is past }
 
 -- the same walks with another pass
 pub ready_same : {S H P : Type 0} → (cs : List CellSight) (q : Option Queue) (a b : (Worker S H P)) → b.walks ≡ a.walks → IsPassing q b.pass → IsReady cs q a → IsReady cs q b

@@ -21,7 +21,7 @@ use Rattle.workers.specs.declared.deal.SpareSeats.{SpareSeats}
 use Rattle.workers.specs.declared.running.Report.{Report}
 use Rattle.workers.specs.declared.walk.Walk.{Walk}
 use Rattle.workers.specs.declared.worker.Worker.{Worker}
-use Rattle.workers.specs.Sums.{AllLater, AllLaterWorkers, AllPassing, AllPast, AllReady, AllSeated, IsClosed, IsPast, IsLater, IsReady, applied_by, told, told_by, denials_of, done, heard_of, parts_of, put, receipts_of, refused_by, seat_applied, seat_done, seat_heard, seat_refused, taken}
+use Rattle.workers.specs.Sums.{AllLater, AllLaterWorkers, AllPassing, AllPast, AllReady, AllSeated, IsClosed, IsPast, IsLater, IsReady, applied_by, weight_told, told_by, denials_of, weight_done, heard_of, parts_of, weight_put, receipts_of, refused_by, seat_applied, seat_done, seat_heard, seat_refused, weight_taken}
 use Rattle.workers.specs.Spares.{AllFresh, AllGrown, AllGrownSpares, AllHave, AllHold, AllHosted, AllRoomy, IsCounted, IsHosted, IsDealt, IsDealtAll, IsGiven, IsSplit, IsWorked, at_work, on_spares}
 use Rattle.workers.proofs.Pairs.{zip-same, zip-then}
 use Rattle.workers.proofs.Sums.{later_none}
@@ -139,7 +139,7 @@ told_past h (w ∷ ws) all =
     let r = told_past h ws (All-tail IsPast w ws all) in
     let e : told_by h w ≡ seat_heard h w.seat = ap (heard_of h w.seat.me.config) (take_all w.place w.seat.me.receipts (All-head IsPast w ws all)) in omega arith
 
-told_all : {S H P : Type 0} → (cs : List CellSight) (q : Option Queue) (h : Job → ℕ) (ws : List (Worker S H P)) → AllReady cs q ws → weigh (told h) ws ≡ at_work (seat_heard h) ws
+told_all : {S H P : Type 0} → (cs : List CellSight) (q : Option Queue) (h : Job → ℕ) (ws : List (Worker S H P)) → AllReady cs q ws → weigh (weight_told h) ws ≡ at_work (seat_heard h) ws
 told_all cs q h [] all = refl
 told_all cs q h (w ∷ ws) all =
     let r = told_all cs q h ws (All-tail (IsReady cs q) w ws all) in
@@ -161,8 +161,8 @@ worked cs q xs mid ys ws zs ps qs r dealt given fresh split ready rest closed co
           let t = split.taken_all h in
           let a = told_all cs q h ws ready in
           let b = told_all cs None h zs rest in
-          let d : weigh (done h) ws ≡ at_work (seat_done h) ws = refl in
-          let e : weigh (done h) zs ≡ at_work (seat_done h) zs = refl in
+          let d : weigh (weight_done h) ws ≡ at_work (seat_done h) ws = refl in
+          let e : weigh (weight_done h) zs ≡ at_work (seat_done h) zs = refl in
           let d0 = s (seat_done h) in
           let d1 = given (seat_done h) in
           let e0 = s (seat_heard h) in
@@ -250,10 +250,10 @@ offered cs q xs mid ys a b ps qs rs jobs r dealt given a0 a1 before after k pop 
   elsewhere = k.elsewhere;
   sum = λ h.
       let s = k.sum h in
-      let p0 : put_by h ps ≡ put_by h qs + put h a = ap (put_by h) pop ∙ weigh-append (λ (p : Pass Job Hand). weigh h (view p).put) qs (option_to_list a.pass) ∙ ap (λ n. put_by h qs + n) (put_weighs h a.pass) in
-      let p1 : put_by h rs ≡ put_by h qs + put h b = ap (put_by h) push ∙ weigh-append (λ (p : Pass Job Hand). weigh h (view p).put) qs (option_to_list b.pass) ∙ ap (λ n. put_by h qs + n) (put_weighs h b.pass) in
-      let t0 : taken_by h ps ≡ taken_by h qs + taken h a = ap (taken_by h) pop ∙ weigh-append (λ (p : Pass Job Hand). weigh h (view p).taken) qs (option_to_list a.pass) ∙ ap (λ n. taken_by h qs + n) (taken_weighs h a.pass) in
-      let t1 : taken_by h rs ≡ taken_by h qs + taken h b = ap (taken_by h) push ∙ weigh-append (λ (p : Pass Job Hand). weigh h (view p).taken) qs (option_to_list b.pass) ∙ ap (λ n. taken_by h qs + n) (taken_weighs h b.pass) in
+      let p0 : put_by h ps ≡ put_by h qs + weight_put h a = ap (put_by h) pop ∙ weigh-append (λ (p : Pass Job Hand). weigh h (view p).put) qs (option_to_list a.pass) ∙ ap (λ n. put_by h qs + n) (put_weighs h a.pass) in
+      let p1 : put_by h rs ≡ put_by h qs + weight_put h b = ap (put_by h) push ∙ weigh-append (λ (p : Pass Job Hand). weigh h (view p).put) qs (option_to_list b.pass) ∙ ap (λ n. put_by h qs + n) (put_weighs h b.pass) in
+      let t0 : taken_by h ps ≡ taken_by h qs + weight_taken h a = ap (taken_by h) pop ∙ weigh-append (λ (p : Pass Job Hand). weigh h (view p).taken) qs (option_to_list a.pass) ∙ ap (λ n. taken_by h qs + n) (taken_weighs h a.pass) in
+      let t1 : taken_by h rs ≡ taken_by h qs + weight_taken h b = ap (taken_by h) push ∙ weigh-append (λ (p : Pass Job Hand). weigh h (view p).taken) qs (option_to_list b.pass) ∙ ap (λ n. taken_by h qs + n) (taken_weighs h b.pass) in
       let e0 = told_past h a.walks.items before.past in
       let e1 = told_past h b.walks.items after.past in
       let d0 = dealt_sum (seat_done h) xs a.walks.items mid dealt in

@@ -54,11 +54,11 @@ pub record IsClosedNet (n : Net) (j : Log) (ss : List SeatSight) : Type 0 where
   pub history : IsOneHistory n.cell.seats j ss
 
 -- the receipts and denials that a seat gained
-abbrev pub gained : SeatSight → SeatSight → List AppliedEvent
-gained a b = drop (length a.me.receipts) b.me.receipts
+abbrev pub receipts_gained : SeatSight → SeatSight → List AppliedEvent
+receipts_gained a b = drop (length a.me.receipts) b.me.receipts
 
-abbrev pub denied : SeatSight → SeatSight → List Denial
-denied a b = drop (length a.me.denials) b.me.denials
+abbrev pub denials_gained : SeatSight → SeatSight → List Denial
+denials_gained a b = drop (length a.me.denials) b.me.denials
 
 -- over all seats of all networks, before and after
 abbrev pub over_seats : (SeatSight → SeatSight → ℕ) → List SeatSight → List SeatSight → ℕ
@@ -80,11 +80,11 @@ AllElsewhere nets js = All (λ (j : Job). NoNet nets j.network) js
 
 -- the events of the receipts and denials that a seat gained, as jobs of its network, weighed
 abbrev pub done_since : (Job → ℕ) → SeatSight → SeatSight → ℕ
-done_since h a b = applied_of h a.me.config (gained a b) + refused_of h a.me.config (denied a b)
+done_since h a b = applied_of h a.me.config (receipts_gained a b) + refused_of h a.me.config (denials_gained a b)
 
 -- the jobs that the receipts that a seat gained make others hear, weighed
 abbrev pub heard_since : (Job → ℕ) → SeatSight → SeatSight → ℕ
-heard_since h a b = heard_of h a.me.config (gained a b)
+heard_since h a b = heard_of h a.me.config (receipts_gained a b)
 
 -- However jobs are weighed: those that came in, and one for each emission that was gained and each other hosted node of
 -- its network, are those that went out, the events that were gained as receipts and as denials, and those of networks
@@ -94,8 +94,8 @@ pub record IsDone (xs ys : List Net) (came went : (Job → ℕ) → ℕ) (r : Re
   pub elsewhere : AllElsewhere xs lacking
   pub sum : (h : Job → ℕ)
       → came h + over_nets (heard_since h) xs ys ≡ went h + over_nets (done_since h) xs ys + weigh h lacking
-  pub applied : r.applied ≡ over_nets (λ a b. length (gained a b)) xs ys
-  pub refused : r.refused ≡ over_nets (λ a b. length (denied a b)) xs ys + length lacking
+  pub applied : r.applied ≡ over_nets (λ a b. length (receipts_gained a b)) xs ys
+  pub refused : r.refused ≡ over_nets (λ a b. length (denials_gained a b)) xs ys + length lacking
   pub unrun : r.unrun ≡ 0
 
 -- nothing was done, and the jobs that are left are counted

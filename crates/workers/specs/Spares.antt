@@ -12,7 +12,7 @@ use Rattle.cells.specs.Cells.{IsSeatOf}
 use Rattle.cells.specs.Closing.{AllSeats, HasNumber}
 use Rattle.cells.specs.Sights.{SeatSight}
 use Rattle.workers.specs.Numbers.{AllLack}
-use Rattle.workers.specs.Sums.{AllPassing, IsLater, applied_by, refused_by, seat_done, seat_heard, seat_applied, seat_refused, IsPassing, parts_of, put, taken}
+use Rattle.workers.specs.Sums.{AllPassing, IsLater, applied_by, refused_by, seat_done, seat_heard, seat_applied, seat_refused, IsPassing, parts_of, weight_put, weight_taken}
 use Rattle.workers.specs.declared.deal.SpareSeats.{SpareSeats}
 use Rattle.workers.specs.declared.deal.WorkerRoom.{WorkerRoom}
 use Rattle.workers.specs.declared.deal.Room.{Room}
@@ -92,8 +92,8 @@ AllHold q ws = All (λ (w : Worker _ _ _). IsPassing q w.pass) ws
 pub record IsSplit {S H P : Type 0} (before : List (Pass Job Hand)) (ws : List (Worker S H P))
     (after : List (Pass Job Hand)) : Type 0 where
   pub passing : (q : Option Queue) → AllPassing q before → AllPassing q after × AllHold q ws
-  pub put_all : (h : Job → ℕ) → put_by h before ≡ put_by h after + weigh (put h) ws
-  pub taken_all : (h : Job → ℕ) → taken_by h before ≡ taken_by h after + weigh (taken h) ws
+  pub put_all : (h : Job → ℕ) → put_by h before ≡ put_by h after + weigh (weight_put h) ws
+  pub taken_all : (h : Job → ℕ) → taken_by h before ≡ taken_by h after + weigh (weight_taken h) ws
   pub parts_all : parts_by before ≡ parts_by after + weigh parts_of ws
 
 -- seats that have gained receipts and denials, one by one

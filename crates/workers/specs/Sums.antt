@@ -53,7 +53,8 @@ hears_from config (ArmBallot n ∷ os) ms = hears_from config os ms
 hears_from config (Externalized v ∷ os) ms = hears_from config os ms
 hears_from config (Emit e ∷ os) [] = hears_from config os []
 hears_from config (Emit e ∷ os) (m ∷ ms) =
-    hears_of (record { network = config.number; slot = e.slot; from = e.sender; kind = kind_of e.body; number = m }) config.hosts
+    hears_of (record { network = config.number; slot = e.slot; from = e.sender; kind = kind_of e.body; number = m })
+    config.nodes
     ++ hears_from config os ms
 
 -- what a receipt makes the other nodes of its network hear
@@ -151,17 +152,17 @@ pub record IsDone {S H P : Type 0} (a b : (Walk S H P)) (j : Job) (well : Bool) 
   pub applied : applied_many b ≡ applied_many a + (if well then 1 else 0)
   pub refused : refused_many b ≡ refused_many a + (if well then 0 else 1)
 
-abbrev pub done : {S H P : Type 0} → (Job → ℕ) → (Worker S H P) → ℕ
-done h w = weigh (done_by h) w.walks.items
+abbrev pub weight_done : {S H P : Type 0} → (Job → ℕ) → (Worker S H P) → ℕ
+weight_done h w = weigh (done_by h) w.walks.items
 
-abbrev pub told : {S H P : Type 0} → (Job → ℕ) → (Worker S H P) → ℕ
-told h w = weigh (told_by h) w.walks.items
+abbrev pub weight_told : {S H P : Type 0} → (Job → ℕ) → (Worker S H P) → ℕ
+weight_told h w = weigh (told_by h) w.walks.items
 
-abbrev pub put : {S H P : Type 0} → (Job → ℕ) → (Worker S H P) → ℕ
-put h w = weigh h (hand_of w.pass).put
+abbrev pub weight_put : {S H P : Type 0} → (Job → ℕ) → (Worker S H P) → ℕ
+weight_put h w = weigh h (hand_of w.pass).put
 
-abbrev pub taken : {S H P : Type 0} → (Job → ℕ) → (Worker S H P) → ℕ
-taken h w = weigh h (hand_of w.pass).taken
+abbrev pub weight_taken : {S H P : Type 0} → (Job → ℕ) → (Worker S H P) → ℕ
+weight_taken h w = weigh h (hand_of w.pass).taken
 
 -- how many receipts and denials the seats of a worker have
 abbrev pub receipts_of : {S H P : Type 0} → (Worker S H P) → ℕ
@@ -176,8 +177,8 @@ pub record KeepsSums {S H P : Type 0} (cells : List CellSight) (handed : List Jo
   pub lacking : List Job
   pub elsewhere : AllLack cells lacking
   pub sum : (h : Job → ℕ)
-      → done h b + put h b + weigh h lacking + told h a + taken h a
-      ≡ done h a + put h a + told h b + taken h b + weigh h handed
+      → weight_done h b + weight_put h b + weigh h lacking + weight_told h a + weight_taken h a
+      ≡ weight_done h a + weight_put h a + weight_told h b + weight_taken h b + weigh h handed
   pub applied : b.applied + receipts_of a ≡ a.applied + receipts_of b
   pub refused : b.refused + denials_of a ≡ a.refused + denials_of b + length lacking
   pub later : AllLater a.walks.items b.walks.items
@@ -242,8 +243,9 @@ pub record IsSummed {S H P : Type 0} (cells : List CellSight) (xs ys : List (Wor
   pub lacking : List Job
   pub elsewhere : AllLack cells lacking
   pub sum : (h : Job → ℕ)
-      → weigh (done h) ys + weigh (put h) ys + weigh h lacking + weigh (told h) xs + weigh (taken h) xs
-      ≡ weigh (done h) xs + weigh (put h) xs + weigh (told h) ys + weigh (taken h) ys
+      → weigh (weight_done h) ys + weigh (weight_put h) ys + weigh h lacking + weigh (weight_told h) xs
+      + weigh (weight_taken h) xs
+      ≡ weigh (weight_done h) xs + weigh (weight_put h) xs + weigh (weight_told h) ys + weigh (weight_taken h) ys
   pub applied : weigh applied_by ys + weigh receipts_of xs ≡ weigh applied_by xs + weigh receipts_of ys
   pub refused : weigh refused_by ys + weigh denials_of xs ≡ weigh refused_by xs + weigh denials_of ys + length lacking
   pub later : AllLaterWorkers xs ys
@@ -267,8 +269,9 @@ pub record IsClosed {S H P : Type 0} (cells : List CellSight) (ps : List (Pass J
   pub lacking : List Job
   pub elsewhere : AllLack cells lacking
   pub sum : (h : Job → ℕ)
-      → weigh (done h) zs + weigh h lacking + weigh (told h) xs + weigh (taken h) xs + taken_by h ps
-      ≡ weigh (done h) xs + weigh (put h) xs + weigh (told h) zs + put_by h ps
+      → weigh (weight_done h) zs + weigh h lacking + weigh (weight_told h) xs + weigh (weight_taken h) xs
+      + taken_by h ps
+      ≡ weigh (weight_done h) xs + weigh (weight_put h) xs + weigh (weight_told h) zs + put_by h ps
   pub applied : weigh applied_by zs + weigh receipts_of xs ≡ weigh applied_by xs + weigh receipts_of zs
   pub refused : weigh refused_by zs + weigh denials_of xs ≡ weigh refused_by xs + weigh denials_of zs + length lacking
   pub later : AllLaterWorkers xs zs

@@ -40,11 +40,11 @@ pub(crate) fn add<R: Wait>(rt: &R, count: u64, more: u64) -> u64
 }
 
 /// The job by which a node hears an emission, if it is not its own.
-fn hearing(emission: &SlotEmission, host: &HostedNode) -> Option<Job>
-    ensures jobs { option_to_list result ≡ hear_by emission.now host.now }
+fn hearing(emission: &SlotEmission, hosted: &HostedNode) -> Option<Job>
+    ensures jobs { option_to_list result ≡ hear_by emission.now hosted.now }
     ensures network { IfSome result (λ j. j.network ≡ emission.now.network) }
 {
-    let node = *host.name();
+    let node = *hosted.name();
     if node == emission.from {
         return None;
     }
@@ -134,11 +134,11 @@ impl<S: Shelf + Drop, H: Wait + Drop> Worker<S, H> {
         requires network { IsNumberAt workplace.now.shared.now.cells.items k emission.network }
         ensures busy { IsBusy workplace.now.shared.now.cells.items workplace.now.shared.now.queue k self.new }
         ensures places { SamePlaces self.old.walks.items self.new.walks.items }
-        ensures kept { (c : CellSight) → c ≡ slice_index_or workplace.now.shared.now.cells.items k c → KeepsSums workplace.now.shared.now.cells.items (hears_of emission c.config.hosts) self.old self.new }
+        ensures kept { (c : CellSight) → c ≡ slice_index_or workplace.now.shared.now.cells.items k c → KeepsSums workplace.now.shared.now.cells.items (hears_of emission c.config.nodes) self.old self.new }
     {
-        let hosts = workplace.shared.cells[k].config().hosts();
-        for host in hosts {
-            match hearing(&emission, host) {
+        let nodes = workplace.shared.cells[k].config().nodes();
+        for hosted in nodes {
+            match hearing(&emission, hosted) {
                 Some(job) => self.apply_at(workplace, k, job),
                 None => {}
             }
@@ -170,7 +170,7 @@ impl<S: Shelf + Drop, H: Wait + Drop> Worker<S, H> {
     /// Goes through the receipts at one cell until its place is past them. A hearing that is applied adds a receipt
     /// behind the others, so what follows from hearings is one list and no call within a call; each receipt draws an
     /// event of the network's budget, which is finite.
-    fn settle<R: Wait, G: Gate>(&mut self, workplace: &Workplace<'_, S, H, R, G>, k: usize)
+    fn follow_receipts<R: Wait, G: Gate>(&mut self, workplace: &Workplace<'_, S, H, R, G>, k: usize)
         requires { IsBusy workplace.now.shared.now.cells.items workplace.now.shared.now.queue k self.old }
         ensures ready { IsReady workplace.now.shared.now.cells.items workplace.now.shared.now.queue self.new }
         ensures kept { KeepsSums workplace.now.shared.now.cells.items [] self.old self.new }
@@ -194,7 +194,7 @@ impl<S: Shelf + Drop, H: Wait + Drop> Worker<S, H> {
         match workplace.shared.find(job.network) {
             Some(k) => {
                 self.apply_at(workplace, k, job);
-                self.settle(workplace, k);
+                self.follow_receipts(workplace, k);
             }
             None => self.count(workplace.rt, false),
         }

@@ -10,7 +10,7 @@ use Rattle.types.specs.declared.kind.Kind.{Kind}
 use Rattle.protocol.specs.Views.{Seen, passes, accepted}
 use Rattle.types.specs.declared.state.Phase.{Phase}
 use Rattle.types.specs.declared.state.Votes.{Votes}
-use Rattle.protocol.specs.States.{below, counter_of, ballot_at, position}
+use Rattle.protocol.specs.States.{below, counter_of, ballot_with, position}
 use Rattle.protocol.specs.Candidates.{greatest, committed_by, commits}
 use Rattle.protocol.specs.Balloting.{aborted_by, is_accepted, commit_accepted, may_be_prepared, accept_prepared, accept_commit, widen_commit, next_committed, accepted_from}
 use Rattle.types.specs.declared.state.Phase.TheVariants.{Committing}
@@ -61,11 +61,11 @@ none-widens s b w f = go (greatest None (filter test (commits s w))) refl
         absurd (f t r.0 parts.0 parts.1 ok.1)
 
 own-in : (w : Votes) (b t : Ballot) → w.phase ≡ Committing → w.ballot ≡ Some b → IsIn t (own_named w)
-    → (t ≡ b) ⊎ ((t ≡ ballot_at (counter_of w.prepared) b.value) ⊎ (t ≡ ballot_at w.high b.value))
+    → (t ≡ b) ⊎ ((t ≡ ballot_with (counter_of w.prepared) b.value) ⊎ (t ≡ ballot_with w.high b.value))
 own-in w b t p e i = go (rw (position-committing w b p e) at i)
   where
-    go : IsIn t ((b ∷ ballot_at (counter_of w.prepared) b.value ∷ ballot_at w.high b.value ∷ []) ++ [])
-        → (t ≡ b) ⊎ ((t ≡ ballot_at (counter_of w.prepared) b.value) ⊎ (t ≡ ballot_at w.high b.value))
+    go : IsIn t ((b ∷ ballot_with (counter_of w.prepared) b.value ∷ ballot_with w.high b.value ∷ []) ++ [])
+        → (t ≡ b) ⊎ ((t ≡ ballot_with (counter_of w.prepared) b.value) ⊎ (t ≡ ballot_with w.high b.value))
     go (inl q) = inl q
     go (inr (inl q)) = inr (inl q)
     go (inr (inr (inl q))) = inr (inr q)
@@ -78,7 +78,7 @@ own-counters : (w : Votes) (b t : Ballot) → w.phase ≡ Committing → w.ballo
     → IsIn t (own_commits w) → t.counter ≤ w.high
 own-counters w b t p e l i = go (rw (position-committing w b p e) at i)
   where
-    go : IsIn t ((ballot_at w.low b.value ∷ ballot_at w.high b.value ∷ []) ++ []) → t.counter ≤ w.high
+    go : IsIn t ((ballot_with w.low b.value ∷ ballot_with w.high b.value ∷ []) ++ []) → t.counter ≤ w.high
     go (inl q) = subst (λ (x : Ballot). x.counter ≤ w.high) (sym q) l
     go (inr (inl q)) = let k : w.high ≤ w.high = omega arith in subst (λ (x : Ballot). x.counter ≤ w.high) (sym q) k
     go (inr (inr q)) = absurd q
@@ -194,10 +194,10 @@ module _ (s : Seen) (f : Fair s) (w : Votes) (b p : Ballot) (phase : w.phase ≡
                         | inr e1 ↦ subst (λ x. below I.q x ≡ false) (sym e) e1
                       ]
                       | inr (inl e) ↦ subst (λ x. below I.q x ≡ false) (sym e)
-                          (subst (λ o. below I.q (ballot_at (counter_of o) I.n.value) ≡ false) (sym I.prepared)
-                          (not_above-value I.q (ballot_at I.q.counter I.n.value) (omega arith) I.value))
+                          (subst (λ o. below I.q (ballot_with (counter_of o) I.n.value) ≡ false) (sym I.prepared)
+                          (not_above-value I.q (ballot_with I.q.counter I.n.value) (omega arith) I.value))
                       | inr (inr e) ↦ subst (λ x. below I.q x ≡ false) (sym e)
-                          (not_above-value I.q (ballot_at u.high I.n.value) I.high I.value)
+                          (not_above-value I.q (ballot_with u.high I.n.value) I.high I.value)
                     ]
                   ]
             ]));

@@ -10,10 +10,10 @@ use Rattle.types.specs.declared.state.Inputs.{Inputs}
 use Rattle.types.specs.declared.state.Votes.{Votes}
 use Rattle.types.specs.Votes.{same_value}
 use Rattle.protocol.specs.Views.{Seen, passes}
-use Rattle.protocol.specs.States.{ballot_at, high_counter, commit_counter, position, position_in}
+use Rattle.protocol.specs.States.{ballot_with, high_counter, commit_counter, position, position_in}
 use Rattle.protocol.specs.Timers.{cap}
-use Rattle.protocol.specs.Candidates.{combine, commits, committed_in, greatest, least_from, lowest, named, named_in}
-use Rattle.protocol.specs.Balloting.{prepare_accepted, prepare_confirmed, interval_accepted, interval_confirmed, with_first_ballot, start_from, start, aborted_by, may_be_prepared, accept_prepared, raise_confirmed_prepared, follow_confirmed_prepared, is_aborted, cleared, chosen, set_commit, confirm_prepared, accepted_from, first_committed, next_committed, enter_commit, widen_commit, accept_commit, confirmed_commit, externalize, confirm_commit}
+use Rattle.protocol.specs.Candidates.{combine, commits, committed_in, greatest, least_from, lowest, named_ballots, named_in}
+use Rattle.protocol.specs.Balloting.{prepare_accepted, prepare_confirmed, interval_accepted, interval_confirmed, with_first_ballot, start_from, start, aborted_by, may_be_prepared, accept_prepared, raise_confirmed_prepared, follow_confirmed_prepared, is_aborted, unless_aborted, or_confirmed_ballot, set_commit, confirm_prepared, accepted_from, first_committed, next_committed, enter_commit, widen_commit, accept_commit, confirmed_commit, externalize, confirm_commit}
 use Rattle.protocol.specs.Passes.{has_counter, value_once_raised, ballot_at_counter, counter_after_raise, raise, arm, with_ballot, on_ballot, while_preparing, in_prepare, while_open, balloting, voting, counting, balloted_in}
 
 module _ (vo ac : List (List ℕ)) where
@@ -33,7 +33,7 @@ module _ (vo ac : List (List ℕ)) where
 
   -- ---- rule by rule
   start-sets : (s : Seen) (w : Votes) → start s (with_sets w) ≡ with_sets (start s w)
-  unfolding start with_first_ballot named
+  unfolding start with_first_ballot named_ballots
   start-sets s w = go w.ballot
     where
       without : (z : Option (List ℕ)) → with_first_ballot s (with_sets w) z ≡ with_sets (with_first_ballot s w z)
@@ -51,7 +51,7 @@ module _ (vo ac : List (List ℕ)) where
 
   prepared-sets : (s : Seen) (b : Ballot) (w : Votes)
       → accept_prepared s b (with_sets w) ≡ with_sets (accept_prepared s b w)
-  unfolding accept_prepared named
+  unfolding accept_prepared named_ballots
   prepared-sets s b w = ap {B = Votes} (λ (o : Option Statement).
       let p = greatest w.prepared
       (filter (λ t. may_be_prepared w.phase b.value t && prepare_accepted s o t)
@@ -61,7 +61,7 @@ module _ (vo ac : List (List ℕ)) where
 
   high-sets : (s : Seen) (w : Votes)
       → raise_confirmed_prepared s (with_sets w) ≡ with_sets (raise_confirmed_prepared s w)
-  unfolding raise_confirmed_prepared named
+  unfolding raise_confirmed_prepared named_ballots
   high-sets s w = ap {B = Votes} (λ (o : Option Statement).
       record w {
         voted = vo;
@@ -74,13 +74,13 @@ module _ (vo ac : List (List ℕ)) where
   unfolding set_commit is_aborted high_counter
   commit-sets w =
       ap {B = Votes} (λ (c : Option Ballot). record w { voted = vo; accepts = ac; commit = c })
-      (chosen-sets w.ballot (cleared (with_sets w) w.commit) ∙ ap (chosen w w.ballot) (cleared-sets w.commit))
+      (chosen-sets w.ballot (unless_aborted (with_sets w) w.commit) ∙ ap (or_confirmed_ballot w w.ballot) (cleared-sets w.commit))
     where
-      cleared-sets : (c : Option Ballot) → cleared (with_sets w) c ≡ cleared w c
+      cleared-sets : (c : Option Ballot) → unless_aborted (with_sets w) c ≡ unless_aborted w c
       cleared-sets None = refl
       cleared-sets (Some b) = refl
 
-      chosen-sets : (b c : Option Ballot) → chosen (with_sets w) b c ≡ chosen w b c
+      chosen-sets : (b c : Option Ballot) → or_confirmed_ballot (with_sets w) b c ≡ or_confirmed_ballot w b c
       chosen-sets None c = refl
       chosen-sets (Some b) None = refl
       chosen-sets (Some b) (Some c) = refl
@@ -105,7 +105,7 @@ module _ (vo ac : List (List ℕ)) where
     voted = vo;
     accepts = ac;
     phase = Committing;
-    ballot = Some (ballot_at (max b.counter t.counter) t.value);
+    ballot = Some (ballot_with (max b.counter t.counter) t.value);
     prepared = greatest w.prepared (t ∷ []);
     confirmed_prepared = greatest w.confirmed_prepared (t ∷ []);
     low = low;
@@ -119,7 +119,7 @@ module _ (vo ac : List (List ℕ)) where
   widen-sets s b w (Some t) = ap {B = Votes} (λ (low : ℕ). record w {
     voted = vo;
     accepts = ac;
-    ballot = Some (ballot_at (max b.counter t.counter) t.value);
+    ballot = Some (ballot_with (max b.counter t.counter) t.value);
     prepared = greatest w.prepared (t ∷ []);
     low = low;
     high = t.counter;
@@ -179,7 +179,7 @@ module _ (vo ac : List (List ℕ)) where
 
   ballot_at_counter-sets : (w : Votes) (b : Ballot) (n : ℕ)
       → ballot_at_counter (with_sets w) b n ≡ ballot_at_counter w b n
-  ballot_at_counter-sets w b n = ap (λ (x : List ℕ). if n == b.counter then b else ballot_at n x) (go w.phase)
+  ballot_at_counter-sets w b n = ap (λ (x : List ℕ). if n == b.counter then b else ballot_with n x) (go w.phase)
     where
       go : (p : Phase) → value_once_raised p (with_sets w) b.value ≡ value_once_raised p w b.value
       go Preparing = refl

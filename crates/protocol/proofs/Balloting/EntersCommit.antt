@@ -7,7 +7,7 @@ use Rattle.protocol.proofs.Balloting.Tests.{takes_prepare, backs_commit, takes_c
 use Rattle.types.specs.declared.kind.Kind.{Kind}
 use Rattle.protocol.specs.Views.{Seen, accepted, confirmed}
 use Rattle.types.specs.declared.state.Votes.{Votes}
-use Rattle.protocol.specs.States.{below, counter_of, ballot_at, position}
+use Rattle.protocol.specs.States.{below, counter_of, ballot_with, position}
 use Rattle.protocol.specs.Candidates.{greatest, committed_by, commits, lowest}
 use Rattle.protocol.specs.Balloting.{is_confirmed, commit_accepted, is_aborted, accept_commit, enter_commit, first_committed, accepted_from}
 use Rattle.types.specs.declared.state.Phase.TheVariants.{Preparing, Committing}
@@ -97,7 +97,7 @@ enters s b w sound = go (greatest None (filter test (commits s w))) refl
         let p = greatest-one w.prepared t in
         let h = greatest-one w.confirmed_prepared t in
         let low = lowest (λ low. commit_accepted s w t.value low t.counter) t.value t.counter (commits s w) in
-        let n = ballot_at (max b.counter t.counter) t.value in
+        let n = ballot_with (max b.counter t.counter) t.value in
         inr (record {
           u = record w {
             phase = Committing;

@@ -6,7 +6,7 @@ use Rattle.types.specs.declared.ballot.Ballot.{Ballot}
 use Rattle.protocol.specs.Views.{Seen}
 use Rattle.types.specs.declared.state.Votes.{Votes}
 use Rattle.protocol.specs.States.{below, high_counter}
-use Rattle.protocol.specs.Candidates.{greatest, named}
+use Rattle.protocol.specs.Candidates.{greatest, named_ballots}
 use Rattle.protocol.specs.Balloting.{aborted_by, is_accepted, is_confirmed, may_be_prepared, accept_prepared, raise_confirmed_prepared, follow_confirmed_prepared, is_aborted, set_commit}
 use Rattle.protocol.specs.Extremes.{IsIn}
 use Rattle.protocol.proofs.Ballots.Order.{below-self, below-counter}
@@ -14,13 +14,13 @@ use Rattle.protocol.proofs.Ballots.Above.{above, Under, greatest-keeps, greatest
 
 -- p
 pub accept_prepared-still : (s : Seen) (b : Ballot) (w : Votes)
-    → ((t : Ballot) → IsIn t (named s w) → may_be_prepared w.phase b.value t ≡ true → is_accepted s w t ≡ true
+    → ((t : Ballot) → IsIn t (named_ballots s w) → may_be_prepared w.phase b.value t ≡ true → is_accepted s w t ≡ true
     → above w.prepared t ≡ false) → accept_prepared s b w ≡ w
 unfolding accept_prepared
 accept_prepared-still s b w f =
     let test : Ballot → Bool = λ t. may_be_prepared w.phase b.value t && is_accepted s w t in
-    let e : greatest w.prepared (filter test (named s w)) ≡ w.prepared =
-    greatest-still w.prepared (filter test (named s w)) (λ t i. let r = from-filter test t (named s w) i in
+    let e : greatest w.prepared (filter test (named_ballots s w)) ≡ w.prepared =
+    greatest-still w.prepared (filter test (named_ballots s w)) (λ t i. let r = from-filter test t (named_ballots s w) i in
     let q = and_parts (may_be_prepared w.phase b.value t) (is_accepted s w t) r.1 in f t r.0 q.0 q.1) in
     λ i. record w {
       prepared = e i;
@@ -32,7 +32,7 @@ pub record NewPrepared (s : Seen) (b : Ballot) (w : Votes) : Type 0 where
   pub p : Option Ballot
   pub is : accept_prepared s b w ≡ record w { prepared = p; aborted = aborted_by w.prepared p w.aborted }
   pub grows : Under w.prepared p
-  pub above : (t : Ballot) → IsIn t (named s w) → may_be_prepared w.phase b.value t ≡ true → is_accepted s w t ≡ true
+  pub above : (t : Ballot) → IsIn t (named_ballots s w) → may_be_prepared w.phase b.value t ≡ true → is_accepted s w t ≡ true
       → above p t ≡ false
   pub from : (t : Ballot) → p ≡ Some t → (w.prepared ≡ Some t) ⊎ (may_be_prepared w.phase b.value t ≡ true)
 
@@ -41,33 +41,33 @@ unfolding accept_prepared
 accept_prepared-moves s b w =
     let test : Ballot → Bool = λ t. may_be_prepared w.phase b.value t && is_accepted s w t in
     record {
-      p = greatest w.prepared (filter test (named s w));
+      p = greatest w.prepared (filter test (named_ballots s w));
       is = refl;
-      grows = greatest-keeps w.prepared (filter test (named s w));
-      above = λ t i v a. greatest-above w.prepared (filter test (named s w)) t
-          (in-filter test t (named s w) i (and_from (may_be_prepared w.phase b.value t) (is_accepted s w t) v a));
-      from = λ t e. elim (greatest-from w.prepared (filter test (named s w)) t e) [
+      grows = greatest-keeps w.prepared (filter test (named_ballots s w));
+      above = λ t i v a. greatest-above w.prepared (filter test (named_ballots s w)) t
+          (in-filter test t (named_ballots s w) i (and_from (may_be_prepared w.phase b.value t) (is_accepted s w t) v a));
+      from = λ t e. elim (greatest-from w.prepared (filter test (named_ballots s w)) t e) [
         | inl k ↦ inl k
         | inr k ↦ inr
-            (and_parts (may_be_prepared w.phase b.value t) (is_accepted s w t) (from-filter test t (named s w) k).1).0
+            (and_parts (may_be_prepared w.phase b.value t) (is_accepted s w t) (from-filter test t (named_ballots s w) k).1).0
       ];
     }
 
 -- h
 pub raise_confirmed_prepared-still : (s : Seen) (w : Votes)
-    → ((t : Ballot) → IsIn t (named s w) → is_confirmed s w t ≡ true → above w.confirmed_prepared t ≡ false)
+    → ((t : Ballot) → IsIn t (named_ballots s w) → is_confirmed s w t ≡ true → above w.confirmed_prepared t ≡ false)
     → raise_confirmed_prepared s w ≡ w
 unfolding raise_confirmed_prepared
 raise_confirmed_prepared-still s w f =
-    let e : greatest w.confirmed_prepared (filter (is_confirmed s w) (named s w)) ≡ w.confirmed_prepared =
-    greatest-still w.confirmed_prepared (filter (is_confirmed s w) (named s w))
-    (λ t i. let r = from-filter (is_confirmed s w) t (named s w) i in f t r.0 r.1) in
+    let e : greatest w.confirmed_prepared (filter (is_confirmed s w) (named_ballots s w)) ≡ w.confirmed_prepared =
+    greatest-still w.confirmed_prepared (filter (is_confirmed s w) (named_ballots s w))
+    (λ t i. let r = from-filter (is_confirmed s w) t (named_ballots s w) i in f t r.0 r.1) in
     λ i. record w { confirmed_prepared = e i }
 
 pub record NewHigh (s : Seen) (w : Votes) : Type 0 where
   pub h : Option Ballot
   pub is : raise_confirmed_prepared s w ≡ record w { confirmed_prepared = h }
-  pub above : (t : Ballot) → IsIn t (named s w) → is_confirmed s w t ≡ true → above h t ≡ false
+  pub above : (t : Ballot) → IsIn t (named_ballots s w) → is_confirmed s w t ≡ true → above h t ≡ false
   pub from : (t : Ballot) → h ≡ Some t → (w.confirmed_prepared ≡ Some t) ⊎ (is_confirmed s w t ≡ true)
   pub stays : is_none w.confirmed_prepared ≡ false → is_none h ≡ false
 
@@ -79,16 +79,16 @@ high-stays (Some x) (Some y) u n = refl
 pub raise_confirmed_prepared-moves : (s : Seen) (w : Votes) → NewHigh s w
 unfolding raise_confirmed_prepared
 raise_confirmed_prepared-moves s w = record {
-  h = greatest w.confirmed_prepared (filter (is_confirmed s w) (named s w));
+  h = greatest w.confirmed_prepared (filter (is_confirmed s w) (named_ballots s w));
   is = refl;
-  above = λ t i c. greatest-above w.confirmed_prepared (filter (is_confirmed s w) (named s w)) t
-      (in-filter (is_confirmed s w) t (named s w) i c);
-  from = λ t e. elim (greatest-from w.confirmed_prepared (filter (is_confirmed s w) (named s w)) t e) [
+  above = λ t i c. greatest-above w.confirmed_prepared (filter (is_confirmed s w) (named_ballots s w)) t
+      (in-filter (is_confirmed s w) t (named_ballots s w) i c);
+  from = λ t e. elim (greatest-from w.confirmed_prepared (filter (is_confirmed s w) (named_ballots s w)) t e) [
     | inl k ↦ inl k
-    | inr k ↦ inr (from-filter (is_confirmed s w) t (named s w) k).1
+    | inr k ↦ inr (from-filter (is_confirmed s w) t (named_ballots s w) k).1
   ];
-  stays = high-stays w.confirmed_prepared (greatest w.confirmed_prepared (filter (is_confirmed s w) (named s w)))
-      (greatest-keeps w.confirmed_prepared (filter (is_confirmed s w) (named s w)));
+  stays = high-stays w.confirmed_prepared (greatest w.confirmed_prepared (filter (is_confirmed s w) (named_ballots s w)))
+      (greatest-keeps w.confirmed_prepared (filter (is_confirmed s w) (named_ballots s w)));
 }
 
 -- b becomes h

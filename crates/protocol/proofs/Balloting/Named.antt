@@ -6,7 +6,7 @@ use Rattle.types.specs.declared.statement.Statement.{Statement}
 use Rattle.protocol.specs.Views.{Seen}
 use Rattle.types.specs.declared.state.Votes.{Votes}
 use Rattle.protocol.specs.States.{position}
-use Rattle.protocol.specs.Candidates.{has_positive_counter, named_by, committed_by, named, commits}
+use Rattle.protocol.specs.Candidates.{has_positive_counter, named_by, committed_by, named_ballots, commits}
 use Rattle.protocol.specs.Extremes.{IsIn}
 use Rattle.protocol.proofs.Ballots.Above.{in-filter, from-filter, flat_map-append, flat_map-left, flat_map-right}
 
@@ -39,16 +39,16 @@ module _ (by : Statement → List Ballot) (rows own : List Statement) (t : Ballo
   of_own c i = in-filter has_positive_counter t (flat_map by (rows ++ own)) (flat_map-right by rows own t i) c
 
 module _ (s : Seen) (w : Votes) (t : Ballot) where
-  pub named-parts : IsIn t (named s w) → (nat_lt 0 t.counter ≡ true) × (IsIn t (row_named s) ⊎ IsIn t (own_named w))
-  unfolding named
+  pub named-parts : IsIn t (named_ballots s w) → (nat_lt 0 t.counter ≡ true) × (IsIn t (row_named s) ⊎ IsIn t (own_named w))
+  unfolding named_ballots
   named-parts i = parts named_by (s.rows Kind.Ballot) (option_to_list (position w)) t i
 
-  pub named-row : nat_lt 0 t.counter ≡ true → IsIn t (row_named s) → IsIn t (named s w)
-  unfolding named
+  pub named-row : nat_lt 0 t.counter ≡ true → IsIn t (row_named s) → IsIn t (named_ballots s w)
+  unfolding named_ballots
   named-row c i = of_row named_by (s.rows Kind.Ballot) (option_to_list (position w)) t c i
 
-  pub named-own : nat_lt 0 t.counter ≡ true → IsIn t (own_named w) → IsIn t (named s w)
-  unfolding named
+  pub named-own : nat_lt 0 t.counter ≡ true → IsIn t (own_named w) → IsIn t (named_ballots s w)
+  unfolding named_ballots
   named-own c i = of_own named_by (s.rows Kind.Ballot) (option_to_list (position w)) t c i
 
   pub commits-parts : IsIn t (commits s w)

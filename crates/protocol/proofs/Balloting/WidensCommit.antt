@@ -5,7 +5,7 @@ use Rattle.std.proofs.lemmas.Bool.Decides.{nat_tests}
 use Rattle.types.specs.declared.ballot.Ballot.{Ballot}
 use Rattle.protocol.specs.Views.{Seen}
 use Rattle.types.specs.declared.state.Votes.{Votes}
-use Rattle.protocol.specs.States.{below, ballot_at}
+use Rattle.protocol.specs.States.{below, ballot_with}
 use Rattle.protocol.specs.Candidates.{greatest, commits, lowest}
 use Rattle.protocol.specs.Balloting.{commit_accepted, accept_commit, accepted_from, widen_commit, next_committed}
 use Rattle.types.specs.declared.state.Phase.TheVariants.{Committing}
@@ -94,7 +94,7 @@ widens s b p w ballot prepared value high low = go (greatest None (filter test (
         (commit_accepted s w t.value t.counter t.counter) ok).0 in
         let v : t.value ≡ b.value = same_value-true t.value b.value parts.0 in
         let r = greatest-one w.prepared t in
-        let n = ballot_at (max b.counter t.counter) t.value in
+        let n = ballot_with (max b.counter t.counter) t.value in
         let up : w.high ≤ t.counter = less w.high t.counter parts.1 in
         record {
           u = record w {
@@ -145,13 +145,13 @@ widens s b p w ballot prepared value high low = go (greatest None (filter test (
         less_less a c d h k = grind (arith, nat_tests)
 
         newer : (b t q : Ballot) → t.value ≡ b.value → below q t ≡ false
-            → (ballot_at (max b.counter t.counter) t.value ≡ b)
-            ⊎ (below q (ballot_at (max b.counter t.counter) t.value) ≡ false)
+            → (ballot_with (max b.counter t.counter) t.value ≡ b)
+            ⊎ (below q (ballot_with (max b.counter t.counter) t.value) ≡ false)
         newer b t q v h = elim (cases_Bool (nat_le t.counter b.counter)) [
           | inl k ↦ let m : max b.counter t.counter ≡ b.counter = left b.counter t.counter k in
               inl (λ i. record { counter = m i; value = v i })
           | inr k ↦ let m : max b.counter t.counter ≡ t.counter = right b.counter t.counter k in
-              inr (subst (λ c. below q (ballot_at c t.value) ≡ false) (sym m) h)
+              inr (subst (λ c. below q (ballot_with c t.value) ≡ false) (sym m) h)
         ]
           where
             left : (a c : ℕ) → nat_le c a ≡ true → max a c ≡ a

@@ -39,8 +39,8 @@ proposal-cut R None = refl
 proposal-cut R (Some p) = refl
 
 module _ (R : Names) (i : ℕ) (net : Net) where
-  hosted : (u : ℕ) → R u ≡ true → is_hosted net u ≡ is_some (cast_of R net.hosts u)
-  hosted u r = ap (λ b. is_some (if b then slices_of net.hosts u else None)) (sym r)
+  hosted : (u : ℕ) → R u ≡ true → is_hosted net u ≡ is_some (cast_of R net.nodes u)
+  hosted u r = ap (λ b. is_some (if b then slices_of net.nodes u else None)) (sym r)
 
   seen_at : (j u : ℕ) → (j == i) ≡ true → R u ≡ true
       → sight R i net u ≡ option_map (cut_instance R) (node_where_open (instances_at net.slots j) u)
@@ -103,7 +103,7 @@ module _ (R : Names) (i : ℕ) (r : Roster) (on : (u : ℕ) → R u ≡ true →
   -- a member's own step is tested for no more than the member, the slot and the share
   own-tested : (net : Net) (j u : ℕ) → (j == i) ≡ true → R u ≡ true → (s : Source) → s ≡ OfShare r.shares j (Own u)
       → hosted_test net u ∷ open_test net j ∷ room_test net s ∷ []
-      ≡ (not (is_some (cast_of R net.hosts u)), NoSuchNode) ∷ (not (among (numbers net.slots) j), SlotNotOpen)
+      ≡ (not (is_some (cast_of R net.nodes u)), NoSuchNode) ∷ (not (among (numbers net.slots) j), SlotNotOpen)
       ∷ full_in (view R i net) (OfShare r.shares j (Own u)) ∷ []
   own-tested net j u e m s d =
       ap (λ z. hosted_test net u ∷ open_test net j ∷ room_test net z ∷ []) d

@@ -7,18 +7,18 @@ use Rattle.std.specs.List.{AllByRecursion}
 use Rattle.std.proofs.lemmas.Bool.{false≢true}
 use Rattle.types.specs.Statements.{Sent}
 use Rattle.protocol.specs.Sets.{Names}
-use Rattle.protocol.specs.Networks.{Reading, Step, Reply, read, size_of}
+use Rattle.protocol.specs.Networks.{Reading, Step, Reply, step_of_event, size_of}
 use Rattle.protocol.specs.Networks.Reading.{Read, Fault}
 use Rattle.protocol.specs.Networks.Step.{Delivers}
 use Rattle.protocol.specs.Hosts.{nets, host_run, steps_of}
-use Rattle.protocol.specs.Submissions.{Answer, answers_of, concerns, concerning, answers, HasOneLength, unsized, LengthsFollow}
+use Rattle.protocol.specs.Submissions.{Answer, answers_of, concerns, concerning, answers, HasOneLength, without_size, LengthsFollow}
 
 -- a delivery that concerns the set is what some bytes are read as
 abbrev IsRead : (List ℕ → Reading) → Step → Type 0
 IsRead decode (Delivers u size d) = (bytes : List ℕ) × ((size ≡ length bytes) × (decode bytes ≡ d))
 IsRead decode _ = Unit {0}
 
-is_read : (decode : List ℕ → Reading) (e : Event) → IsRead decode (read decode e)
+is_read : (decode : List ℕ → Reading) (e : Event) → IsRead decode (step_of_event decode e)
 is_read decode (Deliver u bytes) = (bytes, (refl, refl))
 is_read decode _ = tt
 
@@ -37,15 +37,15 @@ are_read decode R i g (c ∷ cs) (r ∷ rs) = go (c.0 == g) (are_read decode R i
     rest : List Answer
     rest = answers_of g (steps_of decode cs) rs
 
-    more : (b : Bool) → concerns R i (read decode c.1) ≡ b → AreRead decode R i rest
+    more : (b : Bool) → concerns R i (step_of_event decode c.1) ≡ b → AreRead decode R i rest
         → AllByRecursion (λ (x : Answer). IsRead decode x.step × (concerns R i x.step ≡ true))
-        (cond b (record { step = read decode c.1; reply = r } ∷ concerning R i rest) (concerning R i rest))
+        (cond b (record { step = step_of_event decode c.1; reply = r } ∷ concerning R i rest) (concerning R i rest))
     more true e h = ((is_read decode c.1, e), h)
     more false e h = h
 
     go : (b : Bool) → AreRead decode R i rest
-        → AreRead decode R i (if b then record { step = read decode c.1; reply = r } ∷ rest else rest)
-    go true h = more (concerns R i (read decode c.1)) refl h
+        → AreRead decode R i (if b then record { step = step_of_event decode c.1; reply = r } ∷ rest else rest)
+    go true h = more (concerns R i (step_of_event decode c.1)) refl h
     go false h = h
 
 -- ---- a step is what it is without its length, and its length
@@ -53,7 +53,7 @@ resized : ℕ → Step → Step
 resized n (Delivers u size d) = Delivers u n d
 resized n e = e
 
-resized-back : (e : Step) → resized (size_of e) (unsized e) ≡ e
+resized-back : (e : Step) → resized (size_of e) (without_size e) ≡ e
 unfolding resized
 resized-back (Delivers u size d) = refl
 resized-back _ = refl
@@ -63,7 +63,7 @@ envelope_of : Step → Option Sent
 envelope_of (Delivers u size (Read e)) = Some e
 envelope_of _ = None
 
-envelope-unsized : (e : Step) → envelope_of (unsized e) ≡ envelope_of e
+envelope-unsized : (e : Step) → envelope_of (without_size e) ≡ envelope_of e
 unfolding envelope_of
 envelope-unsized (Delivers u size (Read e)) = refl
 envelope-unsized _ = refl
@@ -87,7 +87,7 @@ module _ (decode : List ℕ → Reading) (R : Names) (i : ℕ) where
   no_length _ h q = refl
 
   module _ (lengths : HasOneLength decode) where
-    one_step : (e f : Step) → Known e → Known f → unsized e ≡ unsized f → e ≡ f
+    one_step : (e f : Step) → Known e → Known f → without_size e ≡ without_size f → e ≡ f
     one_step e f a b h = sym (resized-back e) ∙ (ap₂ resized (go (envelope_of e) refl) h ∙ resized-back f)
       where
         same : envelope_of e ≡ envelope_of f
@@ -102,14 +102,14 @@ module _ (decode : List ℕ → Reading) (R : Names) (i : ℕ) where
 
     one_list : (xs ys : List Answer) → AllByRecursion (λ (x : Answer). Known x.step) xs
         → AllByRecursion (λ (x : Answer). Known x.step) ys
-        → map unsized (map (λ x. x.step) xs) ≡ map unsized (map (λ x. x.step) ys)
+        → map without_size (map (λ x. x.step) xs) ≡ map without_size (map (λ x. x.step) ys)
         → map (λ x. x.step) xs ≡ map (λ x. x.step) ys
     one_list [] [] a b h = refl
     one_list [] (y ∷ ys) a b h = cc
     one_list (x ∷ xs) [] a b h = cc
     one_list (x ∷ xs) (y ∷ ys) a b h =
-        let first : unsized x.step ≡ unsized y.step = cc in
-        let rest : map unsized (map (λ x. x.step) xs) ≡ map unsized (map (λ x. x.step) ys) = cc in
+        let first : without_size x.step ≡ without_size y.step = cc in
+        let rest : map without_size (map (λ x. x.step) xs) ≡ map without_size (map (λ x. x.step) ys) = cc in
         ap₂ (λ (e : Step) (es : List Step). e ∷ es) (one_step x.step y.step a.0 b.0 first) (one_list xs ys a.1 b.1 rest)
 
 pub lengths_follow : LengthsFollow

@@ -7,12 +7,12 @@ use Rattle.protocol.specs.Sets.{Names, among, AreWithin}
 use Rattle.protocol.specs.Rosters.{Roster}
 use Rattle.protocol.specs.Networks.{HostedNode, Net, Step, Reply, slices_of, tests, first_that, state_and_reply, net_step}
 use Rattle.protocol.specs.Networks.Reply.{Done, Refused}
-use Rattle.protocol.specs.Hosts.{Config, Entry, journal_with, journal, new_net, nets, hosts_of, steps_of, entries}
+use Rattle.protocol.specs.Hosts.{Config, Entry, journal_with, journal, new_net, nets, nodes_of, steps_of, entries}
 use Rattle.protocol.specs.Isolation.{KeptStep, kept_step, kept_of, closure, outs_of, SameCast}
 use Rattle.protocol.specs.Submissions.{Answer, net_run, answers, concerns, concerning, concerning_steps, replied_to, config_of, SameRoster, SameReserves, names_on, roster_names, MembersAreNeverCrowdedOut, MembersOfRunsAreNeverCrowdedOut}
-use Rattle.protocol.proofs.Runs.Openings.{HostsIn}
-use Rattle.protocol.proofs.Runs.KeptWithin.{hosts-closed, events-closed, closure-start}
-use Rattle.protocol.proofs.Runs.SameSteps.{casts-same, hosts-other, no-instances, journals-agree}
+use Rattle.protocol.proofs.Runs.Openings.{NodesIn}
+use Rattle.protocol.proofs.Runs.KeptWithin.{nodes-closed, events-closed, closure-start}
+use Rattle.protocol.proofs.Runs.SameSteps.{casts-same, nodes-other, no-instances, journals-agree}
 use Rattle.protocol.proofs.Runs.Hosts.{steps_to, applied-journal, answers-run, HasNet, find_net, nobody}
 use Rattle.protocol.proofs.Crowds.Views.{view, Frame, frame, replies_in}
 use Rattle.protocol.proofs.Crowds.Others.{others-kept}
@@ -66,22 +66,22 @@ one-list (x ∷ xs) (y ∷ ys) a b =
 -- ---- one network in each history
 pub replies-agree : (config config' : Config) (r r' : Roster) (i v : ℕ) (es es' : List Step) → config.roster ≡ Some r
     → config'.roster ≡ Some r' →
-    let R = closure config.hosts i v (journal (new_net config) es) in
-    SameCast R v config.hosts config'.hosts → ((u : ℕ) → among r.names u ≡ among r'.names u) → r.shares ≡ r'.shares
+    let R = closure config.nodes i v (journal (new_net config) es) in
+    SameCast R v config.nodes config'.nodes → ((u : ℕ) → among r.names u ≡ among r'.names u) → r.shares ≡ r'.shares
     → config.budgets.slots ≡ config'.budgets.slots
     → AreWithin R (among r.names)
     → concerning_steps R i (net_run (new_net config) es) ≡ concerning_steps R i (net_run (new_net config') es')
     → replied_to R i (net_run (new_net config) es) ≡ replied_to R i (net_run (new_net config') es')
 replies-agree config config' r r' i v es es' h h' cast names shares slots on same =
     let run = journal (new_net config) es in
-    let R : Names = closure config.hosts i v run in
-    let closed : HostsIn R config.hosts = hosts-closed config.hosts i v run in
+    let R : Names = closure config.nodes i v run in
+    let closed : NodesIn R config.nodes = nodes-closed config.nodes i v run in
     let on' : (u : ℕ) → R u ≡ true → among r'.names u ≡ true = λ u m. sym (names u) ∙ on u m in
     let one : Shows R i r on (new_net config) (concerning R i (net_run (new_net config) es)) run =
-    shows R i r on es (new_net config) (record { instances = no-instances R i config; hosts = closed; roster = h })
-    (inl (events-closed config.hosts i v run)) in
+    shows R i r on es (new_net config) (record { instances = no-instances R i config; nodes = closed; roster = h })
+    (inl (events-closed config.nodes i v run)) in
     let frames : frame R r (new_net config) ≡ frame R r' (new_net config') =
-    λ j. record { cast = casts-same R v config.hosts config'.hosts cast j; shares = shares j; slots = slots j } in
+    λ j. record { cast = casts-same R v config.nodes config'.nodes cast j; shares = shares j; slots = slots j } in
     let good : AllGood R i (frame R r' (new_net config')) (view R i (new_net config'))
     (concerning_steps R i (net_run (new_net config') es')) =
     subst (λ (z : Frame × List Step). AllGood R i z.0 (view R i (new_net config)) z.1)
@@ -91,7 +91,7 @@ replies-agree config config' r r' i v es es' h h' cast names shares slots on sam
     shows R i r' on' es' (new_net config')
     (record {
       instances = no-instances R i config';
-      hosts = hosts-other R v config.hosts config'.hosts cast closed;
+      nodes = nodes-other R v config.nodes config'.nodes cast closed;
       roster = h';
     }) (inr good) in
     one.replies
@@ -100,13 +100,13 @@ replies-agree config config' r r' i v es es' h h' cast names shares slots on sam
 
 -- and each hosted member gives out the same
 pub outs-agree : (config config' : Config) (i v : ℕ) (es es' : List Step) →
-    let R = closure config.hosts i v (journal (new_net config) es) in
-    SameCast R v config.hosts config'.hosts
+    let R = closure config.nodes i v (journal (new_net config) es) in
+    SameCast R v config.nodes config'.nodes
     → concerning_steps R i (net_run (new_net config) es) ≡ concerning_steps R i (net_run (new_net config') es')
     → replied_to R i (net_run (new_net config) es) ≡ replied_to R i (net_run (new_net config') es')
     → (u : ℕ) → R u ≡ true → outs_of i u (journal (new_net config) es) ≡ outs_of i u (journal (new_net config') es')
 outs-agree config config' i v es es' cast steps replies =
-    let R : Names = closure config.hosts i v (journal (new_net config) es) in
+    let R : Names = closure config.nodes i v (journal (new_net config) es) in
     journals-agree config config' i v es es' cast
     (kept_step-answers R i es (new_net config)
     ∙ (ap (filter_map (kept_answer R i))
@@ -118,15 +118,15 @@ outs-agree config config' i v es es' cast steps replies =
 -- one network, in each of them
 record Agree (one other : Config) (i v : ℕ) (runs runs' : List Entry) (xs ys : List Answer) : Type 0 where
   replies : SameReserves (Some one) (Some other)
-      → AreWithin (closure one.hosts i v runs) (among (roster_names (Some one)))
-      → concerning_steps (closure one.hosts i v runs) i xs ≡ concerning_steps (closure one.hosts i v runs) i ys
-      → replied_to (closure one.hosts i v runs) i xs ≡ replied_to (closure one.hosts i v runs) i ys
-  outs : concerning_steps (closure one.hosts i v runs) i xs ≡ concerning_steps (closure one.hosts i v runs) i ys
-      → replied_to (closure one.hosts i v runs) i xs ≡ replied_to (closure one.hosts i v runs) i ys
-      → (u : ℕ) → IsTrue (closure one.hosts i v runs u) → outs_of i u runs ≡ outs_of i u runs'
+      → AreWithin (closure one.nodes i v runs) (among (roster_names (Some one)))
+      → concerning_steps (closure one.nodes i v runs) i xs ≡ concerning_steps (closure one.nodes i v runs) i ys
+      → replied_to (closure one.nodes i v runs) i xs ≡ replied_to (closure one.nodes i v runs) i ys
+  outs : concerning_steps (closure one.nodes i v runs) i xs ≡ concerning_steps (closure one.nodes i v runs) i ys
+      → replied_to (closure one.nodes i v runs) i xs ≡ replied_to (closure one.nodes i v runs) i ys
+      → (u : ℕ) → IsTrue (closure one.nodes i v runs u) → outs_of i u runs ≡ outs_of i u runs'
 
 agrees : (one other : Config) (i v : ℕ) (es es' : List Step)
-    → SameCast (closure one.hosts i v (journal (new_net one) es)) v one.hosts other.hosts
+    → SameCast (closure one.nodes i v (journal (new_net one) es)) v one.nodes other.nodes
     → Agree one other i v (journal (new_net one) es) (journal (new_net other) es') (net_run (new_net one) es)
     (net_run (new_net other) es')
 agrees one other i v es es' cast = record {
@@ -135,7 +135,7 @@ agrees one other i v es es' cast = record {
 }
   where
     R : Names
-    R = closure one.hosts i v (journal (new_net one) es)
+    R = closure one.nodes i v (journal (new_net one) es)
 
     go : (o p : Option Roster) → one.roster ≡ o → other.roster ≡ p → SameRoster o p → AreWithin R (among (names_on o))
         → one.budgets.slots ≡ other.budgets.slots
@@ -155,8 +155,8 @@ never_crowded_out_of_runs one other es fs i v cast reserves on same =
 
 -- all that the theorem speaks of
 record Worlds : Type 0 where
-  hosts : List HostedNode
-  hosts' : List HostedNode
+  nodes : List HostedNode
+  nodes' : List HostedNode
   config : Option Config
   config' : Option Config
   runs : List Entry
@@ -166,17 +166,17 @@ record Worlds : Type 0 where
 
 abbrev Claim : ℕ → ℕ → Worlds → Type 0
 Claim i v w =
-    let R = closure w.hosts i v w.runs in
-    SameCast R v w.hosts w.hosts' → SameReserves w.config w.config' → AreWithin R (among (roster_names w.config))
+    let R = closure w.nodes i v w.runs in
+    SameCast R v w.nodes w.nodes' → SameReserves w.config w.config' → AreWithin R (among (roster_names w.config))
     → concerning_steps R i w.xs ≡ concerning_steps R i w.ys
     → (replied_to R i w.xs ≡ replied_to R i w.ys)
-    × ((u : ℕ) → IsTrue (R u) → IsTrue (is_some (slices_of w.hosts u)) → outs_of i u w.runs ≡ outs_of i u w.runs')
+    × ((u : ℕ) → IsTrue (R u) → IsTrue (is_some (slices_of w.nodes u)) → outs_of i u w.runs ≡ outs_of i u w.runs')
 
 pub never_crowded_out : MembersAreNeverCrowdedOut
 never_crowded_out decode one other g i v cast reserves on same = go (find_net one.configs g) (find_net other.configs g)
   where
     R : Names
-    R = closure (hosts_of one.configs g) i v (entries decode one g)
+    R = closure (nodes_of one.configs g) i v (entries decode one g)
 
     es : List Step
     es = steps_to g (steps_of decode one.calls)
@@ -186,8 +186,8 @@ never_crowded_out decode one other g i v cast reserves on same = go (find_net on
 
     worlds : Worlds
     worlds = record {
-      hosts = hosts_of one.configs g;
-      hosts' = hosts_of other.configs g;
+      nodes = nodes_of one.configs g;
+      nodes' = nodes_of other.configs g;
       config = config_of one.configs g;
       config' = config_of other.configs g;
       runs = entries decode one g;
@@ -196,14 +196,14 @@ never_crowded_out decode one other g i v cast reserves on same = go (find_net on
       ys = answers decode other g;
     }
 
-    go : (hosts_of one.configs g ≡ []) ⊎ HasNet one.configs g → (hosts_of other.configs g ≡ []) ⊎ HasNet other.configs g
+    go : (nodes_of one.configs g ≡ []) ⊎ HasNet one.configs g → (nodes_of other.configs g ≡ []) ⊎ HasNet other.configs g
         → (replied_to R i (answers decode one g) ≡ replied_to R i (answers decode other g))
-        × ((u : ℕ) → IsTrue (R u) → IsTrue (is_some (slices_of (hosts_of one.configs g) u))
+        × ((u : ℕ) → IsTrue (R u) → IsTrue (is_some (slices_of (nodes_of one.configs g) u))
         → outs_of i u (entries decode one g) ≡ outs_of i u (entries decode other g))
-    go (inl e) n = absurd (nobody (hosts_of one.configs g) v e cast.hosted)
+    go (inl e) n = absurd (nobody (nodes_of one.configs g) v e cast.hosted)
     go (inr a) (inl e) =
-        absurd (nobody (hosts_of other.configs g) v e
-        (sym (ap is_some (cast.same v (closure-start (hosts_of one.configs g) i v (entries decode one g))))
+        absurd (nobody (nodes_of other.configs g) v e
+        (sym (ap is_some (cast.same v (closure-start (nodes_of one.configs g) i v (entries decode one g))))
         ∙ cast.hosted))
     go (inr a) (inr b) = subst (Claim i v) (sym (alike a b)) (λ c reserves on same.
         let agree = agrees a.config b.config i v es es' c in
@@ -211,8 +211,8 @@ never_crowded_out decode one other g i v cast reserves on same = go (find_net on
         (replies, λ u r h. agree.outs same replies u r)) cast reserves on same
       where
         alike : (a : HasNet one.configs g) (b : HasNet other.configs g) → worlds ≡ record {
-          hosts = a.config.hosts;
-          hosts' = b.config.hosts;
+          nodes = a.config.nodes;
+          nodes' = b.config.nodes;
           config = Some a.config;
           config' = Some b.config;
           runs = journal (new_net a.config) es;
@@ -230,8 +230,8 @@ never_crowded_out decode one other g i v cast reserves on same = go (find_net on
             let t : answers decode other g ≡ net_run (new_net b.config) es' =
             answers-run g (steps_of decode other.calls) (nets other.configs) (new_net b.config) b.is in
             λ j. record {
-              hosts = a.of j;
-              hosts' = b.of j;
+              nodes = a.of j;
+              nodes' = b.of j;
               config = a.at j;
               config' = b.at j;
               runs = p j;

@@ -18,7 +18,7 @@ use Rattle.protocol.proofs.Equality.Sameness.{eqb-refl}
 use Rattle.protocol.proofs.Runs.Sights.{Sight, sight, AllInstances, play, reply}
 use Rattle.protocol.proofs.Runs.Follows.{Follows}
 use Rattle.protocol.proofs.Runs.Events.{IsWithin, follows}
-use Rattle.protocol.proofs.Runs.Openings.{HostsIn, cast_of}
+use Rattle.protocol.proofs.Runs.Openings.{NodesIn, cast_of}
 use Rattle.protocol.proofs.Networks.Effects.{next, effect-keeps, left}
 use Rattle.protocol.proofs.Runs.KeptSteps.{AllIn, is_new}
 use Rattle.protocol.proofs.Runs.KeptWithin.{kept_step-to, if_kept}
@@ -42,7 +42,7 @@ module _ (R : Names) (i : ℕ) where
   outs-opened s false k f = refl
 
   outs-of : (net : Net) (e : Step) → concerns R i e ≡ true
-      → Follows R (cast_of R net.hosts) i net (effect net e) (λ w. is_of i w e) (kept_step R i e)
+      → Follows R (cast_of R net.nodes) i net (effect net e) (λ w. is_of i w e) (kept_step R i e)
       → (effect net e).1 ≡ reply (sight R i net) (kept_step R i e) (node_of e)
   unfolding effect
   outs-of net (Opens j) c f = outs-opened (sight R i net) (j == i) Opening (λ w. refl)
@@ -80,12 +80,12 @@ module _ (R : Names) (i : ℕ) (r : Roster) (on : (u : ℕ) → R u ≡ true →
   -- a network of which R is known to see enough
   pub record Stands (net : Net) : Type 0 where
     pub instances : AllInstances R i net
-    pub hosts : HostsIn R net.hosts
+    pub nodes : NodesIn R net.nodes
     pub roster : net.roster ≡ Some r
 
   follows-here : (net : Net) (e : Step) → Stands net → first_that (tests net e) ≡ None → IsWithin R i e
-      → Follows R (cast_of R net.hosts) i net (effect net e) (λ w. is_of i w e) (kept_step R i e)
-  follows-here net e s q f = follows R i net e s.instances s.hosts (is_new net e q) f
+      → Follows R (cast_of R net.nodes) i net (effect net e) (λ w. is_of i w e) (kept_step R i e)
+  follows-here net e s q f = follows R i net e s.instances s.nodes (is_new net e q) f
 
   stands-next : (net : Net) (e : Step) → Stands net → first_that (tests net e) ≡ None → IsWithin R i e
       → Stands (next net e)
@@ -93,13 +93,13 @@ module _ (R : Names) (i : ℕ) (r : Roster) (on : (u : ℕ) → R u ≡ true →
       let k = effect-keeps net e in
       record {
         instances = (follows-here net e s q f).instances;
-        hosts = subst (HostsIn R) (sym k.hosts) s.hosts;
+        nodes = subst (NodesIn R) (sym k.nodes) s.nodes;
         roster = k.roster ∙ s.roster;
       }
 
   frame-next : (net : Net) (e : Step) → frame R r (next net e) ≡ frame R r net
   frame-next net e = let k = effect-keeps net e in
-      λ j. record { cast = cast_of R (k.hosts j); shares = r.shares; slots = (k.budgets j).slots }
+      λ j. record { cast = cast_of R (k.nodes j); shares = r.shares; slots = (k.budgets j).slots }
 
   -- a step that concerns R
   view-concerned : (net : Net) (e : Step) → Stands net → concerns R i e ≡ true → first_that (tests net e) ≡ None
@@ -124,7 +124,7 @@ module _ (R : Names) (i : ℕ) (r : Roster) (on : (u : ℕ) → R u ≡ true →
   view-others net e s c q f =
       let k = effect-keeps net e in
       let sights : sight R i (effect net e).0 ≡ sight R i net = (follows-here net e s q f).sights
-      ∙ ap (play (cast_of R net.hosts) i (sight R i net)) (others-kept R i e c) in
+      ∙ ap (play (cast_of R net.nodes) i (sight R i net)) (others-kept R i e c) in
       let draws : filter (is_ours R i) (on_shares (source net.roster e) (size_of e) ++ (effect net e).0.draws)
       ≡ filter (is_ours R i) net.draws =
       ap (λ (ds : List Draw). filter (is_ours R i) (on_shares (source net.roster e) (size_of e) ++ ds)) k.draws

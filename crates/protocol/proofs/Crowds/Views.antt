@@ -66,7 +66,7 @@ pub record Frame : Type 0 where
   pub slots : ℕ
 
 abbrev pub frame : Names → Roster → Net → Frame
-frame R r net = record { cast = cast_of R net.hosts; shares = r.shares; slots = net.budgets.slots }
+frame R r net = record { cast = cast_of R net.nodes; shares = r.shares; slots = net.budgets.slots }
 
 -- what a step that concerns R draws on
 abbrev pub share_of : Shares → Step → Source

@@ -7,7 +7,7 @@ use Rattle.std.proofs.lemmas.List.Elements.{filter-append}
 use Rattle.std.proofs.lemmas.List.Sums.{sum_by-append, fold-append}
 use Rattle.protocol.specs.Rosters.{Share, Source, Draw, same_share, drawn_on, Roster}
 use Rattle.protocol.specs.Rosters.Source.{OfBudgets, OfOpens, OfShare}
-use Rattle.protocol.specs.Networks.{Net, Step, source, size_of, on_budgets, on_opens, on_shares, renewed}
+use Rattle.protocol.specs.Networks.{Net, Step, source, size_of, on_budgets, on_opens, on_shares, draws_after_opening}
 use Rattle.protocol.specs.Networks.Step.{Opens}
 use Rattle.protocol.specs.Hosts.{Config, Entry, new_net}
 use Rattle.protocol.specs.Runs.{net_after}
@@ -56,17 +56,17 @@ on_opens-is (OfShare shares i t) = refl
 
 -- ---- what an opening leaves of the draws
 module _ (i : ℕ) (t : Share) where
-  none-drawn : (ds : List Draw) → drawn_on i t (renewed i ds) ≡ []
+  none-drawn : (ds : List Draw) → drawn_on i t (draws_after_opening i ds) ≡ []
   none-drawn [] = refl
   none-drawn (d ∷ ds) = go (d.slot == i) refl (none-drawn ds)
     where
-      go : (b : Bool) → (d.slot == i) ≡ b → drawn_on i t (renewed i ds) ≡ []
-          → drawn_on i t (cond (not b) (d ∷ renewed i ds) (renewed i ds)) ≡ []
+      go : (b : Bool) → (d.slot == i) ≡ b → drawn_on i t (draws_after_opening i ds) ≡ []
+          → drawn_on i t (cond (not b) (d ∷ draws_after_opening i ds) (draws_after_opening i ds)) ≡ []
       go true e ih = ih
       go false e ih = rw e ih
 
   drawn-opened : (e : Step) (ds : List Draw) → is_opening i e ≡ true → drawn_on i t (left e ds) ≡ []
-  drawn-opened (Opens j) ds o = subst (λ k. drawn_on i t (renewed k ds) ≡ []) (sym (eqb-true j i o)) (none-drawn ds)
+  drawn-opened (Opens j) ds o = subst (λ k. drawn_on i t (draws_after_opening k ds) ≡ []) (sym (eqb-true j i o)) (none-drawn ds)
   drawn-opened _ ds o = absurd (false≢true o)
 
   nothing-opened : (roster : Option Roster) (e : Step) (size : ℕ) → is_opening i e ≡ true

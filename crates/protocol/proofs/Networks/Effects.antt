@@ -5,7 +5,7 @@ use Rattle.std.proofs.Common.{◌≡◌, ℕ, Bool, true, false, not, ◌==◌, 
 use Rattle.std.proofs.lemmas.List.{map-append}
 use Rattle.types.specs.Statements.{Sent}
 use Rattle.protocol.specs.Rosters.{Draw}
-use Rattle.protocol.specs.Networks.{Slot, Instance, Net, Step, effect, act, act_in, act_known, emission, node_where_open, instances_at, renewed, source, size_of, tests, first_that, with_draw, state_and_reply, net_step}
+use Rattle.protocol.specs.Networks.{Slot, Instance, Net, Step, effect, act, act_in, act_known, emission, node_where_open, instances_at, draws_after_opening, source, size_of, tests, first_that, with_draw, state_and_reply, net_step}
 use Rattle.protocol.specs.Hosts.{Entry}
 use Rattle.protocol.specs.Runs.{net_after}
 use Rattle.types.specs.declared.event.Refusal.{Refusal}
@@ -14,7 +14,7 @@ use Rattle.protocol.specs.Networks.Step.{Opens, Closes, Proposes, Delivers, Hear
 
 -- what an event leaves of the draws
 abbrev pub left : Step → List Draw → List Draw
-left (Opens j) ds = renewed j ds
+left (Opens j) ds = draws_after_opening j ds
 left _ ds = ds
 
 -- the open slots after an event
@@ -29,7 +29,7 @@ numbers ss = map (λ s. s.number) ss
 -- a network with other slots and draws
 pub record Keeps (net : Net) (open_slots : List ℕ) (kept_draws : List Draw) (next : Net) : Type 0 where
   pub number : next.number ≡ net.number
-  pub hosts : next.hosts ≡ net.hosts
+  pub nodes : next.nodes ≡ net.nodes
   pub budgets : next.budgets ≡ net.budgets
   pub roster : next.roster ≡ net.roster
   pub events : next.events ≡ net.events
@@ -68,7 +68,7 @@ keeps-slots : (net : Net) (next : List Slot) (ds : List Draw) (ns : List ℕ) �
 keeps-slots net next ds ns e =
     record {
       number = refl;
-      hosts = refl;
+      nodes = refl;
       budgets = refl;
       roster = refl;
       events = refl;
@@ -88,7 +88,7 @@ keeps-self net = keeps-slots net net.slots net.draws _ refl
 pub effect-keeps : (net : Net) (e : Step)
     → Keeps net (opened_after e (numbers net.slots)) (left e net.draws) (effect net e).0
 unfolding effect
-effect-keeps net (Opens j) = keeps-slots net _ (renewed j net.draws) _ (map-append (λ s. s.number) net.slots (_ ∷ []))
+effect-keeps net (Opens j) = keeps-slots net _ (draws_after_opening j net.draws) _ (map-append (λ s. s.number) net.slots (_ ∷ []))
 effect-keeps net (Closes j) = keeps-slots net _ net.draws _ (numbers-drop j net.slots)
 effect-keeps net (Proposes j u x) = keeps-act net j u _
 effect-keeps net (Delivers u size (Read e)) = keeps-act net e.slot u _

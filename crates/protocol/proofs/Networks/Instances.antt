@@ -23,7 +23,7 @@ module _ (P : Instance → Type 0) (new : (i : ℕ) (h : HostedNode) → P (reco
   abbrev AllSlots : List Slot → Type 0
   AllSlots ss = AllByRecursion (λ s. AllByRecursion P s.instances) ss
 
-  nodes_of_new_slot-all : (hosts : List HostedNode) (i : ℕ) → AllAt (nodes_of_new_slot hosts i)
+  nodes_of_new_slot-all : (nodes : List HostedNode) (i : ℕ) → AllAt (nodes_of_new_slot nodes i)
   unfolding nodes_of_new_slot
   nodes_of_new_slot-all [] i = tt
   nodes_of_new_slot-all (h ∷ hs) i = (new i h, nodes_of_new_slot-all hs i)
@@ -63,8 +63,8 @@ module _ (P : Instance → Type 0) (new : (i : ℕ) (h : HostedNode) → P (reco
   effect-all : (net : Net) (e : Step) → AllSlots net.slots → AllSlots (effect net e).0.slots
   unfolding effect
   effect-all net (Opens i) h =
-      push-all net.slots (record { number = i; instances = nodes_of_new_slot net.hosts i }) h
-      (nodes_of_new_slot-all net.hosts i)
+      push-all net.slots (record { number = i; instances = nodes_of_new_slot net.nodes i }) h
+      (nodes_of_new_slot-all net.nodes i)
   effect-all net (Closes i) h = filter-all (λ s. not (s.number == i)) net.slots h
   effect-all net (Proposes i u x) h = act-all net i u (Propose x) h
   effect-all net (Delivers u size (Read e)) h = act-all net e.slot u (Take e) h

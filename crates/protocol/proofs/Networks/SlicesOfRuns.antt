@@ -11,7 +11,7 @@ use Rattle.std.proofs.lemmas.Option.{none-some}
 use Rattle.protocol.specs.Nodes.{fresh}
 use Rattle.protocol.specs.Limits.{ComesOfEvents}
 use Rattle.protocol.specs.Limits.ComesOfEvents.{begin, next}
-use Rattle.protocol.specs.Networks.{Net, Step, Instance, Slot, slices_of, instances_at, node_where_open, emission, after_event, act, act_known, nodes_of_new_slot, renewed, effect, source, size_of, tests, first_that, with_draw, state_and_reply, net_step}
+use Rattle.protocol.specs.Networks.{Net, Step, Instance, Slot, slices_of, instances_at, node_where_open, emission, after_event, act, act_known, nodes_of_new_slot, draws_after_opening, effect, source, size_of, tests, first_that, with_draw, state_and_reply, net_step}
 use Rattle.protocol.specs.Networks.Reading.{Read, Fault}
 use Rattle.protocol.specs.Networks.Step.{Opens, Closes, Proposes, Delivers, Hears, NominationTimerFires, BallotTimerFires, Reslices}
 use Rattle.protocol.specs.Hosts.{Entry, journal_with, journal, new_net}
@@ -81,28 +81,28 @@ module _ (i u : ℕ) (q : Slices) where
       same false = refl
 
   -- opening the slot, or another one
-  has-opened : (now : Slices) (net : Net) (j : ℕ) → slices_of net.hosts u ≡ Some q
+  has-opened : (now : Slices) (net : Net) (j : ℕ) → slices_of net.nodes u ≡ Some q
       → instances_at net.slots j ≡ None → Has now net
       → Has (if j == i then q else now)
       (record net {
-        slots = net.slots ++ record { number = j; instances = nodes_of_new_slot net.hosts j } ∷ [];
-        draws = renewed j net.draws;
+        slots = net.slots ++ record { number = j; instances = nodes_of_new_slot net.nodes j } ∷ [];
+        draws = draws_after_opening j net.draws;
       })
   unfolding fresh
   has-opened now net j hosted n h = go (j == i) refl
     where
       slot : Slot
-      slot = record { number = j; instances = nodes_of_new_slot net.hosts j }
+      slot = record { number = j; instances = nodes_of_new_slot net.nodes j }
 
       go : (b : Bool) → (j == i) ≡ b
-          → Has (if b then q else now) (record net { slots = net.slots ++ slot ∷ []; draws = renewed j net.draws })
+          → Has (if b then q else now) (record net { slots = net.slots ++ slot ∷ []; draws = draws_after_opening j net.draws })
       go false o p k = h p (ap (λ x. node_where_open x u) (sym (instances_at-push_other net.slots slot i o)) ∙ k)
       go true y p k =
           let there : node_where_open (instances_at (net.slots ++ slot ∷ []) i) u
-          ≡ option_map (λ x. record { node = fresh j u x; emitted = [] }) (slices_of net.hosts u) =
+          ≡ option_map (λ x. record { node = fresh j u x; emitted = [] }) (slices_of net.nodes u) =
           ap (λ x. node_where_open x u)
           (instances_at-push net.slots slot i y (ap (instances_at net.slots) (sym (eqb-true j i y)) ∙ n))
-          ∙ node_named-opened net.hosts j u in
+          ∙ node_named-opened net.nodes j u in
           let same : ◌≡◌ {A = Option Instance} (Some (record { node = fresh j u q; emitted = [] })) (Some p) =
           ap (option_map (λ (x : Slices). record { node = fresh j u x; emitted = [] })) (sym hosted)
           ∙ (sym there ∙ k) in
@@ -123,7 +123,7 @@ module _ (i u : ℕ) (q : Slices) where
           ∙ instances_at-drop net.slots i)) ∙ k))
 
   -- each applied event
-  has-effect : (now : Slices) (net : Net) (e : Step) → slices_of net.hosts u ≡ Some q → IsNew net e → Has now net
+  has-effect : (now : Slices) (net : Net) (e : Step) → slices_of net.nodes u ≡ Some q → IsNew net e → Has now net
       → Has (slices_next i u q now e) (effect net e).0
   unfolding effect
   has-effect now net (Opens j) hosted n h = has-opened now net j hosted n h
@@ -142,7 +142,7 @@ module _ (i u : ℕ) (q : Slices) where
   has-effect now net (Reslices j w new) hosted n h = has-act now net j w (Reslice new) h
 
   -- a whole journal
-  has-run : (es : List Step) (net : Net) (now : Slices) → slices_of net.hosts u ≡ Some q → Has now net
+  has-run : (es : List Step) (net : Net) (now : Slices) → slices_of net.nodes u ≡ Some q → Has now net
       → Has (slices_since i u q now (journal net es)) (net_after net (journal net es))
   unfolding journal net_step net_after slices_since
   has-run [] net now hosted h = h
@@ -152,7 +152,7 @@ module _ (i u : ℕ) (q : Slices) where
       Claim n x run = Has (slices_since i u q x run) (net_after n run)
 
       go : (o : Option Refusal) → first_that (tests net e) ≡ o
-          → ((n : Net) (x : Slices) → slices_of n.hosts u ≡ Some q → Has x n → Claim n x (journal n es))
+          → ((n : Net) (x : Slices) → slices_of n.nodes u ≡ Some q → Has x n → Claim n x (journal n es))
           → Claim net now (journal_with e (state_and_reply net e o).1 (journal (state_and_reply net e o).0 es))
       go (Some r) z ih = ih net now hosted h
       go None z ih =
@@ -161,7 +161,7 @@ module _ (i u : ℕ) (q : Slices) where
           let now_then = slices_next i u q now e in
           subst (λ (n : Net). Has (slices_since i u q now_then run) n)
           (ap (λ o. net_after (state_and_reply net e o).0 run) (sym z))
-          (ih after now_then (ap (λ hs. slices_of hs u) (effect-keeps net e).hosts ∙ hosted)
+          (ih after now_then (ap (λ hs. slices_of hs u) (effect-keeps net e).nodes ∙ hosted)
           (has-effect now net e hosted (is_new net e z) h))
 
 pub slices_follow_runs : SlicesFollowRuns

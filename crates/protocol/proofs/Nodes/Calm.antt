@@ -11,13 +11,13 @@ use Rattle.protocol.proofs.Nodes.Made.{node_and_outs-node, if_node}
 use Rattle.types.specs.Trees.{Slices}
 use Rattle.protocol.specs.Views.{seen, rows_seen, led_by}
 use Rattle.protocol.specs.States.{position}
-use Rattle.protocol.specs.Candidates.{with_up_to_sixteen, combine, greatest, named}
+use Rattle.protocol.specs.Candidates.{with_up_to_sixteen, combine, greatest, named_ballots}
 use Rattle.protocol.specs.Nominating.{nominate, confirm_values, accept_values, echo}
 use Rattle.protocol.specs.Balloting.{with_first_ballot, start}
 
 -- a fresh node is
 pub fresh-calm : (slot v : ℕ) (q : Slices) → Calm (fresh slot v q)
-unfolding fresh pass pass_rules voting counting nominate confirm_values accept_values echo with_up_to_sixteen with_first_ballot start combine greatest named position seen rows_seen led_by
+unfolding fresh pass pass_rules voting counting nominate confirm_values accept_values echo with_up_to_sixteen with_first_ballot start combine greatest named_ballots position seen rows_seen led_by
 fresh-calm slot v q = refl
 
 -- votes that a pass leaves as they are settle at once

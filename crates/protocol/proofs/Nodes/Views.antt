@@ -15,7 +15,7 @@ use Rattle.protocol.specs.Quorums.{Lists, NamesWithin}
 use Rattle.protocol.specs.Rows.{row, is_row_of, is_kind}
 use Rattle.protocol.specs.Backing.{slices_by, is_passed}
 use Rattle.protocol.specs.Closures.{Rule, keeps, in_least}
-use Rattle.protocol.specs.Reach.{reached, rule_of}
+use Rattle.protocol.specs.Reach.{reach_of, rule_of}
 use Rattle.protocol.specs.Views.{others_reached, rows_seen, led_by, passing_with, quorum_passes, blocking_passes, seen}
 use Rattle.protocol.proofs.Sets.Finite.{same_test, all_from, within-at, among_head, among_tail}
 use Rattle.protocol.proofs.Slices.Satisfaction.{outside, sat_local, sat_monotone, sat_outside}
@@ -98,8 +98,8 @@ row-within R e a i = elim (or_cases (not (R e.sender)) (within (names e.slices) 
 
 -- Reach lies in R
 pub reached-in : (R : Names) (v : ℕ) (q : Slices) (table : List Sent) → Closing R v q table → (u : ℕ)
-    → reached v q table u ≡ true → R u ≡ true
-unfolding reached
+    → reach_of v q table u ≡ true → R u ≡ true
+unfolding reach_of
 reached-in R v q table c u h = least-in (first ∷ map rule_of table) v R c.has
     (and_from (keeps R first) (list_all (keeps R) (map rule_of table)) (keeps-from R first (λ w. c.own))
     (go table c.rows)) u h
@@ -115,8 +115,8 @@ reached-in R v q table c u h = least-in (first ∷ map rule_of table) v R c.has
 
 -- Reach is the same of the rows of R alone
 pub reached-cut : (R : Names) (v : ℕ) (q : Slices) (table : List Sent) → Closing R v q table → (u : ℕ)
-    → reached v q table u ≡ reached v q (cut R table) u
-unfolding reached
+    → reach_of v q table u ≡ reach_of v q (cut R table) u
+unfolding reach_of
 reached-cut R v q table c u = same_test _ _ less more
   where
     first : Rule
@@ -179,7 +179,7 @@ rows_seen-cut R v q table c k =
     let now : Sent → Bool = λ e. is_kind k (kind_of e.body) && others_reached v q table e.sender in
     let within_R : (e : Sent) → now e ≡ true → R e.sender ≡ true = λ e h.
     reached-in R v q table c e.sender
-    (and_parts (not (v == e.sender)) (reached v q table e.sender)
+    (and_parts (not (v == e.sender)) (reach_of v q table e.sender)
     (and_parts (is_kind k (kind_of e.body)) (others_reached v q table e.sender) h).1).1 in
     ap (map (λ (e : Sent). e.body))
     (sym (filter_filter (λ (e : Sent). R e.sender) now within_R table)

@@ -12,7 +12,7 @@ use Rattle.types.specs.Nominations.{Ascending, with_value}
 use Rattle.protocol.specs.Candidates.{as_set, all_with, with_up_to_sixteen, values_by}
 use Rattle.protocol.proofs.Nominating.Ascending.{ascends_on, ascends_from, first_least, with-has, with-kept, with-from, all-ascending, all-has, all-same, value-true}
 use Rattle.protocol.proofs.Nominating.Lengths.{with-new, all-longer}
-use Rattle.protocol.proofs.Nominating.Sets.{sources, echoes, new_voted, new_accepts, new_confirms, QuietAt, quiet-from}
+use Rattle.protocol.proofs.Nominating.Sets.{sources, echoes, new_voted, new_accepts, new_confirms, NominationRestsAt, quiet-from}
 use Rattle.protocol.proofs.Nominating.ValueSets.{filter_ascending, set_ascending}
 use Rattle.protocol.proofs.Ballots.Order.{less, less-self}
 use Rattle.protocol.proofs.Equality.Sameness.{same_value-refl}
@@ -235,7 +235,7 @@ accepts-still s f V ac = with_up_to_sixteen-still A (cands A) (elim (with_up_to_
 -- one pass over the three sets, and they rest
 pub sets-rest : (v : ℕ) (s : Seen) → Fair s → (g : Inputs) (vo ac co : List (List ℕ)) → Ascending co
     → let V = new_voted v s g vo co in let A = new_accepts s V ac in let C = new_confirms s V A co in
-    Ascending C × QuietAt v s g V A C
+    Ascending C × NominationRestsAt v s g V A C
 sets-rest v s f g vo ac co h =
     let V = new_voted v s g vo co in
     let A = new_accepts s V ac in

@@ -65,11 +65,11 @@ unfolding nominate
 nominate-not v s g w e = ap (λ b. if b then confirm_values s (accept_values s (echo v s g w)) else w) e
 
 -- nomination changes nothing at these sets
-abbrev pub QuietAt : ℕ → Seen → Inputs → List (List ℕ) → List (List ℕ) → List (List ℕ) → Type 0
-QuietAt v s g vo ac co = (u : Votes) → u.voted ≡ vo → u.accepts ≡ ac → u.confirms ≡ co → nominate v s g u ≡ u
+abbrev pub NominationRestsAt : ℕ → Seen → Inputs → List (List ℕ) → List (List ℕ) → List (List ℕ) → Type 0
+NominationRestsAt v s g vo ac co = (u : Votes) → u.voted ≡ vo → u.accepts ≡ ac → u.confirms ≡ co → nominate v s g u ≡ u
 
 pub quiet-from : (v : ℕ) (s : Seen) (g : Inputs) (vo ac co : List (List ℕ)) → new_voted v s g vo co ≡ vo
-    → new_accepts s vo ac ≡ ac → new_confirms s vo ac co ≡ co → QuietAt v s g vo ac co
+    → new_accepts s vo ac ≡ ac → new_confirms s vo ac co ≡ co → NominationRestsAt v s g vo ac co
 quiet-from v s g vo ac co a b c u i j k = elim (cases_Bool (is_none u.confirmed_prepared)) [
   | inr e ↦ nominate-not v s g u e
   | inl e ↦ nominate-is v s g u e

@@ -20,7 +20,7 @@ use Rattle.protocol.proofs.Balloting.PreparedStays.{Sound}
 use Rattle.protocol.proofs.Passes.RuleByRule.{ruled, finish, IsOpen, pass-ruled, pass-externalized, ruled-none, finish-none}
 use Rattle.protocol.proofs.Passes.Ends.{Ends, begins, from-committing, from-preparing}
 use Rattle.types.specs.Nominations.{Ascending}
-use Rattle.protocol.proofs.Nominating.Sets.{nominate-is, nominate-not, QuietAt}
+use Rattle.protocol.proofs.Nominating.Sets.{nominate-is, nominate-not, NominationRestsAt}
 use Rattle.protocol.proofs.Nominating.Rests.{sets-rest}
 use Rattle.protocol.proofs.Passes.OnePass.{stepped}
 
@@ -38,16 +38,16 @@ settle-more n f w h = elim (cases_Bool (same_votes (f w) w)) [
 ]
 
 -- nomination is at rest
-abbrev pub Quiet : ℕ → Seen → Inputs → Votes → Type 0
-Quiet v s g w = QuietAt v s g w.voted w.accepts w.confirms ⊎ (is_none w.confirmed_prepared ≡ false)
+abbrev pub NominationRests : ℕ → Seen → Inputs → Votes → Type 0
+NominationRests v s g w = NominationRestsAt v s g w.voted w.accepts w.confirms ⊎ (is_none w.confirmed_prepared ≡ false)
 
-pub quiet-same : (v : ℕ) (s : Seen) (g : Inputs) (w : Votes) → Quiet v s g w → nominate v s g w ≡ w
+pub quiet-same : (v : ℕ) (s : Seen) (g : Inputs) (w : Votes) → NominationRests v s g w → nominate v s g w ≡ w
 quiet-same v s g w (inl q) = q w refl refl refl
 quiet-same v s g w (inr h) = nominate-not v s g w h
 
 quiet-on : (v : ℕ) (s : Seen) (g : Inputs) (w y : Votes) → y.voted ≡ w.voted → y.accepts ≡ w.accepts
     → y.confirms ≡ w.confirms → (is_none w.confirmed_prepared ≡ false → is_none y.confirmed_prepared ≡ false)
-    → Quiet v s g w → Quiet v s g y
+    → NominationRests v s g w → NominationRests v s g y
 quiet-on v s g w y a b c d (inl q) = inl (λ u i j k. q u (i ∙ a) (j ∙ b) (k ∙ c))
 quiet-on v s g w y a b c d (inr h) = inr (d h)
 
@@ -61,26 +61,26 @@ settle-at n f w y e h = settle-more n f w (subst (λ (x : Votes). IsSome (settle
 
 module _ (v : ℕ) (s : Seen) (f : Fair s) (g : Inputs) where
   -- in COMMIT, where nothing is to be raised: one pass
-  one-left : (n : ℕ) (w : Votes) (b : Ballot) → Sound w → Quiet v s g w → w.phase ≡ Committing → w.ballot ≡ Some b
+  one-left : (n : ℕ) (w : Votes) (b : Ballot) → Sound w → NominationRests v s g w → w.phase ≡ Committing → w.ballot ≡ Some b
       → Risen s g b.counter → IsSome (settle (suc (suc n)) (pass v s g) w)
   one-left n w b sound q ph ball risen =
       let r = from-committing v s f g w b ph ball sound in
       let same : pass v s g w ≡ r.0 = pass-ruled v s g w (inr ph)
       ∙ (ap (λ x. finish s g (ruled s x)) (begins v s g w b ball (quiet-same v s g w q)) ∙ r.1) in
-      let q1 : Quiet v s g r.0 = quiet-on v s g w r.0 r.2.voted r.2.accepts r.2.confirms r.2.stays q in
+      let q1 : NominationRests v s g r.0 = quiet-on v s g w r.0 r.2.voted r.2.accepts r.2.confirms r.2.stays q in
       settle-at (suc n) (pass v s g) w r.0 same (settle-ends n (pass v s g) r.0 (elim (r.3 risen) [
         | inl k ↦ k (quiet-same v s g r.0 q1)
         | inr k ↦ pass-externalized v s g r.0 k
       ]))
 
   -- in PREPARE: two
-  two-left : (n : ℕ) (w : Votes) (b : Ballot) → Sound w → Quiet v s g w → w.phase ≡ Preparing → w.ballot ≡ Some b
+  two-left : (n : ℕ) (w : Votes) (b : Ballot) → Sound w → NominationRests v s g w → w.phase ≡ Preparing → w.ballot ≡ Some b
       → Risen s g b.counter → IsSome (settle (suc (suc (suc n))) (pass v s g) w)
   two-left n w b sound q ph ball risen =
       let r = from-preparing v s f g w b ph ball sound in
       let same : pass v s g w ≡ r.0 = pass-ruled v s g w (inl ph)
       ∙ (ap (λ x. finish s g (ruled s x)) (begins v s g w b ball (quiet-same v s g w q)) ∙ r.1) in
-      let q1 : Quiet v s g r.0 = quiet-on v s g w r.0 r.2.voted r.2.accepts r.2.confirms r.2.stays q in
+      let q1 : NominationRests v s g r.0 = quiet-on v s g w r.0 r.2.voted r.2.accepts r.2.confirms r.2.stays q in
       settle-at (suc (suc n)) (pass v s g) w r.0 same (elim (r.3 risen) [
         | inl k ↦ settle-ends (suc n) (pass v s g) r.0 (k (quiet-same v s g r.0 q1))
         | inr (inl k) ↦ settle-ends (suc n) (pass v s g) r.0 (pass-externalized v s g r.0 k)
@@ -98,7 +98,7 @@ pub record Fit (w : Votes) : Type 0 where
 -- one pass: it stays fit, and nomination is at rest
 pub record Once (v : ℕ) (s : Seen) (g : Inputs) (w y : Votes) : Type 0 where
   pub fit : Fit y
-  pub quiet : Quiet v s g y
+  pub quiet : NominationRests v s g y
   pub ends : Ends s g y ⊎ ((y.phase ≡ Preparing) × (y.ballot ≡ None) × (start s y ≡ y))
 
 module _ (v : ℕ) (s : Seen) (f : Fair s) (g : Inputs) where

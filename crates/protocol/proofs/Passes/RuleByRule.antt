@@ -11,8 +11,8 @@ use Rattle.protocol.specs.Views.{Seen, passes, accepted, confirmed}
 use Rattle.types.specs.declared.state.Phase.{Phase}
 use Rattle.types.specs.declared.state.Inputs.{Inputs}
 use Rattle.types.specs.declared.state.Votes.{Votes}
-use Rattle.protocol.specs.States.{ballot_at, position}
-use Rattle.protocol.specs.Candidates.{greatest, named_by, named}
+use Rattle.protocol.specs.States.{ballot_with, position}
+use Rattle.protocol.specs.Candidates.{greatest, named_by, named_ballots}
 use Rattle.protocol.specs.Balloting.{aborted_by, may_be_prepared, start, accept_prepared, raise_confirmed_prepared, follow_confirmed_prepared, is_aborted, set_commit, accept_commit, confirm_commit, confirm_prepared}
 use Rattle.protocol.specs.Nominating.{nominate}
 use Rattle.types.specs.declared.state.Phase.TheVariants.{Preparing, Committing, Externalized}
@@ -156,7 +156,7 @@ pub ballot_at_counter-counter : (w : Votes) (b : Ballot) (n : ℕ) → (ballot_a
 ballot_at_counter-counter w b n = go (n == b.counter) refl
   where
     go : (c : Bool) → (n == b.counter) ≡ c
-        → (if c then b else ballot_at n (value_once_raised w.phase w b.value)).counter ≡ n
+        → (if c then b else ballot_with n (value_once_raised w.phase w b.value)).counter ≡ n
     go true e = sym (eqb-true n b.counter e)
     go false e = refl
 
@@ -164,7 +164,7 @@ pub ballot_at_counter-stays : (w : Votes) (b : Ballot) (n : ℕ) → w.phase ≡
     → (ballot_at_counter w b n).value ≡ b.value
 ballot_at_counter-stays w b n p = go (n == b.counter)
   where
-    go : (c : Bool) → (if c then b else ballot_at n (value_once_raised w.phase w b.value)).value ≡ b.value
+    go : (c : Bool) → (if c then b else ballot_with n (value_once_raised w.phase w b.value)).value ≡ b.value
     go true = refl
     go false = ap (λ q. value_once_raised q w b.value) p
 
@@ -225,7 +225,7 @@ own-counts w b (inr p) e = rw (position-committing w b p e) (above b.counter)
 -- what is armed is not read
 pub accept_prepared-armed : (s : Seen) (b : Ballot) (w : Votes) (k : ℕ)
     → accept_prepared s b (record w { armed = k }) ≡ record (accept_prepared s b w) { armed = k }
-unfolding accept_prepared named
+unfolding accept_prepared named_ballots
 accept_prepared-armed s b w k = ap {B = Votes} (λ (o : Option Statement).
     let p = greatest w.prepared
     (filter (λ t. may_be_prepared w.phase b.value t && accepted s Kind.Ballot o (backs_prepare t) (takes_prepare t))
@@ -234,7 +234,7 @@ accept_prepared-armed s b w k = ap {B = Votes} (λ (o : Option Statement).
 
 pub raise_confirmed_prepared-armed : (s : Seen) (w : Votes) (k : ℕ)
     → raise_confirmed_prepared s (record w { armed = k }) ≡ record (raise_confirmed_prepared s w) { armed = k }
-unfolding raise_confirmed_prepared named
+unfolding raise_confirmed_prepared named_ballots
 raise_confirmed_prepared-armed s w k = ap {B = Votes} (λ (o : Option Statement).
     record w {
       confirmed_prepared = greatest w.confirmed_prepared (filter (λ t. confirmed s Kind.Ballot o (takes_prepare t))

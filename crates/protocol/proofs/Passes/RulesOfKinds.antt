@@ -6,7 +6,7 @@ use Rattle.types.specs.declared.state.Phase.TheVariants.{Preparing, Committing, 
 use Rattle.types.specs.declared.state.Inputs.{Inputs}
 use Rattle.types.specs.declared.state.Votes.{Votes}
 use Rattle.protocol.specs.Views.{Seen}
-use Rattle.protocol.specs.Candidates.{named, commits, combine}
+use Rattle.protocol.specs.Candidates.{named_ballots, commits, combine}
 use Rattle.protocol.specs.Nominating.{echo, accept_values, confirm_values, nominate}
 use Rattle.protocol.specs.Balloting.{with_first_ballot, start_from, start, accept_prepared, raise_confirmed_prepared, confirm_prepared, accepted_from, first_committed, next_committed, enter_commit, widen_commit, accept_commit, confirmed_commit, externalize, confirm_commit}
 use Rattle.protocol.specs.Passes.{counter_after_raise, raise, arm, with_ballot, on_ballot, in_prepare, while_preparing, while_open, balloting, voting, counting, balloted_in}
@@ -18,7 +18,7 @@ nominate-reads v s g w = refl
 
 -- ---- rule by rule
 start-reads : (s : Seen) (w : Votes) → start s w ≡ start (ballots_of s) w
-unfolding start with_first_ballot named
+unfolding start with_first_ballot named_ballots
 start-reads s w = go w.ballot (combine w.confirms)
   where
     without : (z : Option (List ℕ)) → with_first_ballot s w z ≡ with_first_ballot (ballots_of s) w z
@@ -30,11 +30,11 @@ start-reads s w = go w.ballot (combine w.confirms)
     go None z = without (combine w.confirms)
 
 prepared-reads : (s : Seen) (b : Ballot) (w : Votes) → accept_prepared s b w ≡ accept_prepared (ballots_of s) b w
-unfolding accept_prepared named
+unfolding accept_prepared named_ballots
 prepared-reads s b w = refl
 
 confirmed-reads : (s : Seen) (b : Ballot) (w : Votes) → confirm_prepared s b w ≡ confirm_prepared (ballots_of s) b w
-unfolding confirm_prepared raise_confirmed_prepared named
+unfolding confirm_prepared raise_confirmed_prepared named_ballots
 confirmed-reads s b w = refl
 
 enter-reads : (s : Seen) (b : Ballot) (w : Votes) (o : Option Ballot)

@@ -23,13 +23,13 @@ use Rattle.protocol.proofs.Nodes.Lawful.{calm-of-events}
 use Rattle.protocol.proofs.Passes.RowsOfKinds.{nominations-still, ballots-still}
 use Rattle.protocol.proofs.Passes.RulesOfKinds.{nominate-reads, balloted-reads}
 use Rattle.protocol.proofs.Equality.Sameness.{same_values-true, same_votes-refl, same_votes-true}
-use Rattle.protocol.proofs.Passes.FourPasses.{Fit, Quiet, once, pass-fit, phases, quiet-same}
+use Rattle.protocol.proofs.Passes.FourPasses.{Fit, NominationRests, once, pass-fit, phases, quiet-same}
 use Rattle.protocol.proofs.Passes.Settling.{changed-fit, reached-fit}
 use Rattle.protocol.proofs.Passes.OnePass.{framed, nominate-frame, stepped}
 use Rattle.protocol.proofs.Balloting.Tests.{Fair}
 
 -- where nomination changes nothing it is at rest
-quiet-of : (v : ℕ) (s : Seen) (g : Inputs) (w : Votes) → nominate v s g w ≡ w → Quiet v s g w
+quiet-of : (v : ℕ) (s : Seen) (g : Inputs) (w : Votes) → nominate v s g w ≡ w → NominationRests v s g w
 quiet-of v s g w same = elim (cases_Bool (is_none w.confirmed_prepared)) [
   | inr e ↦ inr e
   | inl e ↦
@@ -102,7 +102,7 @@ pass-parts v s g w = elim (phases w.phase) [
 pass-rested : (v : ℕ) (s : Seen) (g : Inputs) (w : Votes) → nominated_in v s g w ≡ w → pass v s g w ≡ balloted_in s g w
 pass-rested v s g w same = pass-parts v s g w ∙ ap (balloted_in s g) same
 
-quiet-nominated : (v : ℕ) (s : Seen) (g : Inputs) (w : Votes) → Quiet v s g w → nominated_in v s g w ≡ w
+quiet-nominated : (v : ℕ) (s : Seen) (g : Inputs) (w : Votes) → NominationRests v s g w → nominated_in v s g w ≡ w
 quiet-nominated v s g w q = elim (phases w.phase) [
   | inl e ↦ nominated-over v s g w e
   | inr o ↦ nominated-open v s g w o ∙ quiet-same v s g w q
@@ -126,14 +126,14 @@ module _ (v : ℕ) (s : Seen) (f : Fair s) (g : Inputs) where
   calm-balloted w sound calm = sym (pass-rested v s g w (calm-nominated w sound calm)) ∙ calm
 
   -- passes where nomination is at rest
-  rested-settles : (n : ℕ) (w : Votes) → Fit w → Quiet v s g w → settle n (pass v s g) w ≡ settle n (balloted_in s g) w
+  rested-settles : (n : ℕ) (w : Votes) → Fit w → NominationRests v s g w → settle n (pass v s g) w ≡ settle n (balloted_in s g) w
   unfolding settle
   rested-settles zero w fit q = refl
   rested-settles (suc n) w fit q =
       let e = pass-rested v s g w (quiet-nominated v s g w q) in
       let next : settle n (pass v s g) (pass v s g w) ≡ settle n (balloted_in s g) (pass v s g w) =
       rested-settles n (pass v s g w) (pass-fit v s f g w fit) (elim (phases w.phase) [
-        | inl x ↦ subst (λ (y : Votes). Quiet v s g y) (sym (pass-externalized v s g w x)) q
+        | inl x ↦ subst (λ (y : Votes). NominationRests v s g y) (sym (pass-externalized v s g w x)) q
         | inr o ↦ (once v s f g w fit o).quiet
       ]) in
       ap (λ (o : Option Votes). if same_votes (pass v s g w) w then Some w else o) next
@@ -147,7 +147,7 @@ module _ (v : ℕ) (s : Seen) (f : Fair s) (g : Inputs) where
     | inr e ↦ rw e refl
   ]
 
-  ballots-settle : (w : Votes) → Fit w → Quiet v s g w → settle_ballots s g w ≡ settle most_passes (pass v s g) w
+  ballots-settle : (w : Votes) → Fit w → NominationRests v s g w → settle_ballots s g w ≡ settle most_passes (pass v s g) w
   unfolding settle_ballots settle_after settle
   ballots-settle w fit q =
       same-or w (balloted_in s g w) (settle 63 (balloted_in s g) (balloted_in s g w)) ∙ sym (rested-settles 64 w fit q)
@@ -209,7 +209,7 @@ module _ (v : ℕ) (s : Seen) (f : Fair s) (g : Inputs) where
         | inl e ↦ over-settles w e ∙ ap {B = Option Votes} Some (sym (nominated-over v s g w e))
         | inr o ↦ goes-to w x made
             (settle-still 62 (pass v s g) x (pass-rested v s g x
-            (quiet-nominated v s g x (subst (λ (y : Votes). Quiet v s g y) made (once v s f g w fit o).quiet)) ∙ still))
+            (quiet-nominated v s g x (subst (λ (y : Votes). NominationRests v s g y) made (once v s f g w fit o).quiet)) ∙ still))
       ]
 
   nominations-settle : (w : Votes) → Fit w → balloted_in s g w ≡ w

@@ -13,7 +13,7 @@ use Rattle.protocol.specs.Rows.{row}
 use Rattle.protocol.specs.Backing.{slices_by}
 use Rattle.protocol.specs.Closures.{Rule, in_least, Derived, IsClosed}
 use Rattle.protocol.specs.Closures.Derived.{start, given}
-use Rattle.protocol.specs.Reach.{rule_of, rules_of, reached, Chain, HoldsReach, ReachIsLeast, ReachFollowsChains, ReachHoldsNames}
+use Rattle.protocol.specs.Reach.{rule_of, rules_of, reach_of, Chain, HoldsReach, ReachIsLeast, ReachFollowsChains, ReachHoldsNames}
 use Rattle.protocol.specs.Reach.IsNamed.{in_configuration, in_row}
 use Rattle.protocol.specs.Reach.Chain.{here, next}
 use Rattle.protocol.proofs.Sets.Finite.{among_head}
@@ -61,12 +61,12 @@ module _ (own : ℕ) (configured : Slices) (table : List Sent) where
         (λ u m. subst (λ w. IsTrue (set w)) (only e.sender u m) s);
   }
 
-  pub reached-in : (set : Names) → HoldsReach own configured table set → AreWithin (reached own configured table) set
-  unfolding reached
+  pub reached-in : (set : Names) → HoldsReach own configured table set → AreWithin (reach_of own configured table) set
+  unfolding reach_of
   reached-in set h = in_least-in (rules_of own configured table) own set (closed_from set h)
 
-  pub reached-holds : HoldsReach own configured table (reached own configured table)
-  unfolding reached
+  pub reached-holds : HoldsReach own configured table (reach_of own configured table)
+  unfolding reach_of
   reached-holds =
       closed_to (in_least (rules_of own configured table) own) (in_least-closed (rules_of own configured table) own)
 
@@ -91,16 +91,16 @@ module _ (own : ℕ) (configured : Slices) (table : List Sent) where
         (in_row m.0 m.1 refl (is_given (rule_of m.0) r u m.2 g))
   ]
 
-  pub reached_chain : (u : ℕ) → IsTrue (reached own configured table u) ↔ Chain own configured table u
-  unfolding reached
+  pub reached_chain : (u : ℕ) → IsTrue (reach_of own configured table u) ↔ Chain own configured table u
+  unfolding reach_of
   reached_chain u = let d = closures_derived (rules_of own configured table) own u in
       (λ h. chain_derived (d.0 h), λ c. d.1 (derived_chain c))
 
   -- A set that holds what the words say, and to each member of which a chain leads, is the reach: what a sweep has to
   -- show.
   pub reach_is : (set : Names) → HoldsReach own configured table set
-      → ((u : ℕ) → set u ≡ true → Chain own configured table u) → set ≡ reached own configured table
-  unfolding reached
+      → ((u : ℕ) → set u ≡ true → Chain own configured table u) → set ≡ reach_of own configured table
+  unfolding reach_of
   reach_is set h d = least_is (rules_of own configured table) own set (closed_from set h) (λ u s. derived_chain (d u s))
 
 -- a set that holds the reach holds the names of its members' slices
@@ -122,4 +122,4 @@ reach_chains = reached_chain
 
 pub reach_names : ReachHoldsNames
 reach_names own configured table kind =
-    names_held own configured table (reached own configured table) (reached-holds own configured table) kind
+    names_held own configured table (reach_of own configured table) (reached-holds own configured table) kind

@@ -11,7 +11,7 @@ use Rattle.protocol.specs.Quorums.{NamesWithin}
 use Rattle.protocol.specs.Rows.{is_row_of, row, with_row}
 use Rattle.protocol.specs.Backing.{slices_by}
 use Rattle.protocol.specs.Closures.{Rule, in_least}
-use Rattle.protocol.specs.Reach.{rule_of, reached, IsReach, StaysWithFirstRows, StaysWithSameSlices, StaysWithStrangers}
+use Rattle.protocol.specs.Reach.{rule_of, reach_of, IsReach, StaysWithFirstRows, StaysWithSameSlices, StaysWithStrangers}
 use Rattle.protocol.proofs.Sets.Finite.{same_test}
 use Rattle.protocol.proofs.Sets.Contained.{contains_head, contains_tail, contained_cases}
 use Rattle.protocol.proofs.Statements.Offers.{is_row_of-parts}
@@ -19,10 +19,10 @@ use Rattle.protocol.proofs.Reach.Chains.{reached-holds, reached-in, reach_names}
 
 -- what a list needs to be the reach in another table
 pub same_reach : (own : ℕ) (configured : Slices) (old new : List Sent) (us : List ℕ)
-    → ((u : ℕ) → reached own configured old u ≡ reached own configured new u) → IsReach own configured old us
+    → ((u : ℕ) → reach_of own configured old u ≡ reach_of own configured new u) → IsReach own configured old us
     → IsReach own configured new us
 same_reach own configured old new us same r =
-    let exactly : (u : ℕ) → among us u ≡ reached own configured new u = λ u. r.exactly u ∙ same u in
+    let exactly : (u : ℕ) → among us u ≡ reach_of own configured new u = λ u. r.exactly u ∙ same u in
     record {
       ascending = r.ascending;
       exactly = exactly;
@@ -54,7 +54,7 @@ same_rules e old (x ∷ xs) h q = go (is_row_of e.sender (kind_of e.body) x) ref
     go false i r ih = ap (λ (rs : List Rule). rule_of x ∷ rs) (ih r q)
 
 pub stays_with_same_slices : StaysWithSameSlices
-unfolding reached
+unfolding reach_of
 stays_with_same_slices own configured table us e old h q r =
     same_reach own configured table (with_row e table) us
     (λ u. ap (λ (rs : List Rule). in_least (record { sources = own ∷ []; gives = names configured } ∷ rs) own u)
@@ -91,28 +91,28 @@ stayed e x (y ∷ ys) c = go (is_row_of e.sender (kind_of e.body) y) refl (conta
     go false i (inr j) ih = elim (ih j) [ inl s ↦ inl s | inr k ↦ inr (contains_tail x y (with_row e ys) k) ]
 
 module _ (own : ℕ) (configured : Slices) (table : List Sent) (e : Sent)
-    (stranger : reached own configured table e.sender ≡ false) where
-  with_it-in : AreWithin (reached own configured (with_row e table)) (reached own configured table)
+    (stranger : reach_of own configured table e.sender ≡ false) where
+  with_it-in : AreWithin (reach_of own configured (with_row e table)) (reach_of own configured table)
   with_it-in = let held = reached-holds own configured table in
-      reached-in own configured (with_row e table) (reached own configured table) (record {
+      reached-in own configured (with_row e table) (reach_of own configured table) (record {
         itself = held.itself;
         configuration = held.configuration;
         rows = λ x c s. elim (came e x table c) [
           | inl same ↦ absurd
-              (true≢false (sym (subst (λ (z : Sent). reached own configured table z.sender ≡ true)
+              (true≢false (sym (subst (λ (z : Sent). reach_of own configured table z.sender ≡ true)
               (sym same) s) ∙ stranger))
           | inr i ↦ held.rows x i s
         ];
       })
 
-  without_it-in : AreWithin (reached own configured table) (reached own configured (with_row e table))
+  without_it-in : AreWithin (reach_of own configured table) (reach_of own configured (with_row e table))
   without_it-in = let held = reached-holds own configured (with_row e table) in
-      reached-in own configured table (reached own configured (with_row e table)) (record {
+      reached-in own configured table (reach_of own configured (with_row e table)) (record {
         itself = held.itself;
         configuration = held.configuration;
         rows = λ x c s. elim (stayed e x table c) [
           | inl same ↦ absurd
-              (true≢false (sym (subst (λ u. reached own configured table u ≡ true) same
+              (true≢false (sym (subst (λ u. reach_of own configured table u ≡ true) same
               (with_it-in x.sender s)) ∙ stranger))
           | inr i ↦ held.rows x i s
         ];
@@ -120,9 +120,9 @@ module _ (own : ℕ) (configured : Slices) (table : List Sent) (e : Sent)
 
 pub stays_with_strangers : StaysWithStrangers
 stays_with_strangers own configured table us e h r =
-    let stranger : reached own configured table e.sender ≡ false = sym (r.exactly e.sender) ∙ h in
+    let stranger : reach_of own configured table e.sender ≡ false = sym (r.exactly e.sender) ∙ h in
     same_reach own configured table (with_row e table) us
-    (λ u. same_test (reached own configured table u) (reached own configured (with_row e table) u)
+    (λ u. same_test (reach_of own configured table u) (reach_of own configured (with_row e table) u)
     (without_it-in own configured table e stranger u) (with_it-in own configured table e stranger u)) r
 
 -- ---- a sender's first row of a kind
@@ -153,10 +153,10 @@ none_went e x table none c = elim (went e x table c) [
 -- a row that names reached nodes alone leads to no others
 pub leads_to_none : (own : ℕ) (configured : Slices) (table : List Sent) (us : List ℕ) (e : Sent)
     → AreWithin (among (names e.slices)) (among us) → IsReach own configured table us
-    → AreWithin (reached own configured (with_row e table)) (reached own configured table)
+    → AreWithin (reach_of own configured (with_row e table)) (reach_of own configured table)
 leads_to_none own configured table us e within r =
     let held = reached-holds own configured table in
-    reached-in own configured (with_row e table) (reached own configured table) (record {
+    reached-in own configured (with_row e table) (reach_of own configured table) (record {
       itself = held.itself;
       configuration = held.configuration;
       rows = λ x c s. elim (came e x table c) [
@@ -169,12 +169,12 @@ leads_to_none own configured table us e within r =
 -- so where all that the replaced rows named is named still, no other nodes are reached
 pub stays_where : (own : ℕ) (configured : Slices) (table : List Sent) (us : List ℕ) (e : Sent)
     → AreWithin (among (names e.slices)) (among us) → IsReach own configured table us
-    → ((x : Sent) → Contains table x → IsTrue (reached own configured (with_row e table) x.sender)
-    → AreWithin (among (names x.slices)) (reached own configured (with_row e table)))
+    → ((x : Sent) → Contains table x → IsTrue (reach_of own configured (with_row e table) x.sender)
+    → AreWithin (among (names x.slices)) (reach_of own configured (with_row e table)))
     → IsReach own configured (with_row e table) us
 stays_where own configured table us e within r rows =
-    let old = reached own configured table in
-    let new = reached own configured (with_row e table) in
+    let old = reach_of own configured table in
+    let new = reach_of own configured (with_row e table) in
     let kept = reached-holds own configured (with_row e table) in
     let fewer : AreWithin new old = leads_to_none own configured table us e within r in
     let more : AreWithin old new = reached-in own configured table new

@@ -21,7 +21,7 @@ use Rattle.protocol.proofs.Runs.Prefixes.{closed_for, holds-after}
 use Rattle.protocol.proofs.Runs.Sights.{cut_instance, Sight, sight, play, reply, AllInstances}
 use Rattle.protocol.proofs.Runs.Follows.{Follows}
 use Rattle.protocol.proofs.Runs.Events.{IsNew, follows}
-use Rattle.protocol.proofs.Runs.Openings.{HostsIn, cast_of}
+use Rattle.protocol.proofs.Runs.Openings.{NodesIn, cast_of}
 use Rattle.protocol.proofs.Runs.KeptSteps.{is_new}
 use Rattle.protocol.proofs.Runs.KeptWithin.{if_kept, IsKeptIn, kept_step-to}
 
@@ -43,15 +43,15 @@ module _ (R : Names) (i : ℕ) where
   all_instances : (net : Net) → IsClosedIn R i net → AllInstances R i net
   all_instances net c u p k = record {
     name = node_where_open-name (instances_at net.slots i) u p k;
-    good = λ r. good R p.node (c.nodes u p k r);
+    good = λ r. good R p.node (c.instances u p k r);
     calm = λ r. c.calm u p k r;
     emitted = c.emitted u p k;
   }
 
-  closed_in : (net : Net) → HostsIn R net.hosts → AllInstances R i net → IsClosedIn R i net
-  closed_in net hosts h = record {
-    hosts = hosts;
-    nodes = λ u p k r. closed_for R p.node ((h u p k).good r);
+  closed_in : (net : Net) → NodesIn R net.nodes → AllInstances R i net → IsClosedIn R i net
+  closed_in net nodes h = record {
+    nodes = nodes;
+    instances = λ u p k r. closed_for R p.node ((h u p k).good r);
     calm = λ u p k r. (h u p k).calm r;
     emitted = λ u p k. (h u p k).emitted;
   }
@@ -88,11 +88,11 @@ module _ (R : Names) (i : ℕ) where
       seen : (net : Net) → option_map (cut_instance R) (instance_in net i u) ≡ sight R i net u
       seen net = sym (ap (λ b. if b then option_map (cut_instance R) (instance_in net i u) else None) r)
 
-  agree-casts : (one other : Net) → AgreeIn R i one other → cast_of R one.hosts ≡ cast_of R other.hosts
+  agree-casts : (one other : Net) → AgreeIn R i one other → cast_of R one.nodes ≡ cast_of R other.nodes
   agree-casts one other a = fun_ext (λ u. go u (R u) refl)
     where
       go : (u : ℕ) (b : Bool) → R u ≡ b
-          → (if b then slices_of one.hosts u else None) ≡ (if b then slices_of other.hosts u else None)
+          → (if b then slices_of one.nodes u else None) ≡ (if b then slices_of other.nodes u else None)
       go u true r = a.cast u r
       go u false r = refl
 
@@ -110,7 +110,7 @@ module _ (R : Names) (i : ℕ) where
   record Applied (net : Net) (e : Step) (os : List Out) : Type 0 where
     after : Net
     is : (net_step net e).0 ≡ after
-    hosts : after.hosts ≡ net.hosts
+    nodes : after.nodes ≡ net.nodes
     slots : after.slots ≡ (effect net e).0.slots
     outs : os ≡ (effect net e).1
     fresh : IsNew net e
@@ -125,7 +125,7 @@ module _ (R : Names) (i : ℕ) where
       go None q d = record {
         after = with_draw (source net.roster e) (size_of e) (effect net e).0;
         is = ap (λ o. (state_and_reply net e o).0) q;
-        hosts = (effect-keeps net e).hosts;
+        nodes = (effect-keeps net e).nodes;
         slots = refl;
         outs = cc;
         fresh = is_new net e q;
@@ -133,26 +133,26 @@ module _ (R : Names) (i : ℕ) where
 
   -- what the set sees after it, what its members give out, and what holds of the instances
   record Seen (net : Net) (e : Step) (os : List Out) : Type 0 where
-    sights : sight R i (net_step net e).0 ≡ play (cast_of R net.hosts) i (sight R i net) (kept_step R i e)
+    sights : sight R i (net_step net e).0 ≡ play (cast_of R net.nodes) i (sight R i net) (kept_step R i e)
     replies : (u : ℕ) → R u ≡ true → given_by i u e os ≡ reply (sight R i net) (kept_step R i e) u
-    hosts : (net_step net e).0.hosts ≡ net.hosts
+    nodes : (net_step net e).0.nodes ≡ net.nodes
     closed : IsClosedIn R i (net_step net e).0
 
   seen_step : (net : Net) (e : Step) (os : List Out) → IsClosedIn R i net → (net_step net e).1 ≡ Done os
       → if_kept R (kept_step R i e) → Seen net e os
   seen_step net e os c d k =
       let a = applied net e os d in
-      let hosts : HostsIn R net.hosts = c.hosts in
-      let f : Follows R (cast_of R net.hosts) i net (effect net e) (λ w. is_of i w e) (kept_step R i e) =
-      follows R i net e (all_instances net c) hosts a.fresh (kept_step-to R R i e (λ u r. r) k) in
+      let nodes : NodesIn R net.nodes = c.nodes in
+      let f : Follows R (cast_of R net.nodes) i net (effect net e) (λ w. is_of i w e) (kept_step R i e) =
+      follows R i net e (all_instances net c) nodes a.fresh (kept_step-to R R i e (λ u r. r) k) in
       let slots = ap (λ (n : Net). n.slots) a.is ∙ a.slots in
-      let same_hosts = ap (λ (n : Net). n.hosts) a.is ∙ a.hosts in
+      let same_nodes = ap (λ (n : Net). n.nodes) a.is ∙ a.nodes in
       record {
         sights = fun_ext (λ u. ap (λ ss. if R u then option_map (cut_instance R)
             (node_where_open (instances_at ss i) u) else None) slots) ∙ f.sights;
         replies = λ u r. ap (λ xs. given_by i u e xs) a.outs ∙ f.replies u r;
-        hosts = same_hosts;
-        closed = closed_in (net_step net e).0 (subst (λ hs. HostsIn R hs) (sym same_hosts) hosts)
+        nodes = same_nodes;
+        closed = closed_in (net_step net e).0 (subst (λ hs. NodesIn R hs) (sym same_nodes) nodes)
             (λ u p h. f.instances u p (ap (λ ss. node_where_open (instances_at ss i) u) (sym slots) ∙ h));
       }
 
@@ -167,7 +167,7 @@ steps_agree R i one other e d os ps c c_there a done done_there same k =
     let both : sight R i (net_step one e).0 ≡ sight R i (net_step other d).0 =
     s.sights ∙ ((λ j. play (casts j) i (now j) (same j)) ∙ sym t.sights) in (
       record {
-        cast = λ u r. ap (λ hs. slices_of hs u) s.hosts ∙ (a.cast u r ∙ ap (λ hs. slices_of hs u) (sym t.hosts));
+        cast = λ u r. ap (λ hs. slices_of hs u) s.nodes ∙ (a.cast u r ∙ ap (λ hs. slices_of hs u) (sym t.nodes));
         instances = sights-alike R i (net_step one e).0 (net_step other d).0 both;
       },
       λ u r. s.replies u r ∙ ((λ j. reply (now j) (same j) u) ∙ sym (t.replies u r)),
@@ -177,9 +177,9 @@ pub other_steps_leave : OtherStepsLeave
 other_steps_leave R i one other e os c a done none =
     let s = seen_step R i one e os c done (subst (if_kept R) (sym none) tt) in
     let still : sight R i (net_step one e).0 ≡ sight R i other =
-    s.sights ∙ (ap (λ o. play (cast_of R one.hosts) i (sight R i one) o) none ∙ agree-sights R i one other a) in (
+    s.sights ∙ (ap (λ o. play (cast_of R one.nodes) i (sight R i one) o) none ∙ agree-sights R i one other a) in (
       record {
-        cast = λ u r. ap (λ hs. slices_of hs u) s.hosts ∙ a.cast u r;
+        cast = λ u r. ap (λ hs. slices_of hs u) s.nodes ∙ a.cast u r;
         instances = sights-alike R i (net_step one e).0 other still;
       },
       λ u r. s.replies u r ∙ ap (λ o. reply (sight R i one) o u) none,
@@ -194,4 +194,4 @@ new_networks_agree R i one other same = record { cast = same; instances = λ u r
 pub runs_stay_closed_in : RunsStayClosedIn
 runs_stay_closed_in config run i v n is =
     let h = holds-after config run i v n is in
-    closed_in (closure config.hosts i v run) i (state_of config (take n run)) h.1 h.0
+    closed_in (closure config.nodes i v run) i (state_of config (take n run)) h.1 h.0

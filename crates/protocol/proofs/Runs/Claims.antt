@@ -12,8 +12,8 @@ use Rattle.protocol.specs.Rows.{row}
 use Rattle.protocol.specs.Nodes.{Node, step}
 use Rattle.types.specs.declared.event.NodeEvent.TheVariants.{Take, Reslice}
 use Rattle.protocol.specs.Hosts.{Entry}
-use Rattle.protocol.specs.Isolation.{closure, host_rule, announcement_rules}
-use Rattle.protocol.specs.Claims.{IsClosedFor, IsOfMembers, Agree, Quiet, PrefixOfRun, PrefixOfReach}
+use Rattle.protocol.specs.Isolation.{closure, node_rule, announcement_rules}
+use Rattle.protocol.specs.Claims.{IsClosedFor, IsOfMembers, Agree, CalmNodesAreQuiet, PrefixOfRun, PrefixOfReach}
 use Rattle.protocol.proofs.Sets.RuleLists.{least-in, least-start, least-keeps}
 use Rattle.protocol.proofs.Nodes.Views.{row-cut, reached-in}
 use Rattle.protocol.proofs.Nodes.Closed.{Good, IsFit}
@@ -24,7 +24,7 @@ use Rattle.protocol.proofs.Sets.Lists.{all-left}
 pub good : (R : Names) (n : Node) → IsClosedFor R n → Good R n
 good R n c = record { closed = record { has = c.has; own = c.own; rows = c.rows }; leaders = c.leaders }
 
-pub quiet_claim : Quiet
+pub quiet_claim : CalmNodesAreQuiet
 quiet_claim R n e c calm o =
     let q = step-quiet R n e (good R n c) calm o in
     record {
@@ -56,12 +56,12 @@ prefix_of_reach R n c u h = reached-in R n.name n.slices n.table (good R n c).cl
 
 pub prefix_of_run : PrefixOfRun
 unfolding closure
-prefix_of_run hosts i v front rest u h =
-    let whole = in_least (map host_rule hosts ++ flat_map (λ x. announcement_rules i x.event) (front ++ rest)) v in
-    least-in (map host_rule hosts ++ flat_map (λ x. announcement_rules i x.event) front) v whole
-    (least-start (map host_rule hosts ++ flat_map (λ x. announcement_rules i x.event) (front ++ rest)) v)
-    (front_of (map host_rule hosts) front rest whole
-    (least-keeps (map host_rule hosts ++ flat_map (λ x. announcement_rules i x.event) (front ++ rest)) v)) u h
+prefix_of_run nodes i v front rest u h =
+    let whole = in_least (map node_rule nodes ++ flat_map (λ x. announcement_rules i x.event) (front ++ rest)) v in
+    least-in (map node_rule nodes ++ flat_map (λ x. announcement_rules i x.event) front) v whole
+    (least-start (map node_rule nodes ++ flat_map (λ x. announcement_rules i x.event) (front ++ rest)) v)
+    (front_of (map node_rule nodes) front rest whole
+    (least-keeps (map node_rule nodes ++ flat_map (λ x. announcement_rules i x.event) (front ++ rest)) v)) u h
   where
     front_of : (rules : List Rule) (xs ys : List Entry) (S : Names)
         → list_all (keeps S) (rules ++ flat_map (λ x. announcement_rules i x.event) (xs ++ ys)) ≡ true

@@ -18,7 +18,7 @@ use Rattle.protocol.proofs.Nodes.Closed.{IsFit}
 use Rattle.protocol.proofs.Runs.Sights.{AllInstances}
 use Rattle.protocol.proofs.Runs.Follows.{Follows, unseen, member_kept, member_quiet}
 use Rattle.protocol.proofs.Runs.Hearings.{heard}
-use Rattle.protocol.proofs.Runs.Openings.{HostsIn, cast_of, closes, opens}
+use Rattle.protocol.proofs.Runs.Openings.{NodesIn, cast_of, closes, opens}
 use Rattle.protocol.proofs.Runs.Unkept.{stays}
 
 -- an event of one node that hands over no envelope
@@ -80,18 +80,18 @@ IsNew net (Opens j) = instances_at net.slots j ≡ None
 IsNew net _ = Unit {0}
 
 -- Each applied event is followed.
-pub follows : (R : Names) (i : ℕ) (net : Net) (e : Step) → AllInstances R i net → HostsIn R net.hosts → IsNew net e
+pub follows : (R : Names) (i : ℕ) (net : Net) (e : Step) → AllInstances R i net → NodesIn R net.nodes → IsNew net e
     → IsWithin R i e
-    → Follows R (cast_of R net.hosts) i net (effect net e) (λ w. is_of i w e) (kept_step R i e)
+    → Follows R (cast_of R net.nodes) i net (effect net e) (λ w. is_of i w e) (kept_step R i e)
 unfolding effect
-follows R i net (Opens j) h hosts n f = opens R i net j h hosts n
-follows R i net (Closes j) h hosts n f = closes R (cast_of R net.hosts) i net j h
-follows R i net (Proposes j u x) h hosts n f = asked R (cast_of R net.hosts) i net j u (Propose x) h (λ y r. tt) tt
-follows R i net (Delivers u size (Read e)) h hosts n f = delivered R (cast_of R net.hosts) i net u e h f
-follows R i net (Delivers u size (Fault x)) h hosts n f = stays R (cast_of R net.hosts) i net (λ w. false) h
-follows R i net (Hears j u from kind k) h hosts n f = heard R (cast_of R net.hosts) i net j u from kind k h
-follows R i net (NominationTimerFires j u r) h hosts n f =
-    asked R (cast_of R net.hosts) i net j u (NominationTimer r) h (λ y r. tt) tt
-follows R i net (BallotTimerFires j u c) h hosts n f =
-    asked R (cast_of R net.hosts) i net j u (BallotTimer c) h (λ y r. tt) tt
-follows R i net (Reslices j u q) h hosts n f = asked R (cast_of R net.hosts) i net j u (Reslice q) h f tt
+follows R i net (Opens j) h nodes n f = opens R i net j h nodes n
+follows R i net (Closes j) h nodes n f = closes R (cast_of R net.nodes) i net j h
+follows R i net (Proposes j u x) h nodes n f = asked R (cast_of R net.nodes) i net j u (Propose x) h (λ y r. tt) tt
+follows R i net (Delivers u size (Read e)) h nodes n f = delivered R (cast_of R net.nodes) i net u e h f
+follows R i net (Delivers u size (Fault x)) h nodes n f = stays R (cast_of R net.nodes) i net (λ w. false) h
+follows R i net (Hears j u from kind k) h nodes n f = heard R (cast_of R net.nodes) i net j u from kind k h
+follows R i net (NominationTimerFires j u r) h nodes n f =
+    asked R (cast_of R net.nodes) i net j u (NominationTimer r) h (λ y r. tt) tt
+follows R i net (BallotTimerFires j u c) h nodes n f =
+    asked R (cast_of R net.nodes) i net j u (BallotTimer c) h (λ y r. tt) tt
+follows R i net (Reslices j u q) h nodes n f = asked R (cast_of R net.nodes) i net j u (Reslice q) h f tt

@@ -3,7 +3,7 @@
 use Rattle.std.proofs.Common.{◌≡◌, ℕ, Bool, true, false, ◌==◌, Option, Some, List, [], ◌∷◌, map, if◌then◌else◌, is_some, refl, sym, ◌∙◌, ap, ap₂, subst, inl, inr, ◌⊎◌}
 use Rattle.std.proofs.lemmas.Bool.{false≢true, eqb-true}
 use Rattle.protocol.specs.Networks.{HostedNode, Net, Step, Reply, slices_of, net_step}
-use Rattle.protocol.specs.Hosts.{Entry, Config, journal_with, journal, net_at, reply_at, host_run, applied, nets, new_net, hosts_of, steps_of, entries}
+use Rattle.protocol.specs.Hosts.{Entry, Config, journal_with, journal, net_at, reply_at, host_run, applied_entries, nets, new_net, nodes_of, steps_of, entries}
 use Rattle.protocol.specs.Submissions.{net_run, answers_of, config_of}
 use Rattle.protocol.specs.Isolation.{closure, kept_of, outs_of, SameCast, Isolation}
 use Rattle.protocol.proofs.Networks.Effects.{effect-keeps, net_step-keeps}
@@ -75,9 +75,9 @@ module _ {X : Type 0} (g : ℕ) (more : Step → Reply → List X → List X) (o
 
 -- a history holds the journal of each of its networks
 pub applied-journal : (g : ℕ) (calls : List (ℕ × Step)) (ns : List Net) (n : Net) → net_at ns g ≡ Some n
-    → applied g calls (host_run ns calls) ≡ journal n (steps_to g calls)
-unfolding applied journal
-applied-journal g = gathered g journal_with (applied g) journal (λ n. refl) (λ c cs r rs. refl) (λ n e es. refl)
+    → applied_entries g calls (host_run ns calls) ≡ journal n (steps_to g calls)
+unfolding applied_entries journal
+applied-journal g = gathered g journal_with (applied_entries g) journal (λ n. refl) (λ c cs r rs. refl) (λ n e es. refl)
 
 -- and the answers of each of them
 pub answers-run : (g : ℕ) (calls : List (ℕ × Step)) (ns : List Net) (n : Net) → net_at ns g ≡ Some n
@@ -91,30 +91,30 @@ answers-run g =
 pub record HasNet (configs : List Config) (g : ℕ) : Type 0 where
   pub config : Config
   pub is : net_at (nets configs) g ≡ Some (new_net config)
-  pub of : hosts_of configs g ≡ config.hosts
+  pub of : nodes_of configs g ≡ config.nodes
   pub at : config_of configs g ≡ Some config
 
-pub find_net : (configs : List Config) (g : ℕ) → (hosts_of configs g ≡ []) ⊎ HasNet configs g
+pub find_net : (configs : List Config) (g : ℕ) → (nodes_of configs g ≡ []) ⊎ HasNet configs g
 find_net [] g = inl refl
 find_net (c ∷ cs) g = go (c.number == g) refl (find_net cs g)
   where
-    go : (b : Bool) → (c.number == g) ≡ b → (hosts_of cs g ≡ []) ⊎ HasNet cs g
-        → (hosts_of (c ∷ cs) g ≡ []) ⊎ HasNet (c ∷ cs) g
+    go : (b : Bool) → (c.number == g) ≡ b → (nodes_of cs g ≡ []) ⊎ HasNet cs g
+        → (nodes_of (c ∷ cs) g ≡ []) ⊎ HasNet (c ∷ cs) g
     go true y k = inr (record { config = c; is = rw y refl; of = rw y refl; at = rw y refl })
     go false y (inl e) = inl (rw y e)
     go false y (inr n) = inr (record { config = n.config; is = rw y n.is; of = rw y n.of; at = rw y n.at })
 
 -- nobody is hosted where there are no hosts
-pub nobody : (hosts : List HostedNode) (w : ℕ) → hosts ≡ [] → is_some (slices_of hosts w) ≡ true → ⊥
-nobody hosts w e h = false≢true (sym (ap (λ x. is_some (slices_of x w)) e) ∙ h)
+pub nobody : (nodes : List HostedNode) (w : ℕ) → nodes ≡ [] → is_some (slices_of nodes w) ≡ true → ⊥
+nobody nodes w e h = false≢true (sym (ap (λ x. is_some (slices_of x w)) e) ∙ h)
 
 pub isolation : Isolation
 isolation decode one other g i v cast same u r hosted = go (find_net one.configs g) (find_net other.configs g)
   where
-    go : (hosts_of one.configs g ≡ []) ⊎ HasNet one.configs g → (hosts_of other.configs g ≡ []) ⊎ HasNet other.configs g
+    go : (nodes_of one.configs g ≡ []) ⊎ HasNet one.configs g → (nodes_of other.configs g ≡ []) ⊎ HasNet other.configs g
         → outs_of i u (entries decode one g) ≡ outs_of i u (entries decode other g)
-    go (inl e) n = absurd (nobody (hosts_of one.configs g) v e cast.hosted)
-    go (inr a) (inl e) = absurd (nobody (hosts_of other.configs g) u e (sym (ap is_some (cast.same u r)) ∙ hosted))
+    go (inl e) n = absurd (nobody (nodes_of one.configs g) v e cast.hosted)
+    go (inr a) (inl e) = absurd (nobody (nodes_of other.configs g) u e (sym (ap is_some (cast.same u r)) ∙ hosted))
     go (inr a) (inr b) =
         agree a.of b.of (applied-journal g (steps_of decode one.calls) (nets one.configs) (new_net a.config) a.is)
         (applied-journal g (steps_of decode other.calls) (nets other.configs) (new_net b.config) b.is)

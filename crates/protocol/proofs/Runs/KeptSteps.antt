@@ -14,7 +14,7 @@ use Rattle.protocol.proofs.Networks.Effects.{effect-keeps}
 use Rattle.protocol.proofs.Runs.Sights.{Sight, sight, play, reply, AllInstances}
 use Rattle.protocol.proofs.Runs.Follows.{Follows}
 use Rattle.protocol.proofs.Runs.Events.{IsWithin, IsNew, follows}
-use Rattle.protocol.proofs.Runs.Openings.{HostsIn, cast_of}
+use Rattle.protocol.proofs.Runs.Openings.{NodesIn, cast_of}
 
 -- the outs that the kept steps give a node
 abbrev pub answers : (ℕ → Option Slices) → ℕ → Sight → ℕ → List KeptStep → List Out
@@ -42,31 +42,31 @@ AllIn R i entries = AllByRecursion (λ x. IsWithin R i x.event) entries
 
 -- one history, by its applied events
 pub run-sight : (R : Names) (i u : ℕ) → R u ≡ true → (es : List Step) (net : Net) → AllInstances R i net
-    → HostsIn R net.hosts → AllIn R i (journal net es)
-    → outs_of i u (journal net es) ≡ answers (cast_of R net.hosts) i (sight R i net) u (kept_of R i (journal net es))
+    → NodesIn R net.nodes → AllIn R i (journal net es)
+    → outs_of i u (journal net es) ≡ answers (cast_of R net.nodes) i (sight R i net) u (kept_of R i (journal net es))
 unfolding journal net_step outs_of kept_of
-run-sight R i u r [] net h hosts f = refl
-run-sight R i u r (e ∷ es) net h hosts f = go (first_that (tests net e)) refl f (λ n. run-sight R i u r es n)
+run-sight R i u r [] net h nodes f = refl
+run-sight R i u r (e ∷ es) net h nodes f = go (first_that (tests net e)) refl f (λ n. run-sight R i u r es n)
   where
     Claim : Net → Type 0
-    Claim n = AllInstances R i n → HostsIn R n.hosts → AllIn R i (journal n es)
-        → outs_of i u (journal n es) ≡ answers (cast_of R n.hosts) i (sight R i n) u (kept_of R i (journal n es))
+    Claim n = AllInstances R i n → NodesIn R n.nodes → AllIn R i (journal n es)
+        → outs_of i u (journal n es) ≡ answers (cast_of R n.nodes) i (sight R i n) u (kept_of R i (journal n es))
 
     go : (o : Option Refusal) → first_that (tests net e) ≡ o
         → AllIn R i (journal_with e (state_and_reply net e o).1 (journal (state_and_reply net e o).0 es))
         → ((n : Net) → Claim n)
         → outs_of i u (journal_with e (state_and_reply net e o).1 (journal (state_and_reply net e o).0 es))
-        ≡ answers (cast_of R net.hosts) i (sight R i net) u
+        ≡ answers (cast_of R net.nodes) i (sight R i net) u
         (kept_of R i (journal_with e (state_and_reply net e o).1 (journal (state_and_reply net e o).0 es)))
-    go (Some n) q f ih = ih net h hosts f
+    go (Some n) q f ih = ih net h nodes f
     go None q f ih =
         let next : Net = with_draw (source net.roster e) (size_of e) (effect net e).0 in
-        let step : Follows R (cast_of R net.hosts) i net (effect net e) (λ w. is_of i w e) (kept_step R i e) =
-        follows R i net e h hosts (is_new net e q) f.0 in
-        let same : next.hosts ≡ net.hosts = (effect-keeps net e).hosts in
-        let rest = ih next step.instances (subst (HostsIn R) (sym same) hosts) f.1 in
+        let step : Follows R (cast_of R net.nodes) i net (effect net e) (λ w. is_of i w e) (kept_step R i e) =
+        follows R i net e h nodes (is_new net e q) f.0 in
+        let same : next.nodes ≡ net.nodes = (effect-keeps net e).nodes in
+        let rest = ih next step.instances (subst (NodesIn R) (sym same) nodes) f.1 in
         ap₂ (λ (xs ys : List Out). xs ++ ys) (step.replies u r)
         (rest ∙ ap₂ (λ (hs : List HostedNode) (s : Sight). answers (cast_of R hs) i s u
         (kept_of R i (journal next es))) same step.sights)
-        ∙ sym (answers-option (cast_of R net.hosts) i (sight R i net) u (kept_step R i e)
+        ∙ sym (answers-option (cast_of R net.nodes) i (sight R i net) u (kept_step R i e)
         (kept_of R i (journal next es)))

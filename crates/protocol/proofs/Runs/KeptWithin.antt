@@ -12,30 +12,30 @@ use Rattle.protocol.specs.Networks.{HostedNode, Step, slices_of}
 use Rattle.protocol.specs.Networks.Reading.{Read, Fault}
 use Rattle.protocol.specs.Networks.Step.{Opens, Closes, Proposes, Delivers, Hears, NominationTimerFires, BallotTimerFires, Reslices}
 use Rattle.protocol.specs.Hosts.{Entry}
-use Rattle.protocol.specs.Isolation.{KeptStep, when_kept, kept_step, kept_of, host_rule, announcement_rules, closure}
+use Rattle.protocol.specs.Isolation.{KeptStep, when_kept, kept_step, kept_of, node_rule, announcement_rules, closure}
 use Rattle.protocol.specs.Isolation.KeptStep.{Opening, Closing, EventAt, Hearing}
 use Rattle.protocol.proofs.Sets.Least.{keeps-at}
 use Rattle.protocol.proofs.Sets.RuleLists.{least-keeps, least-start}
 use Rattle.protocol.proofs.Runs.Events.{IsWithin}
-use Rattle.protocol.proofs.Runs.Openings.{HostsIn}
+use Rattle.protocol.proofs.Runs.Openings.{NodesIn}
 use Rattle.protocol.proofs.Runs.KeptSteps.{AllIn}
 use Rattle.protocol.proofs.Sets.Lists.{all-left, all-right}
 
 -- What the closure says of a run
 
-hosts-in : (R : Names) (hosts : List HostedNode) → list_all (keeps R) (map host_rule hosts) ≡ true → HostsIn R hosts
-hosts-in R [] h u q e r = cc
-hosts-in R (x ∷ xs) h u q e r =
-    let p = and_parts (keeps R (host_rule x)) (list_all (keeps R) (map host_rule xs)) h in
-    go (x.name == u) refl p.0 e (hosts-in R xs p.1 u q)
+nodes-in : (R : Names) (nodes : List HostedNode) → list_all (keeps R) (map node_rule nodes) ≡ true → NodesIn R nodes
+nodes-in R [] h u q e r = cc
+nodes-in R (x ∷ xs) h u q e r =
+    let p = and_parts (keeps R (node_rule x)) (list_all (keeps R) (map node_rule xs)) h in
+    go (x.name == u) refl p.0 e (nodes-in R xs p.1 u q)
   where
-    go : (b : Bool) → (x.name == u) ≡ b → keeps R (host_rule x) ≡ true
+    go : (b : Bool) → (x.name == u) ≡ b → keeps R (node_rule x) ≡ true
         → (if b then Some x.slices else slices_of xs u) ≡ Some q
         → (slices_of xs u ≡ Some q → R u ≡ true → within (names q) R ≡ true) → within (names q) R ≡ true
     go true n k s ih =
         let m : x.slices ≡ q = cc in
         subst (λ (t : Slices). within (names t) R ≡ true) m
-        (keeps-at R (host_rule x) k (and_from (R x.name) true (ap R (eqb-true x.name u n) ∙ r) refl))
+        (keeps-at R (node_rule x) k (and_from (R x.name) true (ap R (eqb-true x.name u n) ∙ r) refl))
     go false n k s ih = ih s r
 
 events-in : (R : Names) (i : ℕ) (entries : List Entry)
@@ -145,31 +145,31 @@ pub all_in-other : (R : Names) (i : ℕ) (one other : List Entry) → kept_of R 
 all_in-other R i one other same h =
     all_kept-to R R i other (λ u r. r) (subst (AllByRecursion (IsKeptIn R)) same (all_kept-from R R i one h))
 
-pub closure-start : (hosts : List HostedNode) (i v : ℕ) (entries : List Entry) → closure hosts i v entries v ≡ true
+pub closure-start : (nodes : List HostedNode) (i v : ℕ) (entries : List Entry) → closure nodes i v entries v ≡ true
 unfolding closure
-closure-start hosts i v entries =
-    least-start (map host_rule hosts ++ flat_map (λ x. announcement_rules i x.event) entries) v
+closure-start nodes i v entries =
+    least-start (map node_rule nodes ++ flat_map (λ x. announcement_rules i x.event) entries) v
 
-pub closure-keeps : (hosts : List HostedNode) (i v : ℕ) (entries : List Entry)
-    → list_all (keeps (closure hosts i v entries))
-    (map host_rule hosts ++ flat_map (λ x. announcement_rules i x.event) entries) ≡ true
+pub closure-keeps : (nodes : List HostedNode) (i v : ℕ) (entries : List Entry)
+    → list_all (keeps (closure nodes i v entries))
+    (map node_rule nodes ++ flat_map (λ x. announcement_rules i x.event) entries) ≡ true
 unfolding closure
-closure-keeps hosts i v entries =
-    least-keeps (map host_rule hosts ++ flat_map (λ x. announcement_rules i x.event) entries) v
+closure-keeps nodes i v entries =
+    least-keeps (map node_rule nodes ++ flat_map (λ x. announcement_rules i x.event) entries) v
 
 -- what the closure of a run says of its hosted members, and of what is delivered among them
-pub hosts-closed : (hosts : List HostedNode) (i v : ℕ) (entries : List Entry)
-    → HostsIn (closure hosts i v entries) hosts
-hosts-closed hosts i v entries =
-    let R = closure hosts i v entries in
-    hosts-in R hosts
-    (all-left (keeps R) (map host_rule hosts) (flat_map (λ x. announcement_rules i x.event) entries)
-    (closure-keeps hosts i v entries))
+pub nodes-closed : (nodes : List HostedNode) (i v : ℕ) (entries : List Entry)
+    → NodesIn (closure nodes i v entries) nodes
+nodes-closed nodes i v entries =
+    let R = closure nodes i v entries in
+    nodes-in R nodes
+    (all-left (keeps R) (map node_rule nodes) (flat_map (λ x. announcement_rules i x.event) entries)
+    (closure-keeps nodes i v entries))
 
-pub events-closed : (hosts : List HostedNode) (i v : ℕ) (entries : List Entry)
-    → AllIn (closure hosts i v entries) i entries
-events-closed hosts i v entries =
-    let R = closure hosts i v entries in
+pub events-closed : (nodes : List HostedNode) (i v : ℕ) (entries : List Entry)
+    → AllIn (closure nodes i v entries) i entries
+events-closed nodes i v entries =
+    let R = closure nodes i v entries in
     events-in R i entries
-    (all-right (keeps R) (map host_rule hosts) (flat_map (λ x. announcement_rules i x.event) entries)
-    (closure-keeps hosts i v entries))
+    (all-right (keeps R) (map node_rule nodes) (flat_map (λ x. announcement_rules i x.event) entries)
+    (closure-keeps nodes i v entries))

@@ -7,7 +7,7 @@ use Rattle.std.proofs.lemmas.Option.{none-some}
 use Rattle.protocol.specs.Sets.{Names, within}
 use Rattle.protocol.specs.Satisfaction.{names}
 use Rattle.protocol.specs.Nodes.{fresh}
-use Rattle.protocol.specs.Networks.{HostedNode, Instance, Slot, Net, slices_of, instances_at, node_named, node_where_open, nodes_of_new_slot, renewed}
+use Rattle.protocol.specs.Networks.{HostedNode, Instance, Slot, Net, slices_of, instances_at, node_named, node_where_open, nodes_of_new_slot, draws_after_opening}
 use Rattle.protocol.specs.Isolation.{when_kept}
 use Rattle.protocol.specs.Isolation.KeptStep.{Opening, Closing}
 use Rattle.protocol.proofs.Runs.Sights.{cut_instance, IsInstance, AllInstances}
@@ -17,9 +17,9 @@ use Rattle.protocol.proofs.Networks.OpenSlots.{instances_at-drop, instances_at-d
 
 -- Opening and closing
 
-pub node_named-opened : (hosts : List HostedNode) (i u : ℕ)
-    → node_named (nodes_of_new_slot hosts i) u
-    ≡ option_map (λ q. record { node = fresh i u q; emitted = [] }) (slices_of hosts u)
+pub node_named-opened : (nodes : List HostedNode) (i u : ℕ)
+    → node_named (nodes_of_new_slot nodes i) u
+    ≡ option_map (λ q. record { node = fresh i u q; emitted = [] }) (slices_of nodes u)
 unfolding nodes_of_new_slot fresh
 node_named-opened [] i u = refl
 node_named-opened (h ∷ hs) i u = go (h.name == u) refl (node_named-opened hs i u)
@@ -35,8 +35,8 @@ node_named-opened (h ∷ hs) i u = go (h.name == u) refl (node_named-opened hs i
     go false e ih = ih
 
 -- what the hosted members announce lies in R
-abbrev pub HostsIn : Names → List HostedNode → Type 0
-HostsIn R hosts = (u : ℕ) (q : Slices) → slices_of hosts u ≡ Some q → R u ≡ true → within (names q) R ≡ true
+abbrev pub NodesIn : Names → List HostedNode → Type 0
+NodesIn R nodes = (u : ℕ) (q : Slices) → slices_of nodes u ≡ Some q → R u ≡ true → within (names q) R ≡ true
 
 fresh-instance : (R : Names) (i u : ℕ) (q : Slices) → (R u ≡ true → within (names q) R ≡ true)
     → IsInstance R u (record { node = fresh i u q; emitted = [] })
@@ -56,7 +56,7 @@ fresh-cut R i u None = refl
 fresh-cut R i u (Some q) = refl
 
 abbrev pub cast_of : Names → List HostedNode → ℕ → Option Slices
-cast_of R hosts u = if R u then slices_of hosts u else None
+cast_of R nodes u = if R u then slices_of nodes u else None
 
 -- a change of the slots that R doesn't see
 other_slot : (R : Names) (cast : ℕ → Option Slices) (i : ℕ) (net net' : Net) → AllInstances R i net
@@ -67,29 +67,29 @@ other_slot R cast i net net' h e = record {
   instances = λ u p k. h u p (ap (λ o. node_where_open o u) (sym e) ∙ k);
 }
 
-pub opens : (R : Names) (i : ℕ) (net : Net) (j : ℕ) → AllInstances R i net → HostsIn R net.hosts
+pub opens : (R : Names) (i : ℕ) (net : Net) (j : ℕ) → AllInstances R i net → NodesIn R net.nodes
     → instances_at net.slots j ≡ None
-    → Follows R (cast_of R net.hosts) i net (
+    → Follows R (cast_of R net.nodes) i net (
       record net {
-        slots = net.slots ++ record { number = j; instances = nodes_of_new_slot net.hosts j } ∷ [];
-        draws = renewed j net.draws;
+        slots = net.slots ++ record { number = j; instances = nodes_of_new_slot net.nodes j } ∷ [];
+        draws = draws_after_opening j net.draws;
       },
       [],
     ) (λ w. false) (when_kept (j == i) Opening)
-opens R i net j h hosts n = go (j == i) refl
+opens R i net j h nodes n = go (j == i) refl
   where
     slot : ℕ → Slot
-    slot x = record { number = x; instances = nodes_of_new_slot net.hosts x }
+    slot x = record { number = x; instances = nodes_of_new_slot net.nodes x }
 
     now : Net
-    now = record net { slots = net.slots ++ slot j ∷ []; draws = renewed j net.draws }
+    now = record net { slots = net.slots ++ slot j ∷ []; draws = draws_after_opening j net.draws }
 
-    go : (b : Bool) → (j == i) ≡ b → Follows R (cast_of R net.hosts) i net (now, []) (λ w. false) (when_kept b Opening)
-    go false o = other_slot R (cast_of R net.hosts) i net now h (instances_at-push_other net.slots (slot j) i o)
+    go : (b : Bool) → (j == i) ≡ b → Follows R (cast_of R net.nodes) i net (now, []) (λ w. false) (when_kept b Opening)
+    go false o = other_slot R (cast_of R net.nodes) i net now h (instances_at-push_other net.slots (slot j) i o)
     go true y = record {
       sights = fun_ext (λ u. see u (R u) refl);
       replies = λ w r. refl;
-      instances = λ u p k. place u p (slices_of net.hosts u) refl (sym (there u) ∙ k);
+      instances = λ u p k. place u p (slices_of net.nodes u) refl (sym (there u) ∙ k);
     }
       where
         ji : j ≡ i
@@ -97,23 +97,23 @@ opens R i net j h hosts n = go (j == i) refl
 
         there : (u : ℕ)
             → node_where_open (instances_at now.slots i) u
-            ≡ option_map (λ q. record { node = fresh i u q; emitted = [] }) (slices_of net.hosts u)
+            ≡ option_map (λ q. record { node = fresh i u q; emitted = [] }) (slices_of net.nodes u)
         there u = ap (λ o. node_where_open o u)
             (instances_at-push net.slots (slot j) i y (ap (instances_at net.slots) (sym ji) ∙ n))
-            ∙ (ap (λ x. node_named (nodes_of_new_slot net.hosts x) u) ji ∙ node_named-opened net.hosts i u)
+            ∙ (ap (λ x. node_named (nodes_of_new_slot net.nodes x) u) ji ∙ node_named-opened net.nodes i u)
 
         see : (u : ℕ) (b : Bool) → R u ≡ b
             → (if b then option_map (cut_instance R) (node_where_open (instances_at now.slots i) u) else None)
-            ≡ option_map (λ q. record { node = fresh i u q; emitted = [] }) (if b then slices_of net.hosts u else None)
-        see u true r = ap (option_map (cut_instance R)) (there u) ∙ fresh-cut R i u (slices_of net.hosts u)
+            ≡ option_map (λ q. record { node = fresh i u q; emitted = [] }) (if b then slices_of net.nodes u else None)
+        see u true r = ap (option_map (cut_instance R)) (there u) ∙ fresh-cut R i u (slices_of net.nodes u)
         see u false r = refl
 
-        place : (u : ℕ) (p : Instance) (o : Option Slices) → slices_of net.hosts u ≡ o
+        place : (u : ℕ) (p : Instance) (o : Option Slices) → slices_of net.nodes u ≡ o
             → option_map (λ q. record { node = fresh i u q; emitted = [] }) o ≡ Some p → IsInstance R u p
         place u p None s q = cc
         place u p (Some x) s q =
             let m : record { node = fresh i u x; emitted = [] } ≡ p = cc in
-            subst (λ y. IsInstance R u y) m (fresh-instance R i u x (λ r. hosts u x s r))
+            subst (λ y. IsInstance R u y) m (fresh-instance R i u x (λ r. nodes u x s r))
 
 pub closes : (R : Names) (cast : ℕ → Option Slices) (i : ℕ) (net : Net) (j : ℕ) → AllInstances R i net
     → Follows R cast i net (record net { slots = filter (λ s. not (s.number == j)) net.slots }, []) (λ w. false)

@@ -13,11 +13,11 @@ use Rattle.protocol.proofs.Networks.Effects.{effect-keeps}
 use Rattle.protocol.proofs.Nodes.Views.{reached-in}
 use Rattle.protocol.proofs.Nodes.Closed.{Good}
 use Rattle.protocol.proofs.Runs.Sights.{AllInstances}
-use Rattle.protocol.proofs.Runs.Openings.{HostsIn}
+use Rattle.protocol.proofs.Runs.Openings.{NodesIn}
 use Rattle.protocol.proofs.Runs.Events.{follows}
 use Rattle.protocol.proofs.Runs.KeptSteps.{AllIn, is_new}
 use Rattle.protocol.proofs.Runs.SameSteps.{no-instances}
-use Rattle.protocol.proofs.Runs.KeptWithin.{hosts-closed, events-closed}
+use Rattle.protocol.proofs.Runs.KeptWithin.{nodes-closed, events-closed}
 use Rattle.protocol.proofs.Networks.Journals.{runs_are_journals}
 
 pub closed_for : (R : Names) (n : Node) → Good R n → IsClosedFor R n
@@ -25,7 +25,7 @@ closed_for R n g = record { has = g.closed.has; own = g.closed.own; leaders = g.
 
 -- what holds of hosts and instances holds after each beginning of a journal
 abbrev pub Holds : Names → ℕ → Net → Type 0
-Holds R i net = AllInstances R i net × HostsIn R net.hosts
+Holds R i net = AllInstances R i net × NodesIn R net.nodes
 
 instances-after : (R : Names) (i : ℕ) (es : List Step) (net : Net) → Holds R i net → AllIn R i (journal net es) → (n : ℕ)
     → Holds R i (net_after net (take n (journal net es)))
@@ -48,25 +48,25 @@ instances-after R i (e ∷ es) net h f n = go (first_that (tests net e)) refl f 
         subst (λ o. Holds R i (net_after (state_and_reply net e o).0 (take n (journal after es)))) (sym q)
         (ih after (
           (follows R i net e h.0 h.1 (is_new net e q) f.0).instances,
-          subst (HostsIn R) (sym (effect-keeps net e).hosts) h.1,
+          subst (NodesIn R) (sym (effect-keeps net e).nodes) h.1,
         ) f.1 n)
 
 pub holds-after : (config : Config) (run : List Entry) (i v n : ℕ) → IsRun config run
-    → Holds (closure config.hosts i v run) i (state_of config (take n run))
+    → Holds (closure config.nodes i v run) i (state_of config (take n run))
 holds-after config run i v n is =
-    let R : Names = closure config.hosts i v run in
+    let R : Names = closure config.nodes i v run in
     let net : Net = new_net config in
     let all =
     subst (λ (es : List Entry). AllIn R i es → Holds R i (net_after net (take n es)))
     (sym (runs_are_journals config run is))
     (λ f. instances-after R i (map (λ (x : Entry). x.event) run) net (
       no-instances R i config,
-      hosts-closed config.hosts i v run,
+      nodes-closed config.nodes i v run,
     ) f n) in
-    all (events-closed config.hosts i v run)
+    all (events-closed config.nodes i v run)
 
 pub prefix_of_whole_run : PrefixOfWholeRun
 prefix_of_whole_run config run i v is n u p r k =
-    let R : Names = closure config.hosts i v run in
+    let R : Names = closure config.nodes i v run in
     let g : Good R p.node = ((holds-after config run i v n is).0 u p k).good r in
     (closed_for R p.node g, λ w h. reached-in R p.node.name p.node.slices p.node.table g.closed w h)

@@ -10,7 +10,7 @@ use Rattle.protocol.specs.Networks.{HostedNode, Step}
 use Rattle.protocol.specs.Networks.Reading.{Read}
 use Rattle.protocol.specs.Networks.Step.{Delivers, Reslices}
 use Rattle.protocol.specs.Hosts.{Entry}
-use Rattle.protocol.specs.Isolation.{closure, host_rule, announcement_rules, SameClosures}
+use Rattle.protocol.specs.Isolation.{closure, node_rule, announcement_rules, SameClosures}
 use Rattle.protocol.proofs.Sets.Finite.{same_test}
 use Rattle.protocol.proofs.Sets.Contained.{contains_head, contains_tail}
 use Rattle.protocol.proofs.Sets.Least.{keeps-from}
@@ -18,18 +18,18 @@ use Rattle.protocol.proofs.Sets.RuleLists.{least-in}
 use Rattle.protocol.proofs.Sets.Lists.{all-append}
 use Rattle.protocol.proofs.Runs.Events.{IsWithin}
 use Rattle.protocol.proofs.Runs.KeptSteps.{AllIn}
-use Rattle.protocol.proofs.Runs.KeptWithin.{IsKeptIn, all_kept-from, all_kept-to, all_in-other, hosts-closed, events-closed, closure-start}
+use Rattle.protocol.proofs.Runs.KeptWithin.{IsKeptIn, all_kept-from, all_kept-to, all_in-other, nodes-closed, events-closed, closure-start}
 
 module _ (R : Names) where
   -- the rules of hosted nodes are kept where the slices of hosted members lie in the set
-  keeps-hosts : (hosts : List HostedNode)
-      → ((h : HostedNode) → Contains hosts h → R h.name ≡ true → within (names h.slices) R ≡ true)
-      → list_all (keeps R) (map host_rule hosts) ≡ true
-  keeps-hosts [] f = refl
-  keeps-hosts (h ∷ hs) f =
-      and_from (keeps R (host_rule h)) (list_all (keeps R) (map host_rule hs))
-      (keeps-from R (host_rule h) (λ w. f h (contains_head h hs) (and_parts (R h.name) true w).0))
-      (keeps-hosts hs (λ x c. f x (contains_tail x h hs c)))
+  keeps-nodes : (nodes : List HostedNode)
+      → ((h : HostedNode) → Contains nodes h → R h.name ≡ true → within (names h.slices) R ≡ true)
+      → list_all (keeps R) (map node_rule nodes) ≡ true
+  keeps-nodes [] f = refl
+  keeps-nodes (h ∷ hs) f =
+      and_from (keeps R (node_rule h)) (list_all (keeps R) (map node_rule hs))
+      (keeps-from R (node_rule h) (λ w. f h (contains_head h hs) (and_parts (R h.name) true w).0))
+      (keeps-nodes hs (λ x c. f x (contains_tail x h hs c)))
 
   one_rule : (b : Bool) (r : Rule) → (b ≡ true → keeps R r ≡ true)
       → list_all (keeps R) (if b then r ∷ [] else []) ≡ true
@@ -55,15 +55,15 @@ module _ (R : Names) where
       (keeps-events i xs h.1)
 
 -- the closure lies in each set that has v, what its hosted members announce, and what is announced among its members
-pub closure-in : (hosts : List HostedNode) (i v : ℕ) (entries : List Entry) (R : Names) → R v ≡ true
-    → ((h : HostedNode) → Contains hosts h → R h.name ≡ true → within (names h.slices) R ≡ true) → AllIn R i entries
-    → AreWithin (closure hosts i v entries) R
+pub closure-in : (nodes : List HostedNode) (i v : ℕ) (entries : List Entry) (R : Names) → R v ≡ true
+    → ((h : HostedNode) → Contains nodes h → R h.name ≡ true → within (names h.slices) R ≡ true) → AllIn R i entries
+    → AreWithin (closure nodes i v entries) R
 unfolding closure
-closure-in hosts i v entries R start f h =
-    let rules = map host_rule hosts ++ flat_map (λ x. announcement_rules i x.event) entries in
+closure-in nodes i v entries R start f h =
+    let rules = map node_rule nodes ++ flat_map (λ x. announcement_rules i x.event) entries in
     least-in rules v R start
-    (all-append (keeps R) (map host_rule hosts) (flat_map (λ x. announcement_rules i x.event) entries)
-    (keeps-hosts R hosts f) (keeps-events R i entries h))
+    (all-append (keeps R) (map node_rule nodes) (flat_map (λ x. announcement_rules i x.event) entries)
+    (keeps-nodes R nodes f) (keeps-events R i entries h))
 
 pub same_closures : SameClosures
 same_closures one other runs others i v once once_there cast same u =
@@ -77,11 +77,11 @@ same_closures one other runs others i v once once_there cast same u =
 
     fewer : AreWithin S R
     fewer = closure-in other i v others R (closure-start one i v runs)
-        (λ h c r. hosts-closed one i v runs h.name h.slices (cast.same h.name r ∙ once_there h c) r)
+        (λ h c r. nodes-closed one i v runs h.name h.slices (cast.same h.name r ∙ once_there h c) r)
         (all_in-other R i runs others same (events-closed one i v runs))
 
     more : AreWithin R S
     more = closure-in one i v runs S (closure-start other i v others)
-        (λ h c s. hosts-closed other i v others h.name h.slices (sym (cast.same h.name (fewer h.name s)) ∙ once h c) s)
+        (λ h c s. nodes-closed other i v others h.name h.slices (sym (cast.same h.name (fewer h.name s)) ∙ once h c) s)
         (all_kept-to R S i runs fewer (subst (AllByRecursion (IsKeptIn S)) (sym same)
         (all_kept-from R S i others (events-closed other i v others))))

@@ -7,23 +7,23 @@ use Rattle.protocol.specs.Networks.{HostedNode, Step, slices_of}
 use Rattle.protocol.specs.Hosts.{Entry, Config, journal, new_net}
 use Rattle.protocol.specs.Isolation.{KeptStep, kept_of, outs_of, closure, SameCast}
 use Rattle.protocol.proofs.Runs.Sights.{sight, AllInstances}
-use Rattle.protocol.proofs.Runs.Openings.{HostsIn, cast_of}
+use Rattle.protocol.proofs.Runs.Openings.{NodesIn, cast_of}
 use Rattle.protocol.proofs.Runs.KeptSteps.{AllIn, answers, run-sight}
-use Rattle.protocol.proofs.Runs.KeptWithin.{all_in-other, events-closed, hosts-closed}
+use Rattle.protocol.proofs.Runs.KeptWithin.{all_in-other, events-closed, nodes-closed}
 
 -- the same members in both worlds
-pub casts-same : (R : Names) (v : ℕ) (hosts hosts' : List HostedNode) → SameCast R v hosts hosts'
-    → cast_of R hosts ≡ cast_of R hosts'
-casts-same R v hosts hosts' cast = fun_ext (λ w. go w (R w) refl)
+pub casts-same : (R : Names) (v : ℕ) (nodes nodes' : List HostedNode) → SameCast R v nodes nodes'
+    → cast_of R nodes ≡ cast_of R nodes'
+casts-same R v nodes nodes' cast = fun_ext (λ w. go w (R w) refl)
   where
     go : (w : ℕ) (b : Bool) → R w ≡ b
-        → (if b then slices_of hosts w else None) ≡ (if b then slices_of hosts' w else None)
+        → (if b then slices_of nodes w else None) ≡ (if b then slices_of nodes' w else None)
     go w true s = cast.same w s
     go w false s = refl
 
-pub hosts-other : (R : Names) (v : ℕ) (hosts hosts' : List HostedNode) → SameCast R v hosts hosts' → HostsIn R hosts
-    → HostsIn R hosts'
-hosts-other R v hosts hosts' cast h w q e s = h w q (cast.same w s ∙ e) s
+pub nodes-other : (R : Names) (v : ℕ) (nodes nodes' : List HostedNode) → SameCast R v nodes nodes' → NodesIn R nodes
+    → NodesIn R nodes'
+nodes-other R v nodes nodes' cast h w q e s = h w q (cast.same w s ∙ e) s
 
 pub no-instances : (R : Names) (i : ℕ) (config : Config) → AllInstances R i (new_net config)
 no-instances R i config w p k = absurd (nothing p k)
@@ -35,15 +35,15 @@ no-instances R i config w p k = absurd (nothing p k)
 pub journals-agree : (config config' : Config) (i v : ℕ) (es es' : List Step) →
     let one = journal (new_net config) es in
     let other = journal (new_net config') es' in
-    let R = closure config.hosts i v one in
-    SameCast R v config.hosts config'.hosts → kept_of R i one ≡ kept_of R i other → (u : ℕ) → R u ≡ true
+    let R = closure config.nodes i v one in
+    SameCast R v config.nodes config'.nodes → kept_of R i one ≡ kept_of R i other → (u : ℕ) → R u ≡ true
     → outs_of i u one ≡ outs_of i u other
 journals-agree config config' i v es es' cast same u r =
     run-sight R i u r es (new_net config) (no-instances R i config) in_one all_one
     ∙ (ap₂ (λ (c : ℕ → Option Slices) (ks : List KeptStep). answers c i (sight R i (new_net config)) u ks)
-    (casts-same R v config.hosts config'.hosts cast) same
+    (casts-same R v config.nodes config'.nodes cast) same
     ∙ sym (run-sight R i u r es' (new_net config') (no-instances R i config')
-    (hosts-other R v config.hosts config'.hosts cast in_one) all_other))
+    (nodes-other R v config.nodes config'.nodes cast in_one) all_other))
   where
     one : List Entry
     one = journal (new_net config) es
@@ -52,13 +52,13 @@ journals-agree config config' i v es es' cast same u r =
     other = journal (new_net config') es'
 
     R : Names
-    R = closure config.hosts i v one
+    R = closure config.nodes i v one
 
-    in_one : HostsIn R config.hosts
-    in_one = hosts-closed config.hosts i v one
+    in_one : NodesIn R config.nodes
+    in_one = nodes-closed config.nodes i v one
 
     all_one : AllIn R i one
-    all_one = events-closed config.hosts i v one
+    all_one = events-closed config.nodes i v one
 
     all_other : AllIn R i other
     all_other = all_in-other R i one other same all_one

@@ -10,8 +10,8 @@ use Rattle.types.specs.declared.state.Inputs.{Inputs}
 use Rattle.types.specs.declared.state.Votes.{Votes}
 use Rattle.types.specs.Votes.{same_value}
 use Rattle.protocol.specs.Views.{Seen}
-use Rattle.protocol.specs.States.{below, ballot_at, counter_of}
-use Rattle.protocol.specs.Candidates.{combine, commits, greatest, lowest, named}
+use Rattle.protocol.specs.States.{below, ballot_with, counter_of}
+use Rattle.protocol.specs.Candidates.{combine, commits, greatest, lowest, named_ballots}
 use Rattle.protocol.specs.Nominating.{nominate}
 use Rattle.protocol.specs.Balloting.{with_first_ballot, start, accept_prepared, at_least, raise_confirmed_prepared, follow_confirmed_prepared, set_commit, confirm_prepared, is_accepted, is_confirmed, is_aborted, commit_accepted, commit_confirmed, accepted_from, first_committed, next_committed, enter_commit, widen_commit, accept_commit, confirmed_commit, externalize, confirm_commit}
 use Rattle.protocol.specs.Extremes.{IsIn}
@@ -75,10 +75,10 @@ module _ (timeouts : ℕ) where
       none n k = omega (arith, k)
 
   counted-named : (s : Seen) (w : Votes) (test : Ballot → Bool) (o : Option Ballot)
-      → greatest None (filter test (named s w)) ≡ o → IfSome o (λ b. 1 ≤ b.counter)
+      → greatest None (filter test (named_ballots s w)) ≡ o → IfSome o (λ b. 1 ≤ b.counter)
   counted-named s w test None e = tt
   counted-named s w test (Some t) e =
-      from_one t.counter (named-parts s w t (greatest-of test (named s w) t e).0).0
+      from_one t.counter (named-parts s w t (greatest-of test (named_ballots s w) t e).0).0
 
   pub start-keeps : (s : Seen) (w : Votes) → IsSendable timeouts w → IsSendable timeouts (start s w)
   unfolding start with_first_ballot
@@ -88,10 +88,10 @@ module _ (timeouts : ℕ) where
           → IsSendable timeouts (start s w)
       go (Some b) z e k = subst (IsSendable timeouts) (sym (start-some s w b e)) h
       go None (Some x) e k =
-          let is : start s w ≡ record w { ballot = Some (ballot_at 1 x) } = rw (e, k) refl in
-          subst (IsSendable timeouts) (sym is) (first-keeps w (Some (ballot_at 1 x)) e (omega arith) h)
+          let is : start s w ≡ record w { ballot = Some (ballot_with 1 x) } = rw (e, k) refl in
+          subst (IsSendable timeouts) (sym is) (first-keeps w (Some (ballot_with 1 x)) e (omega arith) h)
       go None None e k =
-          let first = greatest None (filter (is_accepted s w) (named s w)) in
+          let first = greatest None (filter (is_accepted s w) (named_ballots s w)) in
           let is : start s w ≡ record w { ballot = first } = rw (e, k) refl in
           subst (IsSendable timeouts) (sym is)
           (first-keeps w first e (counted-named s w (is_accepted s w) first refl) h)
@@ -118,7 +118,7 @@ module _ (timeouts : ℕ) where
       → IsSendable timeouts w → IsSendable timeouts (confirm_prepared s b w)
   unfolding confirm_prepared set_commit follow_confirmed_prepared raise_confirmed_prepared
   confirmed-keeps s b w p e h =
-      let confirmed_prepared = greatest w.confirmed_prepared (filter (is_confirmed s w) (named s w)) in
+      let confirmed_prepared = greatest w.confirmed_prepared (filter (is_confirmed s w) (named_ballots s w)) in
       let f = followed confirmed_prepared b in
       let n = at_least confirmed_prepared b in
       record {
@@ -172,7 +172,7 @@ module _ (timeouts : ℕ) where
           let r = interval (λ low. commit_accepted s w t.value low t.counter) s w t
           (greatest-of (λ t. same_value t.value b.value && nat_lt w.high t.counter
           && commit_accepted s w t.value t.counter t.counter) (commits s w) t k).0 in
-          let n = ballot_at (max b.counter t.counter) t.value in
+          let n = ballot_with (max b.counter t.counter) t.value in
           let low = lowest (λ low. commit_accepted s w t.value low t.counter) t.value t.counter (commits s w) in
           let placed : IsPlaced Committing (Some n) w.confirmed_prepared low t.counter =
           (r.1.0, (r.1.1, other t.counter b.counter t.counter (omega arith))) in

@@ -8,7 +8,7 @@ use Rattle.types.specs.declared.state.Phase.TheVariants.{Preparing, Committing, 
 use Rattle.types.specs.declared.state.Inputs.{Inputs}
 use Rattle.types.specs.declared.state.Votes.{Votes}
 use Rattle.protocol.specs.Views.{Seen, passes}
-use Rattle.protocol.specs.States.{below, ballot_at, counter_of, position}
+use Rattle.protocol.specs.States.{below, ballot_with, counter_of, position}
 use Rattle.protocol.specs.Timers.{cap}
 use Rattle.protocol.specs.Passes.{has_counter, value_once_raised, ballot_at_counter, counter_after_raise, raise, arm}
 use Rattle.protocol.proofs.Ballots.Above.{least_from-low}
@@ -38,10 +38,10 @@ ballot_at_counter-placed Preparing w b (Some x) n low high k h = go (n == b.coun
     over x m n h k e = grind (arith, nat_tests)
 
     go : (c : Bool) → (n == b.counter) ≡ c
-        → below (if c then b else ballot_at n (value_once_raised w.phase w b.value)) x ≡ false
+        → below (if c then b else ballot_with n (value_once_raised w.phase w b.value)) x ≡ false
     go true e = h
     go false e =
-        past-counter (ballot_at n (value_once_raised w.phase w b.value)) x
+        past-counter (ballot_with n (value_once_raised w.phase w b.value)) x
         (over x.counter b.counter n (not_below-counter b x h) k e)
 ballot_at_counter-placed Committing w b confirmed_prepared n low high k h =
     (h.0, (h.1.0, subst (λ m. high ≤ m) (sym (ballot_at_counter-counter w b n)) (through high b.counter n h.1.1 k)))

@@ -14,7 +14,7 @@ use Rattle.types.specs.declared.state.Votes.{Votes}
 use Rattle.types.specs.Orders.{bytes_cmp, ballot_cmp}
 use Rattle.types.specs.Statements.{IsUpTo, IsWellFormed}
 use Rattle.types.specs.Votes.{same_value}
-use Rattle.protocol.specs.States.{below, ballot_at, counter_for, counter_up_to, high_counter, commit_counter, prepared_as_sent, sent_in, sent_vote, sent_nomination}
+use Rattle.protocol.specs.States.{below, ballot_with, counter_for, counter_up_to, high_counter, commit_counter, prepared_as_sent, sent_in, sent_vote, sent_nomination}
 use Rattle.protocol.proofs.Ballots.Above.{Under}
 use Rattle.protocol.proofs.Ballots.Order.{ballots_ordered, not_below-counter}
 use Rattle.protocol.proofs.Sending.Sendable.{IsPlaced, IsSendable}
@@ -55,12 +55,12 @@ prepared_as_sent-up-to b p c = go (below b p) refl
     less_counter n o h = grind (arith, nat_tests)
 
     at : (c : Bool) → not (is_gt (bytes_cmp p.value b.value)) ≡ c
-        → IsUpTo (if c then ballot_at b.counter p.value else ballot_at (b.counter - 1) p.value) b
+        → IsUpTo (if c then ballot_with b.counter p.value else ballot_with (b.counter - 1) p.value) b
     at true e = same_counter b.counter (bytes_cmp p.value b.value) (not-true _ e)
     at false e = less_counter b.counter (bytes_cmp p.value b.value) c
 
     go : (d : Bool) → below b p ≡ d
-        → IsUpTo (if d then (if not (is_gt (bytes_cmp p.value b.value)) then ballot_at b.counter p.value else ballot_at
+        → IsUpTo (if d then (if not (is_gt (bytes_cmp p.value b.value)) then ballot_with b.counter p.value else ballot_with
         (b.counter - 1) p.value) else p) b
     go true e = at (not (is_gt (bytes_cmp p.value b.value))) refl
     go false e = up-to p b e

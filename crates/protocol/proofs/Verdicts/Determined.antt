@@ -14,15 +14,15 @@ use Rattle.protocol.proofs.Verdicts.OneList.{nothing_in, one_list}
 use Rattle.protocol.proofs.Sets.Lists.{get_taken}
 
 -- ---- lists of members with their outs
-module _ (R : Names) (hosts : List HostedNode) (i : ℕ) (run : List Entry) where
+module _ (R : Names) (nodes : List HostedNode) (i : ℕ) (run : List Entry) where
   abbrev IsMember : ℕ × List Out → Type 0
-  IsMember p = (p.1 ≡ outs_of i p.0 run) × (IsTrue (R p.0) × IsTrue (is_some (slices_of hosts p.0)))
+  IsMember p = (p.1 ≡ outs_of i p.0 run) × (IsTrue (R p.0) × IsTrue (is_some (slices_of nodes p.0)))
 
   member_at : (list : List (ℕ × List Out)) → AllByRecursion IsMember list → (u : ℕ) → Contains (map (λ p. p.0) list) u
-      → IsTrue (R u) × IsTrue (is_some (slices_of hosts u))
+      → IsTrue (R u) × IsTrue (is_some (slices_of nodes u))
   member_at [] h u c = absurd (nothing_in u c)
   member_at (p ∷ ps) h u c = elim (contained_cases u p.0 (map (λ p. p.0) ps) c) [
-    | inl e ↦ subst (λ w. IsTrue (R w) × IsTrue (is_some (slices_of hosts w))) e h.0.1
+    | inl e ↦ subst (λ w. IsTrue (R w) × IsTrue (is_some (slices_of nodes w))) e h.0.1
     | inr k ↦ member_at ps h.1 u k
   ]
 
@@ -38,7 +38,7 @@ module _ (R : Names) (hosts : List HostedNode) (i : ℕ) (run : List Entry) wher
       ap₂ {C = List (ℕ × List Out)} (λ (z : ℕ × List Out) (zs : List (ℕ × List Out)). z ∷ zs) (λ j. (first j, same j))
       (named_alike xs ys h.1 k.1 rest)
 
-  one_list_of : (xs ys : List (ℕ × List Out)) → IsListOf R hosts i run xs → IsListOf R hosts i run ys → xs ≡ ys
+  one_list_of : (xs ys : List (ℕ × List Out)) → IsListOf R nodes i run xs → IsListOf R nodes i run ys → xs ≡ ys
   one_list_of xs ys a b =
       named_alike xs ys a.outs b.outs (one_list (map (λ p. p.0) xs) (map (λ p. p.0) ys) a.ascending b.ascending
       (λ u c. let m = member_at xs a.outs u c in b.all u m.0 m.1)

@@ -9,7 +9,7 @@ use Rattle.protocol.specs.Sets.{Names, among, IsAscending}
 use Rattle.protocol.specs.Closures.{Rule, keeps}
 use Rattle.protocol.specs.Networks.{HostedNode, slices_of}
 use Rattle.protocol.specs.Hosts.{Entry}
-use Rattle.protocol.specs.Isolation.{host_rule, announcement_rules, closure, kept_of, outs_of, SameCast}
+use Rattle.protocol.specs.Isolation.{node_rule, announcement_rules, closure, kept_of, outs_of, SameCast}
 use Rattle.protocol.specs.Verdicts.{Verdict, IsVerdict, IsFirstUnlike, IsFirstDifference, IsListOf, VerdictsExist}
 use Rattle.protocol.specs.Verdicts.Verdict.{CastDiffers, InputsDiffer, Same}
 use Rattle.protocol.proofs.Sets.Finite.{all_from, among_head, among_tail}
@@ -24,17 +24,17 @@ use Rattle.protocol.proofs.Equality.LeastNumber.{bound_of, among-below, least_am
 
 -- ---- a closure has finitely many members
 abbrev rules_in : List HostedNode → ℕ → List Entry → List Rule
-rules_in hosts i run = map host_rule hosts ++ flat_map (λ x. announcement_rules i x.event) run
+rules_in nodes i run = map node_rule nodes ++ flat_map (λ x. announcement_rules i x.event) run
 
 -- a number above all names of a closure
 pub closure-bound : List HostedNode → ℕ → ℕ → List Entry → ℕ
-closure-bound hosts i v run = bound_of (v ∷ flat_map (λ r. r.gives) (rules_in hosts i run))
+closure-bound nodes i v run = bound_of (v ∷ flat_map (λ r. r.gives) (rules_in nodes i run))
 
-pub closure-below : (hosts : List HostedNode) (i v : ℕ) (run : List Entry) (u : ℕ) → closure hosts i v run u ≡ true
-    → u < closure-bound hosts i v run
+pub closure-below : (nodes : List HostedNode) (i v : ℕ) (run : List Entry) (u : ℕ) → closure nodes i v run u ≡ true
+    → u < closure-bound nodes i v run
 unfolding closure closure-bound
-closure-below hosts i v run u h =
-    let rules = rules_in hosts i run in
+closure-below nodes i v run u h =
+    let rules = rules_in nodes i run in
     let given = flat_map (λ (r : Rule). r.gives) rules in
     among-below (v ∷ given) u (least-in rules v (among (v ∷ given)) (among_head v given)
     (all_from_contained (keeps (among (v ∷ given))) rules
@@ -80,9 +80,9 @@ module _ (R : Names) (v : ℕ) (one other : List HostedNode) where
   ]
 
 -- ---- the names below a bound that pass a test, ascending
-passing : Names → ℕ → List ℕ
-passing test zero = []
-passing test (suc n) = passing test n ++ cond (test n) (n ∷ []) []
+names_passing : Names → ℕ → List ℕ
+names_passing test zero = []
+names_passing test (suc n) = names_passing test n ++ cond (test n) (n ∷ []) []
 
 all_joined : {A : Type 0} (P : A → Type 0) (xs ys : List A) → AllByRecursion P xs → AllByRecursion P ys
     → AllByRecursion P (xs ++ ys)
@@ -101,56 +101,56 @@ all_at P (x ∷ xs) h zero d l = h.0
 all_at P (x ∷ xs) h (suc k) d l = all_at P xs h.1 k d (omega (arith, l))
 
 module _ (test : Names) where
-  passing-below : (n : ℕ) → AllByRecursion (λ u. u < n) (passing test n)
-  unfolding passing
+  passing-below : (n : ℕ) → AllByRecursion (λ u. u < n) (names_passing test n)
+  unfolding names_passing
   passing-below zero = tt
   passing-below (suc n) =
-      all_joined (λ u. u < suc n) (passing test n) (cond (test n) (n ∷ []) [])
-      (all_weaker (λ u. u < n) (λ u. u < suc n) (λ u l. omega (arith, l)) (passing test n) (passing-below n))
+      all_joined (λ u. u < suc n) (names_passing test n) (cond (test n) (n ∷ []) [])
+      (all_weaker (λ u. u < n) (λ u. u < suc n) (λ u l. omega (arith, l)) (names_passing test n) (passing-below n))
       (last (test n))
     where
       last : (b : Bool) → AllByRecursion (λ u. u < suc n) (cond b (n ∷ []) [])
       last true = (omega arith, tt)
       last false = tt
 
-  passing-pass : (n : ℕ) → AllByRecursion (λ u. test u ≡ true) (passing test n)
-  unfolding passing
+  passing-pass : (n : ℕ) → AllByRecursion (λ u. test u ≡ true) (names_passing test n)
+  unfolding names_passing
   passing-pass zero = tt
   passing-pass (suc n) =
-      all_joined (λ u. test u ≡ true) (passing test n) (cond (test n) (n ∷ []) []) (passing-pass n) (last (test n) refl)
+      all_joined (λ u. test u ≡ true) (names_passing test n) (cond (test n) (n ∷ []) []) (passing-pass n) (last (test n) refl)
     where
       last : (b : Bool) → test n ≡ b → AllByRecursion (λ u. test u ≡ true) (cond b (n ∷ []) [])
       last true e = (e, tt)
       last false e = tt
 
-  passing-all : (n u : ℕ) → u < n → test u ≡ true → Contains (passing test n) u
-  unfolding passing
+  passing-all : (n u : ℕ) → u < n → test u ≡ true → Contains (names_passing test n) u
+  unfolding names_passing
   passing-all zero u l h = absurd (omega (arith, l))
   passing-all (suc n) u l h = elim (cases_order u n) [
-    | inl e ↦ Contains-append_right (passing test n) (cond (test n) (n ∷ []) []) u
+    | inl e ↦ Contains-append_right (names_passing test n) (cond (test n) (n ∷ []) []) u
         (subst (λ b. Contains (cond b (n ∷ []) []) u) (sym h ∙ ap test e)
         (subst (λ w. Contains (w ∷ []) u) e (contains_head u [])))
-    | inr (inl k) ↦ Contains-append_left (passing test n) (cond (test n) (n ∷ []) []) u (passing-all n u k h)
+    | inr (inl k) ↦ Contains-append_left (names_passing test n) (cond (test n) (n ∷ []) []) u (passing-all n u k h)
     | inr (inr k) ↦ absurd (omega (arith, l, k))
   ]
 
-  passing-ascending : (n : ℕ) → IsAscending (passing test n)
-  unfolding passing
+  passing-ascending : (n : ℕ) → IsAscending (names_passing test n)
+  unfolding names_passing
   passing-ascending zero = λ i j d l k. absurd (omega (arith, k))
   passing-ascending (suc n) = go (test n) (passing-ascending n) (passing-below n)
     where
-      go : (b : Bool) → IsAscending (passing test n) → AllByRecursion (λ u. u < n) (passing test n)
-          → IsAscending (passing test n ++ cond b (n ∷ []) [])
+      go : (b : Bool) → IsAscending (names_passing test n) → AllByRecursion (λ u. u < n) (names_passing test n)
+          → IsAscending (names_passing test n ++ cond b (n ∷ []) [])
       go true h k =
-          all_pairs_push (λ x y. x < y) (passing test n) n h (λ i d l. all_at (λ u. u < n) (passing test n) k i d l)
-      go false h k = subst IsAscending (sym (append-nil (passing test n))) h
+          all_pairs_push (λ x y. x < y) (names_passing test n) n h (λ i d l. all_at (λ u. u < n) (names_passing test n) k i d l)
+      go false h k = subst IsAscending (sym (append-nil (names_passing test n))) h
 
 -- ---- the verdict
-module _ (R : Names) (hosts : List HostedNode) (i : ℕ) (runs others : List Entry) (bound : ℕ)
+module _ (R : Names) (nodes : List HostedNode) (i : ℕ) (runs others : List Entry) (bound : ℕ)
     (below : (u : ℕ) → R u ≡ true → u < bound)
     (same : (u : ℕ) → R u ≡ true → outs_of i u runs ≡ outs_of i u others) where
   hosted : Names
-  hosted u = R u && is_some (slices_of hosts u)
+  hosted u = R u && is_some (slices_of nodes u)
 
   with_outs : List ℕ → List (ℕ × List Out)
   with_outs us = map (λ u. (u, outs_of i u runs)) us
@@ -161,50 +161,50 @@ module _ (R : Names) (hosts : List HostedNode) (i : ℕ) (runs others : List Ent
   names-of (u ∷ us) = ap (λ ws. u ∷ ws) (names-of us)
 
   listed_in : (run : List Entry) → ((u : ℕ) → R u ≡ true → outs_of i u runs ≡ outs_of i u run)
-      → IsListOf R hosts i run (with_outs (passing hosted bound))
+      → IsListOf R nodes i run (with_outs (names_passing hosted bound))
   unfolding hosted with_outs
   listed_in run same = record {
-    outs = each (passing hosted bound) (passing-pass hosted bound);
-    all = λ u r h. subst (λ us. Contains us u) (sym (names-of (passing hosted bound)))
-        (passing-all hosted bound u (below u r) (and_from (R u) (is_some (slices_of hosts u)) r h));
-    ascending = subst IsAscending (sym (names-of (passing hosted bound))) (passing-ascending hosted bound);
+    outs = each (names_passing hosted bound) (passing-pass hosted bound);
+    all = λ u r h. subst (λ us. Contains us u) (sym (names-of (names_passing hosted bound)))
+        (passing-all hosted bound u (below u r) (and_from (R u) (is_some (slices_of nodes u)) r h));
+    ascending = subst IsAscending (sym (names-of (names_passing hosted bound))) (passing-ascending hosted bound);
   }
     where
       each : (us : List ℕ) → AllByRecursion (λ u. hosted u ≡ true) us
           → AllByRecursion
-          (λ (p : ℕ × List Out). (p.1 ≡ outs_of i p.0 run) × (IsTrue (R p.0) × IsTrue (is_some (slices_of hosts p.0))))
+          (λ (p : ℕ × List Out). (p.1 ≡ outs_of i p.0 run) × (IsTrue (R p.0) × IsTrue (is_some (slices_of nodes p.0))))
           (map (λ u. (u, outs_of i u runs)) us)
       each [] h = tt
       each (u ∷ us) h =
-          let p = and_parts (R u) (is_some (slices_of hosts u)) h.0 in ((same u p.0, (p.0, p.1)), each us h.1)
+          let p = and_parts (R u) (is_some (slices_of nodes u)) h.0 in ((same u p.0, (p.0, p.1)), each us h.1)
 
 pub verdicts_exist : VerdictsExist
 verdicts_exist one other runs others i v a b =
-    go (cast_found R v one.hosts other.hosts (closure-bound one.hosts i v runs) (closure-below one.hosts i v runs))
+    go (cast_found R v one.nodes other.nodes (closure-bound one.nodes i v runs) (closure-below one.nodes i v runs))
     (first_difference decided_kept (kept_of R i runs) (kept_of R i others))
   where
     R : Names
-    R = closure one.hosts i v runs
+    R = closure one.nodes i v runs
 
-    go : SameCast R v one.hosts other.hosts ⊎ ((u : ℕ) × IsFirstUnlike R v one.hosts other.hosts u)
+    go : SameCast R v one.nodes other.nodes ⊎ ((u : ℕ) × IsFirstUnlike R v one.nodes other.nodes u)
         → (kept_of R i runs ≡ kept_of R i others)
         ⊎ ((place : ℕ) × IsFirstDifference (kept_of R i runs) (kept_of R i others) place)
-        → (verdict : Verdict) × IsVerdict one.hosts other.hosts runs others i v verdict
+        → (verdict : Verdict) × IsVerdict one.nodes other.nodes runs others i v verdict
     go (inr p) f = (CastDiffers p.0, p.1)
     go (inl cast) (inr p) = (InputsDiffer p.0, (cast, p.1))
     go (inl cast) (inl same) =
         let alike = isolated_runs one other runs others i v a b cast same in
-        let bound = closure-bound one.hosts i v runs in
-        let below = closure-below one.hosts i v runs in (
-          Same (with_outs R one.hosts i runs others bound below alike
-              (passing (hosted R one.hosts i runs others bound below alike) bound)),
+        let bound = closure-bound one.nodes i v runs in
+        let below = closure-below one.nodes i v runs in (
+          Same (with_outs R one.nodes i runs others bound below alike
+              (names_passing (hosted R one.nodes i runs others bound below alike) bound)),
           (
             cast,
             (
               same,
               (
-                listed_in R one.hosts i runs others bound below alike runs (λ u r. refl),
-                listed_in R one.hosts i runs others bound below alike others alike,
+                listed_in R one.nodes i runs others bound below alike runs (λ u r. refl),
+                listed_in R one.nodes i runs others bound below alike others alike,
               ),
             ),
           ),

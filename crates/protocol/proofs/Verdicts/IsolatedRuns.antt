@@ -12,9 +12,9 @@ isolated_runs one other runs others i v a b =
     agree (runs_are_journals one runs a) (runs_are_journals other others b) (journals-agree one other i v _ _)
   where
     Claim : List Entry → List Entry → Type 0
-    Claim x y = SameCast (closure one.hosts i v x) v one.hosts other.hosts
-        → kept_of (closure one.hosts i v x) i x ≡ kept_of (closure one.hosts i v x) i y → (u : ℕ)
-        → closure one.hosts i v x u ≡ true → outs_of i u x ≡ outs_of i u y
+    Claim x y = SameCast (closure one.nodes i v x) v one.nodes other.nodes
+        → kept_of (closure one.nodes i v x) i x ≡ kept_of (closure one.nodes i v x) i y → (u : ℕ)
+        → closure one.nodes i v x u ≡ true → outs_of i u x ≡ outs_of i u y
 
     agree : {x x' y y' : List Entry} → x ≡ x' → y ≡ y' → Claim x' y' → Claim x y
     agree p q f = subst (λ (z : List Entry × List Entry). Claim z.0 z.1) (sym (λ j. (p j, q j))) f

@@ -5,7 +5,7 @@ use Rattle.std.proofs.lemmas.Bool.{cases_Bool, cases_order, and_parts, and_from,
 use Rattle.protocol.specs.Sets.{Names, among, AreWithin}
 use Rattle.protocol.specs.Rosters.{Roster}
 use Rattle.protocol.specs.Networks.{Reading, Step}
-use Rattle.protocol.specs.Hosts.{Config, History, hosts_of, entries}
+use Rattle.protocol.specs.Hosts.{Config, History, nodes_of, entries}
 use Rattle.protocol.specs.Isolation.{closure, SameCast}
 use Rattle.protocol.specs.Verdicts.{IsFirstUnlike, IsFirstDifference}
 use Rattle.protocol.specs.Submissions.{answers, concerning_steps, replied_to, config_of, SameRoster, SameReserves, roster_names}
@@ -21,7 +21,7 @@ use Rattle.protocol.proofs.Crowds.Members.{never_crowded_out}
 
 -- the closure of v in a history
 abbrev pub closure_in : (List ℕ → Reading) → History → ℕ → ℕ → ℕ → Names
-closure_in decode h g i v = closure (hosts_of h.configs g) i v (entries decode h g)
+closure_in decode h g i v = closure (nodes_of h.configs g) i v (entries decode h g)
 
 -- ---- rosters
 module _ (xs ys : List ℕ) where
@@ -111,25 +111,25 @@ module _ (R : Names) (names : List ℕ) where
 -- ---- an answer
 module _ (decode : List ℕ → Reading) (one other : History) (g i v : ℕ) where
   R : Names
-  R = closure (hosts_of one.configs g) i v (entries decode one g)
+  R = closure (nodes_of one.configs g) i v (entries decode one g)
 
   pub crowd_found : (c : Crowd) × IsCrowd decode one other g i v c
   unfolding R
   crowd_found =
-      go (cast_found R v (hosts_of one.configs g) (hosts_of other.configs g) bound below)
+      go (cast_found R v (nodes_of one.configs g) (nodes_of other.configs g) bound below)
       (same_reserves (config_of one.configs g) (config_of other.configs g))
       (outside_found R (roster_names (config_of one.configs g)) bound below)
       (first_difference decided_step (concerning_steps R i (answers decode one g))
       (concerning_steps R i (answers decode other g)))
     where
       bound : ℕ
-      bound = closure-bound (hosts_of one.configs g) i v (entries decode one g)
+      bound = closure-bound (nodes_of one.configs g) i v (entries decode one g)
 
       below : (u : ℕ) → R u ≡ true → u < bound
-      below u h = closure-below (hosts_of one.configs g) i v (entries decode one g) u h
+      below u h = closure-below (nodes_of one.configs g) i v (entries decode one g) u h
 
-      go : SameCast R v (hosts_of one.configs g) (hosts_of other.configs g)
-          ⊎ ((u : ℕ) × IsFirstUnlike R v (hosts_of one.configs g) (hosts_of other.configs g) u)
+      go : SameCast R v (nodes_of one.configs g) (nodes_of other.configs g)
+          ⊎ ((u : ℕ) × IsFirstUnlike R v (nodes_of one.configs g) (nodes_of other.configs g) u)
           → SameReserves (config_of one.configs g) (config_of other.configs g)
           ⊎ (SameReserves (config_of one.configs g) (config_of other.configs g) → ⊥)
           → AreWithin R (among (roster_names (config_of one.configs g)))
@@ -157,9 +157,9 @@ crowds_are_unique decode one other g i v a b h k = go a b h k
     S : Names
     S = closure_in decode one g i v
 
-    casts : (u : ℕ) → IsFirstUnlike S v (hosts_of one.configs g) (hosts_of other.configs g) u
-        → SameCast S v (hosts_of one.configs g) (hosts_of other.configs g) → ⊥
-    casts u h c = not_unlike S v (hosts_of one.configs g) (hosts_of other.configs g) u h c
+    casts : (u : ℕ) → IsFirstUnlike S v (nodes_of one.configs g) (nodes_of other.configs g) u
+        → SameCast S v (nodes_of one.configs g) (nodes_of other.configs g) → ⊥
+    casts u h c = not_unlike S v (nodes_of one.configs g) (nodes_of other.configs g) u h c
 
     outside : (u : ℕ) → IsFirstOutside S (roster_names (config_of one.configs g)) u
         → AreWithin S (among (roster_names (config_of one.configs g))) → ⊥
@@ -173,7 +173,7 @@ crowds_are_unique decode one other g i v a b h k = go a b h k
 
     go : (a b : Crowd) → IsCrowd decode one other g i v a → IsCrowd decode one other g i v b → a ≡ b
     go (CastDiffers u) (CastDiffers w) h k =
-        ap {B = Crowd} CastDiffers (one_unlike S v (hosts_of one.configs g) (hosts_of other.configs g) u w h k)
+        ap {B = Crowd} CastDiffers (one_unlike S v (nodes_of one.configs g) (nodes_of other.configs g) u w h k)
     go (CastDiffers u) _ h k = absurd (casts u h k.0)
     go _ (CastDiffers w) h k = absurd (casts w k h.0)
     go RosterDiffers RosterDiffers h k = refl

@@ -5,10 +5,10 @@ use Rattle.protocol.specs.Sets.{some_set, every_set}
 use Rattle.protocol.specs.Quorums.{has_quorum}
 use Rattle.protocol.specs.Rows.{row, with_row, is_taken}
 use Rattle.protocol.specs.Closures.{in_least}
-use Rattle.protocol.specs.Reach.{reached}
+use Rattle.protocol.specs.Reach.{reach_of}
 use Rattle.protocol.specs.Views.{rows_seen, led_by, quorum_passes, blocking_passes, seen}
 use Rattle.protocol.specs.States.{high_counter, commit_counter, position_in, position, nomination_position, prepared_as_sent, sent_in, sent_vote, sent_nomination}
-use Rattle.protocol.specs.Candidates.{named, commits, greatest, lowest, least_from, greatest_value, combine, with_up_to_sixteen}
+use Rattle.protocol.specs.Candidates.{named_ballots, commits, greatest, lowest, least_from, greatest_value, combine, with_up_to_sixteen}
 use Rattle.types.specs.Nominations.{with_value}
 use Rattle.protocol.specs.Nominating.{echo, accept_values, confirm_values, nominate}
 use Rattle.protocol.specs.Balloting.{with_first_ballot, start, aborted_by, accept_prepared, raise_confirmed_prepared, follow_confirmed_prepared, is_aborted, set_commit, confirm_prepared, accepted_from, first_committed, next_committed, enter_commit, widen_commit, accept_commit, confirmed_commit, externalize, confirm_commit}
@@ -17,9 +17,9 @@ use Rattle.protocol.specs.Leaders.{in_bytes, preimage, hash, neighbours, best, l
 use Rattle.protocol.specs.Sameness.{same_votes}
 use Rattle.protocol.specs.Nodes.{fresh, settle, change, outs, step}
 use Rattle.protocol.specs.Networks.{after_event, act, nodes_of_new_slot, effect, net_step}
-use Rattle.protocol.specs.Hosts.{journal, host_run, applied}
+use Rattle.protocol.specs.Hosts.{journal, host_run, applied_entries}
 
 -- all that the definitions hide
 unfoldable pub everything : ℕ
-unfolding sha256 digest_bytes hash_after compress rounds schedule first_words some_set every_set has_quorum row with_row is_taken in_least reached rows_seen led_by quorum_passes blocking_passes seen high_counter commit_counter position_in position nomination_position prepared_as_sent sent_in sent_vote sent_nomination named commits greatest lowest least_from greatest_value combine with_value with_up_to_sixteen echo accept_values confirm_values nominate with_first_ballot start aborted_by accept_prepared raise_confirmed_prepared follow_confirmed_prepared is_aborted set_commit confirm_prepared accepted_from first_committed next_committed enter_commit widen_commit accept_commit confirmed_commit externalize confirm_commit counter_after_raise raise arm voting counting pass_rules pass in_bytes preimage hash neighbours best leader same_votes fresh settle change outs step after_event act nodes_of_new_slot effect net_step journal host_run applied
+unfolding sha256 digest_bytes hash_after compress rounds schedule first_words some_set every_set has_quorum row with_row is_taken in_least reach_of rows_seen led_by quorum_passes blocking_passes seen high_counter commit_counter position_in position nomination_position prepared_as_sent sent_in sent_vote sent_nomination named_ballots commits greatest lowest least_from greatest_value combine with_value with_up_to_sixteen echo accept_values confirm_values nominate with_first_ballot start aborted_by accept_prepared raise_confirmed_prepared follow_confirmed_prepared is_aborted set_commit confirm_prepared accepted_from first_committed next_committed enter_commit widen_commit accept_commit confirmed_commit externalize confirm_commit counter_after_raise raise arm voting counting pass_rules pass in_bytes preimage hash neighbours best leader same_votes fresh settle change outs step after_event act nodes_of_new_slot effect net_step journal host_run applied_entries
 everything = 0

@@ -73,31 +73,31 @@ abbrev pub to_A : ℕ → Slices → Statement → Step
 to_A u slices s = Delivers A 104 (Read (by u slices s))
 
 abbrev pub one_net : List HostedNode → Budgets → List Config
-one_net hosts budgets = record { number = 1; hosts = hosts; budgets = budgets; roster = None } ∷ []
+one_net nodes budgets = record { number = 1; nodes = nodes; budgets = budgets; roster = None } ∷ []
 
-abbrev pub host : ℕ → Slices → HostedNode
-host u slices = record { name = u; slices = slices }
+abbrev pub hosted : ℕ → Slices → HostedNode
+hosted u slices = record { name = u; slices = slices }
 
 -- a network that hosts A alone
 abbrev pub net_of_A : Slices → List Config
-net_of_A slices = one_net (host A slices ∷ []) (record { events = 100; bytes = 100000; slots = 1 })
+net_of_A slices = one_net (hosted A slices ∷ []) (record { events = 100; bytes = 100000; slots = 1 })
 
 -- the one host of such a network, and the journal of its steps
-abbrev pub hosts_A : List HostedNode
-hosts_A = host A two_of_bcd ∷ []
+abbrev pub nodes_A : List HostedNode
+nodes_A = hosted A two_of_bcd ∷ []
 
 abbrev pub run_A : List Step → List Entry
 run_A steps =
     journal (new_net (record {
       number = 1;
-      hosts = hosts_A;
+      nodes = nodes_A;
       budgets = record { events = 100; bytes = 100000; slots = 1 };
       roster = None;
     })) steps
 
 -- which of A, B, C, D, Z and E are in its closure
 abbrev pub members : List Entry → List Bool
-members entries = map (closure hosts_A 1 A entries) (A ∷ B ∷ C ∷ D ∷ Z ∷ E ∷ [])
+members entries = map (closure nodes_A 1 A entries) (A ∷ B ∷ C ∷ D ∷ Z ∷ E ∷ [])
 
 -- steps of network 1
 abbrev pub in_one : List Step → List (ℕ × Step)

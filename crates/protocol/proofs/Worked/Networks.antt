@@ -13,14 +13,14 @@ use Rattle.protocol.specs.Networks.Reply.{Done, Refused}
 use Rattle.protocol.specs.Hosts.{Config, Entry, nets, host_run}
 use Rattle.protocol.specs.Isolation.{closure, kept_of, outs_of}
 use Rattle.protocol.proofs.Worked.Everything.{everything}
-use Rattle.protocol.proofs.Worked.Letters.{A, B, C, D, Z, k, m, q, x, y, at, just, two_of_bcd, three_of_abcd, by, to_A, one_net, host, in_one, replies, hosts_A, run_A, members}
+use Rattle.protocol.proofs.Worked.Letters.{A, B, C, D, Z, k, m, q, x, y, at, just, two_of_bcd, three_of_abcd, by, to_A, one_net, hosted, in_one, replies, nodes_A, run_A, members}
 
 -- ---- refusals
-abbrev two_hosts : List Config
-two_hosts = one_net (host A (just A) ∷ host B (just A) ∷ []) (record { events = 100; bytes = 1000; slots = 1 })
+abbrev two_nodes : List Config
+two_nodes = one_net (hosted A (just A) ∷ hosted B (just A) ∷ []) (record { events = 100; bytes = 1000; slots = 1 })
 
 -- a Hear hands over what was emitted and nothing else; nobody delivers under a hosted name
-pub hears_what_was_emitted : host_run (nets two_hosts)
+pub hears_what_was_emitted : host_run (nets two_nodes)
     (in_one (Opens 1 ∷ Proposes 1 A x ∷ Hears 1 B A Kind.Ballot 2 ∷ Delivers B 88
     (Read (by A (just A) (Externalize (at 1 x) 1))) ∷ Hears 1 B A Kind.Ballot 1 ∷ Hears 1 B C Kind.Ballot 1
     ∷ Hears 1 B A Kind.Ballot 0 ∷ []) ++ (7, Opens 1) ∷ [])
@@ -33,7 +33,7 @@ unfolding everything
 hears_what_was_emitted = refl
 
 abbrev alone : ℕ → List Config
-alone events = one_net (host A (just A) ∷ []) (record { events = events; bytes = 0; slots = 1 })
+alone events = one_net (hosted A (just A) ∷ []) (record { events = events; bytes = 0; slots = 1 })
 
 -- a closed slot is forgotten, and begins anew when it is opened again
 pub reopened_slot_begins_anew : replies (alone 10)
@@ -59,7 +59,7 @@ unfolding everything
 full_journal_refuses = refl
 
 abbrev few_bytes : List Config
-few_bytes = one_net (host A two_of_bcd ∷ []) (record { events = 100; bytes = 208; slots = 1 })
+few_bytes = one_net (hosted A two_of_bcd ∷ []) (record { events = 100; bytes = 208; slots = 1 })
 
 abbrev from_B : Step
 from_B = to_A B (just B) (Prepare (at 9 m) (Some (at 9 m)) 6 0 0)
@@ -103,8 +103,8 @@ unfolding everything closure
 stranger_is_out = refl
 
 -- with and without the stranger the same steps are kept, and A gives out the same
-pub stranger_is_not_kept : kept_of (closure hosts_A 1 A without) 1 without
-    ≡ kept_of (closure hosts_A 1 A without) 1 with_stranger
+pub stranger_is_not_kept : kept_of (closure nodes_A 1 A without) 1 without
+    ≡ kept_of (closure nodes_A 1 A without) 1 with_stranger
 unfolding everything closure kept_of
 stranger_is_not_kept = refl
 
@@ -115,7 +115,7 @@ stranger_changes_nothing = refl
 
 -- ---- four validators
 abbrev four : List Config
-four = one_net (host A three_of_abcd ∷ host B three_of_abcd ∷ host C three_of_abcd ∷ host D three_of_abcd ∷ [])
+four = one_net (hosted A three_of_abcd ∷ hosted B three_of_abcd ∷ hosted C three_of_abcd ∷ hosted D three_of_abcd ∷ [])
     (record { events = 1000; bytes = 0; slots = 1 })
 
 abbrev others : ℕ → List ℕ

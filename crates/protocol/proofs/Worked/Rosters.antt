@@ -12,7 +12,7 @@ use Rattle.protocol.specs.Networks.Reading.{Read, Fault}
 use Rattle.protocol.specs.Networks.Step.{Opens, Closes, NominationTimerFires, Reslices}
 use Rattle.protocol.specs.Networks.Reply.{Done, Refused}
 use Rattle.protocol.specs.Hosts.{Config, History, entries}
-use Rattle.protocol.specs.Isolation.{closure, kept_of, outs_of, host_rule, announcement_rules}
+use Rattle.protocol.specs.Isolation.{closure, kept_of, outs_of, node_rule, announcement_rules}
 use Rattle.protocol.specs.Verdicts.{IsFirstDifference}
 use Rattle.protocol.specs.Submissions.{answers_of}
 use Rattle.protocol.specs.Crowds.{IsCrowd}
@@ -20,7 +20,7 @@ use Rattle.protocol.specs.Crowds.Crowd.{CastDiffers, RosterDiffers, OutsideRoste
 use Rattle.protocol.proofs.Verdicts.OfCrowds.{closure_in}
 use Rattle.protocol.proofs.Sets.RuleLists.{least-in}
 use Rattle.protocol.proofs.Worked.Everything.{everything}
-use Rattle.protocol.proofs.Worked.Letters.{A, B, C, D, Z, m, at, just, two_of_bcd, by, to_A, one_net, host, replies}
+use Rattle.protocol.proofs.Worked.Letters.{A, B, C, D, Z, m, at, just, two_of_bcd, by, to_A, one_net, hosted, replies}
 
 -- ---- a network of A with a roster, and strangers
 abbrev X : ℕ
@@ -36,7 +36,7 @@ abbrev of_A : ℕ → List ℕ → Shares → List Config
 of_A slots names shares =
     record {
       number = 1;
-      hosts = host A two_of_bcd ∷ [];
+      nodes = hosted A two_of_bcd ∷ [];
       budgets = record { events = 100; bytes = 208; slots = slots };
       roster = Some (record { names = names; shares = shares });
     } ∷ []
@@ -72,7 +72,7 @@ bytes_are_used_up = refl
 abbrev narrow : List Config
 narrow = record {
   number = 1;
-  hosts = host A two_of_bcd ∷ [];
+  nodes = hosted A two_of_bcd ∷ [];
   budgets = record { events = 0; bytes = 0; slots = 1 };
   roster = Some (record { names = abcd; shares = record { own = 1; pair = 1; bytes = 104; opens = 3 } });
 } ∷ []
@@ -117,16 +117,16 @@ abbrev with_roster : List ℕ → List Config
 with_roster names = of_A 1 names (shares 10 1000)
 
 abbrev few : List Config
-few = one_net (host A two_of_bcd ∷ []) (record { events = 100; bytes = 208; slots = 1 })
+few = one_net (hosted A two_of_bcd ∷ []) (record { events = 100; bytes = 208; slots = 1 })
 
-abbrev hosts : List HostedNode
-hosts = host A two_of_bcd ∷ []
+abbrev nodes : List HostedNode
+nodes = hosted A two_of_bcd ∷ []
 
 -- A's closure holds A, B, C and D, and strangers deliver to A without being in it
 in_abcd : (u : ℕ) → closure_in decode (crowded (with_roster abcd)) 1 1 A u ≡ true → among abcd u ≡ true
 unfolding everything closure
 in_abcd u h =
-    least-in (map host_rule hosts ++ flat_map (λ x. announcement_rules 1 x.event)
+    least-in (map node_rule nodes ++ flat_map (λ x. announcement_rules 1 x.event)
     (entries decode (crowded (with_roster abcd)) 1)) A (among abcd) refl refl u h
 
 pub strangers_crowd_nobody_out : IsCrowd decode (crowded (with_roster abcd)) (quiet (with_roster abcd)) 1 1 A
@@ -160,7 +160,7 @@ abc = A ∷ B ∷ C ∷ []
 in_abcd_too : (u : ℕ) → closure_in decode (crowded (with_roster abc)) 1 1 A u ≡ true → among abcd u ≡ true
 unfolding everything closure
 in_abcd_too u h =
-    least-in (map host_rule hosts ++ flat_map (λ x. announcement_rules 1 x.event)
+    least-in (map node_rule nodes ++ flat_map (λ x. announcement_rules 1 x.event)
     (entries decode (crowded (with_roster abc)) 1)) A (among abcd) refl refl u h
 
 below_D : (w : ℕ) → among abcd w ≡ true → w < D → among abc w ≡ true

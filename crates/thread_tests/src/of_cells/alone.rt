@@ -3,7 +3,7 @@
 ghost use Rattle.std.specs.Prelude.{◌≡◌};
 
 use super::rooms::{
-    Room, decides, decides_alone, is_x, name, one_seat, open, proposal, two_seats, watched,
+    Room, decides, decides_alone, is_x, name, one_seat, open, proposal, room_with_watch, two_seats,
 };
 use cells::CellRefusal;
 use decisions::Decision;
@@ -49,7 +49,7 @@ fn is_decision_of_x(decisions: &[Decision]) -> bool {
 #[test]
 fn a_watch_reads_what_is_decided(rt: HostRuntime) -> Result<(), Fail> {
     let alloc = rt.alloc();
-    let (mut room, mut watch) = watched(&rt, alloc, 2).ok_or("memory")?;
+    let (mut room, mut watch) = room_with_watch(&rt, alloc, 2).ok_or("memory")?;
     assert_eq!(rt;
         watch.read(|decisions: &[Decision]| decisions.len()),
         Some(0)
@@ -93,7 +93,7 @@ fn insist<R: Wait + Drop + Copy>(
 }
 
 /// A proposal, made once more where memory was short.
-fn made(alloc: Global) -> Option<Event> {
+fn proposal_by_second_try(alloc: Global) -> Option<Event> {
     proposal(alloc).or_else(|| proposal(alloc))
 }
 
@@ -107,7 +107,10 @@ fn a_call_that_wants_memory_leaves_all_as_it_was(rt: HostRuntime) -> Result<(), 
         .ok_or("memory")?;
     let opened = insist(&rt, &mut room, open(1), open(1)).ok_or("not opened")?;
     assert!(rt; opened.is_empty());
-    let (first, second) = (made(alloc).ok_or("memory")?, made(alloc).ok_or("memory")?);
+    let (first, second) = (
+        proposal_by_second_try(alloc).ok_or("memory")?,
+        proposal_by_second_try(alloc).ok_or("memory")?,
+    );
     let outs = insist(&rt, &mut room, first, second).ok_or("not proposed")?;
     assert!(rt; decides(&outs));
     assert_eq!(rt; room.receipts(0), 2);

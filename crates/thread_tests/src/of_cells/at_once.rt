@@ -4,7 +4,7 @@ ghost use Rattle.std.specs.Prelude.{◌≡◌, length};
 ghost use Rattle.std.specs.List.{All};
 ghost use Rattle.cells.specs.Cells.{IsSeatOf};
 
-use super::rooms::{Room, is_x, name, open, watched};
+use super::rooms::{Room, is_x, name, open, room_with_watch};
 use cells::{Cell, Receipt, Seat};
 use decisions::Decision;
 use envstore::Shelf;
@@ -75,7 +75,7 @@ where
 }
 
 /// The room of a cell and its seats.
-fn seated<S: Shelf, H: Wait + Drop>(cell: Cell<S, H>, seats: Vec<Seat<S, H>>) -> Room<S, H>
+fn room_of<S: Shelf, H: Wait + Drop>(cell: Cell<S, H>, seats: Vec<Seat<S, H>>) -> Room<S, H>
     requires { All (IsSeatOf cell) seats.items }
 {
     Room { cell, seats }
@@ -92,7 +92,7 @@ where
 {
     let Room { cell, mut seats } = room;
     all_at_once(rt, alloc, &cell, seats.as_mut_slice());
-    seated(cell, seats)
+    room_of(cell, seats)
 }
 
 /// How many there are, where each is of `x`.
@@ -127,7 +127,7 @@ fn all_stand<S: Shelf, H: Wait + Drop>(journal: &Journal<S>, seat: &Seat<S, H>) 
 #[test]
 fn four_threads_make_one_history(rt: HostRuntime) -> Result<(), Fail> {
     let alloc = rt.alloc();
-    let (room, watch) = watched(&rt, alloc, 4).ok_or("memory")?;
+    let (room, watch) = room_with_watch(&rt, alloc, 4).ok_or("memory")?;
     let mut watch = watch;
     let room = used_by_all(&rt, alloc, room);
     assert_eq!(rt;

@@ -48,8 +48,8 @@ pub(super) fn name() -> NodeId {
 fn config(alloc: Global, events: u64) -> Option<NetConfig> {
     let members = vec![in alloc; Member::Node(name())].ok()?;
     let slices = Nested::new(alloc, SliceSet::new(1, members)).ok()??;
-    let hosts = vec![in alloc; HostedNode::new(name(), slices)].ok()?;
-    NetConfig::new(alloc, 7, hosts, Budgets::new(events, 0, 4)?).ok()
+    let nodes = vec![in alloc; HostedNode::new(name(), slices)].ok()?;
+    NetConfig::new(alloc, 7, nodes, Budgets::new(events, 0, 4)?).ok()
 }
 
 /// A room with two seats.
@@ -62,7 +62,7 @@ pub(super) fn two_seats<R: Wait + Drop + Copy>(
 }
 
 /// A room with so many seats, and a watch.
-pub(super) fn watched<R: Wait + Drop + Copy>(
+pub(super) fn room_with_watch<R: Wait + Drop + Copy>(
     rt: &R,
     alloc: Global,
     seats: u64,

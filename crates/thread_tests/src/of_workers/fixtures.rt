@@ -40,13 +40,13 @@ fn slices(alloc: Global, nodes: u64) -> Option<Nested> {
 
 /// A network of so many nodes, of which a majority is wanted.
 fn config(alloc: Global, number: u32, nodes: u64) -> Option<NetConfig> {
-    let mut hosts = Vec::new(alloc);
+    let mut hosted = Vec::new(alloc);
     for node in 0..nodes {
-        hosts
+        hosted
             .push(HostedNode::new(name(node), slices(alloc, nodes)?))
             .ok()?;
     }
-    NetConfig::new(alloc, number, hosts, Budgets::new(10_000, 0, 4)?).ok()
+    NetConfig::new(alloc, number, hosted, Budgets::new(10_000, 0, 4)?).ok()
 }
 
 /// A network joins, given by its number, how many nodes it has, and how many seats its cell has. It says whether
@@ -67,7 +67,7 @@ pub(super) fn join<R: Wait + Drop + Copy>(
 }
 
 /// A host of networks that are numbered from 1 on.
-pub(super) fn joined<R: Wait + Drop + Copy>(
+pub(super) fn host_of_networks<R: Wait + Drop + Copy>(
     rt: &R,
     alloc: Global,
     networks: u32,

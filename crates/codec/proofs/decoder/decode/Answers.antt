@@ -7,16 +7,16 @@ use Rattle.codec.specs.declared.error.Fault.{Fault}
 use Rattle.codec.specs.Steps.{Gives}
 use Rattle.codec.specs.Spelling.{Spells}
 use Rattle.codec.specs.Answers.{Refuses}
-use Rattle.codec.specs.Reading.{decoded}
+use Rattle.codec.specs.Reading.{decoding}
 use Rattle.codec.proofs.FieldLaws.{IsBytes}
 use Rattle.codec.proofs.EnvelopeLaws.{is_spelled, is_read, is_fault, fault_is}
 use Rattle.codec.proofs.decoder.decode.Goals as goal
 
-found : (bytes : List ℕ) (r : Result Sent CodecError) → IsBytes bytes → Gives (λ e. e) r (decoded bytes) → IfOk r (Spells bytes)
+found : (bytes : List ℕ) (r : Result Sent CodecError) → IsBytes bytes → Gives (λ e. e) r (decoding bytes) → IfOk r (Spells bytes)
 found bytes (Ok e) fits h = is_spelled bytes e fits h
 found bytes (Err d) fits h = tt
 
-refused : (bytes : List ℕ) (r : Result Sent CodecError) → IsBytes bytes → Gives (λ e. e) r (decoded bytes) → IfErr r (Refuses bytes)
+refused : (bytes : List ℕ) (r : Result Sent CodecError) → IsBytes bytes → Gives (λ e. e) r (decoding bytes) → IfErr r (Refuses bytes)
 refused bytes (Ok e) fits h = tt
 refused bytes (Err errors.NoMemory) fits h = tt
 refused bytes (Err (errors.Fault f)) fits h = is_fault bytes f fits h

@@ -1,6 +1,6 @@
 use Rattle.std.proofs.Common.{◌≡◌, ◌+◌, ◌<◌, ℕ, List, drop, length, rules, sym, subst, ap, ◌∙◌, arith}
 use Rattle.compiled.specs.Asking.{IsAsked}
-use Rattle.compiled.specs.Met.{met, one_where, sets_met}
+use Rattle.compiled.specs.Met.{has_needed, one_where, sets_met}
 use Rattle.compiled.specs.Places.{Compiled, count_in, places_in, sets_of, weight_of_sets}
 use Rattle.compiled.specs.declared.mask.Mask.{Mask}
 use Rattle.compiled.proofs.Tallies.{one_set, skips_set, no_set, all_asked}
@@ -37,9 +37,9 @@ loop-inner-preserved g t c =
       shape = kept.shape;
       so_far = λ ws are t' later. elim c.if-is_open.branch [
         | then-is_open w ↦
-            let answer : w.is_met_by.result ≡ met x ws = w.is_met_by.ensures ws are in
+            let answer : w.is_met_by.result ≡ has_needed x ws = w.is_met_by.ensures ws are in
             let asked : IsAsked (one_where w.is_met_by.result) 1 old c.if-is_open.tally = subst (λ n. IsAsked (one_where w.is_met_by.result) 1 old n) (sym w.tally-is) w.after-tally.ensures in
-            kept.so_far ws are t' (one_set sets i x ws w.is_met_by.result old c.if-is_open.tally t' c.loop-inner-test.true (answer ∙ ap (λ y. met y ws) c.inner-item.is) asked later)
+            kept.so_far ws are t' (one_set sets i x ws w.is_met_by.result old c.if-is_open.tally t' c.loop-inner-test.true (answer ∙ ap (λ y. has_needed y ws) c.inner-item.is) asked later)
         | else-is_open w ↦
             let shut = sym c.is_open.ensures ∙ w.if-is_open.false in
             kept.so_far ws are t' (skips_set sets i x ws old t' c.loop-inner-test.true shut (subst (λ n. IsAsked (sets_met (sets_of (drop (i + 1) sets)) ws) (length (drop (i + 1) sets)) n t') w.tally-is later))

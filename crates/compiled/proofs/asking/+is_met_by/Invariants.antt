@@ -1,7 +1,7 @@
 use Rattle.std.proofs.Common.{◌≡◌, ℕ, List, drop, length}
 use Rattle.std.specs.Prelude.{nat_eq}
 use Rattle.compiled.specs.Asking.{ArePassing, IsAsked}
-use Rattle.compiled.specs.Met.{met, sets_met}
+use Rattle.compiled.specs.Met.{has_needed, sets_met}
 use Rattle.compiled.specs.Places.{sets_of}
 use Rattle.compiled.specs.declared.asking.Tally.{Tally}
 use Rattle.compiled.proofs.asking.+is_met_by.Given as goal
@@ -13,5 +13,5 @@ abbrev pub invariant-loop-inner : goal.invariant-loop-inner
 invariant-loop-inner g l = record {
   shape : sets_of l.sets ≡ l.set.inner;
   so_far : (ws : List ℕ) → ArePassing (g.P.Passing.passing l.who) ws → (t : Tally)
-      → IsAsked (sets_met (sets_of (drop l.inner-index l.sets)) ws) (length (drop l.inner-index l.sets)) l.tally t → nat_eq t.missing 0 ≡ met l.set ws;
+      → IsAsked (sets_met (sets_of (drop l.inner-index l.sets)) ws) (length (drop l.inner-index l.sets)) l.tally t → nat_eq t.missing 0 ≡ has_needed l.set ws;
 }

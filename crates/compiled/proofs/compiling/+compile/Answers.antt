@@ -6,7 +6,7 @@ use Rattle.compiled.specs.declared.mask.Mask.{Mask}
 use Rattle.types.proofs.Weights.{inner_weighs_less}
 use Rattle.protocol.specs.Sets.{among}
 use Rattle.compiled.specs.Places.{Compiled, count_in, places_in, sets_of}
-use Rattle.compiled.specs.Met.{met, sets_met, picked, one_where, needed_of}
+use Rattle.compiled.specs.Met.{has_needed, sets_met, nodes_at, one_where, needed_of}
 use Rattle.compiled.proofs.MembersMet.{node_on, set_on, one_set_more, all_met}
 use Rattle.compiled.proofs.compiling.+compile.Goals as goal
 use Rattle.compiled.proofs.compiling.+compile.Goals.{in-Node+in_ok-add_node-in-Node, in-Set+in_ok-compile-in-Set+in_ok-push-in-Set}
@@ -36,7 +36,7 @@ loop-member-preserved t c = record {
   so_far = λ ws.
       let ms = c.members-members.result.now in
       let i = c.loop-member.member-index in
-      let s = among (picked c.args.nodes.now ws) in
+      let s = among (nodes_at c.args.nodes.now ws) in
       let before = c.loop-member.invariant.so_far ws in
       elim c.match-member.branch [
         | in-Node+in_ok-add_node-in-Node w ↦
@@ -55,8 +55,8 @@ loop-member-preserved t c = record {
 pub returns : goal.returns
 returns t c = λ ws.
     let ms = c.members-members.result.now in
-    let s = among (picked c.args.nodes.now ws) in
+    let s = among (nodes_at c.args.nodes.now ws) in
     let made : Compiled = record { needed = c.needed_of-needed.result; masks = c.loop-member.masks.items; inner = sets_of c.loop-member.inner.items } in
     let needed = c.needed_of-needed.ensures ∙ ap (λ k. needed_of c.args.blocking k (length ms)) c.threshold.ensures in
-    ap (λ (x : Compiled). met x ws) c.new.ensures
+    ap (λ (x : Compiled). has_needed x ws) c.new.ensures
     ∙ all_met c.args.blocking ms c.loop-member.member-index c.args.set.now s made ws (omega (arith, c.loop-member-test.false)) c.members-members.ensures needed (c.loop-member.invariant.so_far ws)

@@ -2,7 +2,7 @@ use Rattle.std.proofs.Common.{◌≡◌, ◌+◌, ◌∙◌, List, [], ◌∷◌
 use Rattle.std.specs.Prelude.{nat_le}
 use Rattle.std.proofs.lemmas.List.{drop_all, length-append}
 use Rattle.compiled.specs.declared.mask.Mask.{Mask}
-use Rattle.compiled.specs.Met.{met, one_where, sets_met}
+use Rattle.compiled.specs.Met.{has_needed, one_where, sets_met}
 use Rattle.compiled.specs.Places.{Compiled, Sets, count_in, count_sets, places_in, sets_of, weight_of_sets}
 use Rattle.compiled.proofs.MembersMet.{one_set_more}
 use Rattle.compiled.proofs.Tallies.{sets_at}
@@ -29,7 +29,7 @@ loop-each-preserved t c =
       count = omega (arith, kept.count, ap (λ (xs : List Compiled). length xs) pushed, length-append before (made ∷ []));
       so_far = λ ws vs is.
           let all = ap (λ (xs : List Compiled). sets_met (sets_of xs) vs) pushed ∙ one_set_more before made vs in
-          let one = ap one_where (c.in_ok-relocate_set.ensures ws vs is) ∙ ap (λ (x : Compiled). one_where (met x ws)) c.each-item.is in
+          let one = ap one_where (c.in_ok-relocate_set.ensures ws vs is) ∙ ap (λ (x : Compiled). one_where (has_needed x ws)) c.each-item.is in
           omega (arith, kept.so_far ws vs is, all, one, sets_at cs i c.each-item.result ws c.loop-each-test.true);
     }
 
@@ -48,4 +48,4 @@ returns t c = λ ws vs is.
     let none = ap (λ (xs : List Compiled). sets_met (sets_of xs) ws) (drop_all c.loop-each.each-index cs (omega (arith, c.loop-each-test.false))) in
     let shape = ap (λ (s : Sets). sets_met s ws) c.loop-each.invariant.shape in
     let sets : sets_met (sets_of c.loop-each.inner.items) vs ≡ sets_met set.inner ws = omega (arith, c.loop-each.invariant.so_far ws vs is, none, shape) in
-    ap (λ (x : Compiled). met x vs) c.new.ensures ∙ (λ i. nat_le (c.needed_count.ensures i) (masks i + sets i))
+    ap (λ (x : Compiled). has_needed x vs) c.new.ensures ∙ (λ i. nat_le (c.needed_count.ensures i) (masks i + sets i))

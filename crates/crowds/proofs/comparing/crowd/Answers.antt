@@ -4,7 +4,7 @@ use Rattle.protocol.specs.Hosts.{entries}
 use Rattle.protocol.specs.Isolation.{closure}
 use Rattle.network.specs.Decoding.{reading}
 use Rattle.hoststep.specs.Logs.{Log}
-use Rattle.crowds.proofs.RunsOf.{hosts_are, nobody}
+use Rattle.crowds.proofs.RunsOf.{nodes_are, nobody}
 use Rattle.crowds.proofs.comparing.crowd.Goals as goal
 
 pub returns-in_default-clause-verdict : goal.returns-in_default-clause-verdict
@@ -13,5 +13,5 @@ returns-in_default-clause-verdict c = inl (nobody c.args.one.now.configs c.args.
 pub crowd_among-requires-clause-members : goal.crowd_among-requires-clause-members
 crowd_among-requires-clause-members c = λ u.
     c.in_ok-members.ensures.exactly u
-    ∙ (ap (λ (l : Log). closure l.config.hosts c.args.subject.now.slot c.args.subject.now.node l.entries u) c.in_ok-journal.ensures
-    ∙ ap (λ (hs : List HostedNode). closure hs c.args.subject.now.slot c.args.subject.now.node (entries reading c.args.one.now c.args.subject.now.net) u) (hosts_are c.args.one.now.configs c.args.subject.now.net c.in-Some.config.now (sym c.in-Some.ensures)))
+    ∙ (ap (λ (l : Log). closure l.config.nodes c.args.subject.now.slot c.args.subject.now.node l.entries u) c.in_ok-journal.ensures
+    ∙ ap (λ (hs : List HostedNode). closure hs c.args.subject.now.slot c.args.subject.now.node (entries reading c.args.one.now c.args.subject.now.net) u) (nodes_are c.args.one.now.configs c.args.subject.now.net c.in-Some.config.now (sym c.in-Some.ensures)))

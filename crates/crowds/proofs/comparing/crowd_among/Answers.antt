@@ -7,7 +7,7 @@ use Rattle.crowds.proofs.comparing.crowd_among.Goals as goal
 
 pub returns-in-Some-first_difference : goal.returns-in-Some-first_difference
 returns-in-Some-first_difference c =
-    let r = are_reserved c.args.one.now c.args.other.now c.args.subject.now.net c.args.subject.now.slot c.args.subject.now.node (names_of c.args.members.now) c.requires.members c.requires.hosted _ _ c.hosts.ensures c.hosts-2.ensures c.in_default.ensures
+    let r = are_reserved c.args.one.now c.args.other.now c.args.subject.now.net c.args.subject.now.slot c.args.subject.now.node (names_of c.args.members.now) c.requires.members c.requires.hosted _ _ c.nodes.ensures c.nodes-2.ensures c.in_default.ensures
     _ _ c.in-Some-config.ensures c.in-Some-config-2.ensures (c.has_same_reserves.ensures.0 c.if-not-has_same_reserves.false) _ c.in-Some-roster.ensures c.in_default-least_outside.ensures in
     let x = are_inputs c.args.subject.now.net c.args.subject.now.slot _ (names_of c.args.members.now) c.requires.members c.args.one.now _ (sym c.in-Some-config.ensures) _ _ _ _ c.calls.ensures c.in_ok-one_marks.ensures c.calls-3.ensures c.deref.ensures.value in
     let y = are_inputs c.args.subject.now.net c.args.subject.now.slot _ (names_of c.args.members.now) c.requires.members c.args.other.now _ (sym c.in-Some-config-2.ensures) _ _ _ _ c.calls-2.ensures c.in_ok-other_marks.ensures c.calls-4.ensures c.deref-2.ensures.value in
@@ -15,7 +15,7 @@ returns-in-Some-first_difference c =
 
 pub returns : goal.returns
 returns c =
-    let r = are_reserved c.args.one.now c.args.other.now c.args.subject.now.net c.args.subject.now.slot c.args.subject.now.node (names_of c.args.members.now) c.requires.members c.requires.hosted _ _ c.hosts.ensures c.hosts-2.ensures c.in_default.ensures
+    let r = are_reserved c.args.one.now c.args.other.now c.args.subject.now.net c.args.subject.now.slot c.args.subject.now.node (names_of c.args.members.now) c.requires.members c.requires.hosted _ _ c.nodes.ensures c.nodes-2.ensures c.in_default.ensures
     _ _ c.in-Some-config.ensures c.in-Some-config-2.ensures (c.has_same_reserves.ensures.0 c.if-not-has_same_reserves.false) _ c.in-Some-roster.ensures c.in_default-least_outside.ensures in
     let x = are_inputs c.args.subject.now.net c.args.subject.now.slot _ (names_of c.args.members.now) c.requires.members c.args.one.now _ (sym c.in-Some-config.ensures) _ _ _ _ c.calls.ensures c.in_ok-one_marks.ensures c.calls-3.ensures c.deref.ensures.value in
     let y = are_inputs c.args.subject.now.net c.args.subject.now.slot _ (names_of c.args.members.now) c.requires.members c.args.other.now _ (sym c.in-Some-config-2.ensures) _ _ _ _ c.calls-2.ensures c.in_ok-other_marks.ensures c.calls-4.ensures c.deref-2.ensures.value in

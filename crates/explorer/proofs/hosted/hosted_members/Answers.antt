@@ -10,7 +10,7 @@ use Rattle.explorer.proofs.hosted.hosted_members.Goals.{in-Some+in_ok-names+in_o
 
 pub loop-node-preserved : goal.loop-node-preserved
 loop-node-preserved g c =
-    let at_end = slices_then (g.J.Announcements.hosts c.args.journal.now) c.args.slot (g.J.Announcements.entries c.args.journal.now) in
+    let at_end = slices_then (g.J.Announcements.nodes c.args.journal.now) c.args.slot (g.J.Announcements.entries c.args.journal.now) in
     let list = c.args.names.now in
     let done = take c.loop-node.node-index list in
     let at = slice_get_read list (length list) c.loop-node.node-index c.node-item.result refl c.loop-node-test.true c.node-item.is in
@@ -28,7 +28,7 @@ loop-node-preserved g c =
 
 pub returns : goal.returns
 returns g c =
-    let at_end = slices_then (g.J.Announcements.hosts c.args.journal.now) c.args.slot (g.J.Announcements.entries c.args.journal.now) in
+    let at_end = slices_then (g.J.Announcements.nodes c.args.journal.now) c.args.slot (g.J.Announcements.entries c.args.journal.now) in
     let list = c.args.names.now in
     all_found at_end (among list) list c.loop-node.hosted.items c.requires (λ u. refl)
     (subst (λ v. AreFound at_end (among list) v c.loop-node.hosted.items) (take_all c.loop-node.node-index list (omega (arith, c.loop-node-test.false))) c.loop-node.invariant)

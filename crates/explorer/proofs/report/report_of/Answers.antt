@@ -8,4 +8,4 @@ use Rattle.explorer.proofs.report.report_of.Goals as goal
 pub returns-clause-hosted : goal.returns-clause-hosted
 returns-clause-hosted g c =
     let same = fun_ext (λ u. ap (λ (xs : List ℕ). among xs u) c.deref.ensures.value ∙ c.in_ok-names.ensures.all u) in
-    subst (λ (set : Names). AreHosted (slices_then (g.J.Announcements.hosts c.args.journal.now) c.args.slot (g.J.Announcements.entries c.args.journal.now)) set c.in_ok-hosted.hosted.items) same c.in_ok-hosted.ensures
+    subst (λ (set : Names). AreHosted (slices_then (g.J.Announcements.nodes c.args.journal.now) c.args.slot (g.J.Announcements.entries c.args.journal.now)) set c.in_ok-hosted.hosted.items) same c.in_ok-hosted.ensures

@@ -2,7 +2,7 @@ use Rattle.std.proofs.Common.{List, IfOk, sym, subst}
 use Rattle.types.specs.declared.event.NodeEvent.{NodeEvent}
 use Rattle.slot.specs.Filings.{event_of}
 use Rattle.network.specs.declared.plan.Deed.{Deed}
-use Rattle.network.specs.Deeds.{handed, outs_after}
+use Rattle.network.specs.Deeds.{envelope_to_file, outs_after}
 use Rattle.network.specs.Doings.{IsAnswer, marks_after, slots_of}
 use Rattle.network.specs.Lodgings.{AreLodged, Lodgings}
 use Rattle.network.proofs.SlotPlaceLaws.{indexed-acted}
@@ -15,7 +15,7 @@ pub invariant_of-slots : goal.invariant_of-slots
 invariant_of-slots g c =
     let e = event_of c.in-Act.event in
     let old = c.slots.inside.slots.items in
-    indexed-acted c.act.result c.args.terms.now.charge c.in-Act.host_at c.in-Act.slot_at e old c.act.new.slots.items
+    indexed-acted c.act.result c.args.terms.now.charge c.in-Act.node_at c.in-Act.slot_at e old c.act.new.slots.items
     c.slots.inside.index c.act.ensures.done c.act.ensures.err c.slots.invariant
 
 pub hand-requires-clause-lodged : goal.hand-requires-clause-lodged
@@ -25,15 +25,15 @@ pub invariant_of-slots-in-Hand : goal.invariant_of-slots-in-Hand
 invariant_of-slots-in-Hand g c =
     let e = NodeEvent.Take c.in-Hand.envelope in
     let old = c.slots-in-Hand.inside.slots.items in
-    indexed-acted c.hand.result c.args.terms.now.charge c.in-Hand.host_at c.in-Hand.slot_at e old c.hand.new.slots.items
+    indexed-acted c.hand.result c.args.terms.now.charge c.in-Hand.node_at c.in-Hand.slot_at e old c.hand.new.slots.items
     c.slots-in-Hand.inside.index c.hand.ensures.done c.hand.ensures.err c.slots-in-Hand.invariant
 
 pub returns-in-Open-clause-answer : goal.returns-in-Open-clause-answer
 returns-in-Open-clause-answer g c =
     let before = slots_of c.args.slots.now in
-    subst (λ (d : Deed). IfOk c.open.result (IsAnswer (outs_after before d) (marks_after before d) (handed d) c.args.terms.now.copies c.args.archive.now)) (sym c.in-Open.is) (c.open.ensures.answer c.args.terms.now.copies)
+    subst (λ (d : Deed). IfOk c.open.result (IsAnswer (outs_after before d) (marks_after before d) (envelope_to_file d) c.args.terms.now.copies c.args.archive.now)) (sym c.in-Open.is) (c.open.ensures.answer c.args.terms.now.copies)
 
 pub returns-in-Close-clause-answer : goal.returns-in-Close-clause-answer
 returns-in-Close-clause-answer g c =
     let before = slots_of c.args.slots.now in
-    subst (λ (d : Deed). IsAnswer (outs_after before d) (marks_after before d) (handed d) c.args.terms.now.copies c.args.archive.now c.close.result) (sym c.in-Close.is) (c.close.ensures.answer c.args.terms.now.copies)
+    subst (λ (d : Deed). IsAnswer (outs_after before d) (marks_after before d) (envelope_to_file d) c.args.terms.now.copies c.args.archive.now c.close.result) (sym c.in-Close.is) (c.close.ensures.answer c.args.terms.now.copies)

@@ -1,7 +1,7 @@
 use Rattle.std.proofs.Common.{◌+◌, ◌++◌, ◌∷◌, [], length, drop, subst}
 use Rattle.envstore.specs.Archives.{sents_of}
 use Rattle.protocol.specs.Networks.{emissions}
-use Rattle.network.specs.Marks.{numbered}
+use Rattle.network.specs.Marks.{numbers_by_kind}
 use Rattle.slot.specs.Filings.{outs_of}
 use Rattle.network.specs.Lodgings.{HaveRoom}
 use Rattle.network.proofs.NumberedOuts.{emitted-more, marks-more, fewer, room-for}
@@ -24,7 +24,7 @@ loop-out-preserved g c =
     record {
       emitted = emitted-more (sents_of l.emitted.items) (sents_of c.log_out.new.emitted.items) (sents_of c.args.emitted.now.items ++ emissions (outs_of outs)) outs l.out-index x c.loop-out-test.true c.out-item.is c.log_out.ensures.emitted v.emitted;
       places = c.log_out.ensures.places;
-      marks = marks-more (sents_of l.emitted.items) (sents_of c.log_out.new.emitted.items) l.marks.items c.log_out.new.marks.items (c.args.marks.now.items ++ numbered (sents_of c.args.emitted.now.items) (emissions (outs_of outs))) outs l.out-index x c.loop-out-test.true c.out-item.is c.log_out.ensures.emitted c.log_out.ensures.marks v.marks;
+      marks = marks-more (sents_of l.emitted.items) (sents_of c.log_out.new.emitted.items) l.marks.items c.log_out.new.marks.items (c.args.marks.now.items ++ numbers_by_kind (sents_of c.args.emitted.now.items) (emissions (outs_of outs))) outs l.out-index x c.loop-out-test.true c.out-item.is c.log_out.ensures.emitted c.log_out.ensures.marks v.marks;
       room = c.log_out.ensures.room (length (emissions (outs_of (drop (l.out-index + 1) outs)))) (subst (λ n. HaveRoom n l.emitted l.places l.marks) (fewer outs l.out-index x c.loop-out-test.true c.out-item.is) v.room);
       filed = c.log_out.ensures.filed;
     }

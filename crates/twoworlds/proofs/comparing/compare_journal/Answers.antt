@@ -9,13 +9,13 @@ use Rattle.twoworlds.proofs.comparing.compare_journal.Goals as goal
 
 pub unreachable-requires : goal.unreachable-requires
 unreachable-requires g c =
-    let hosted : is_some (slices_of c.args.one.now.config.hosts c.args.node.now) ≡ true =
+    let hosted : is_some (slices_of c.args.one.now.config.nodes c.args.node.now) ≡ true =
     sym (ap is_some c.slices.ensures.value) ∙ (some_mapped _ c.slices.result ∙ (c.is_none.ensures ∙ ap not c.if-is_none.false)) in
     never_without c.args.one.now _ c.args.slot c.args.node.now c.in_ok-members.members c.in_ok-members.ensures hosted c.in_default.ensures (ap (λ o. option_map (λ j. j.now) o) c.in_default-other.is)
 
 pub returns-in-Some-first_difference-clause-verdict : goal.returns-in-Some-first_difference-clause-verdict
 returns-in-Some-first_difference-clause-verdict g c =
-    let hosted : is_some (slices_of c.args.one.now.config.hosts c.args.node.now) ≡ true =
+    let hosted : is_some (slices_of c.args.one.now.config.nodes c.args.node.now) ≡ true =
     sym (ap is_some c.slices.ensures.value) ∙ (some_mapped _ c.slices.result ∙ (c.is_none.ensures ∙ ap not c.if-is_none.false)) in
     inputs_with c.args.one.now _ c.args.slot c.args.node.now c.in_ok-members.members c.in_ok-members.ensures hosted c.in_default.ensures c.in-Some-other.other.now (ap (λ o. option_map (λ j. j.now) o) c.in-Some-other.is)
     c.in-Some-first_difference.place c.in-Some-first_difference.ensures
@@ -23,16 +23,16 @@ returns-in-Some-first_difference-clause-verdict g c =
 pub outs_of_each-requires : goal.outs_of_each-requires
 outs_of_each-requires g c =
     let R = among (names_of c.in_ok-members.members) in
-    let hosts_are : c.hosts.result.now ≡ c.args.one.now.config.hosts = c.hosts.ensures.value ∙ ap (λ x. x.hosts) c.config.ensures in
-    subst IsAscending (sym (c.deref.ensures.value ∙ (c.in_ok-names.ensures ∙ ap (λ (hs : List HostedNode). hosted_in R hs) hosts_are))) (AllPairs-filter (λ x y. x < y) R (map (λ (h : HostedNode). h.name) c.args.one.now.config.hosts) c.slices.ensures.ascending)
+    let nodes_are : c.nodes.result.now ≡ c.args.one.now.config.nodes = c.nodes.ensures.value ∙ ap (λ x. x.nodes) c.config.ensures in
+    subst IsAscending (sym (c.deref.ensures.value ∙ (c.in_ok-names.ensures ∙ ap (λ (hs : List HostedNode). hosted_in R hs) nodes_are))) (AllPairs-filter (λ x y. x < y) R (map (λ (h : HostedNode). h.name) c.args.one.now.config.nodes) c.slices.ensures.ascending)
 
 pub returns-clause-verdict : goal.returns-clause-verdict
 returns-clause-verdict g c =
     let R = among (names_of c.in_ok-members.members) in
-    let hosted : is_some (slices_of c.args.one.now.config.hosts c.args.node.now) ≡ true =
+    let hosted : is_some (slices_of c.args.one.now.config.nodes c.args.node.now) ≡ true =
     sym (ap is_some c.slices.ensures.value) ∙ (some_mapped _ c.slices.result ∙ (c.is_none.ensures ∙ ap not c.if-is_none.false)) in
-    let hosts_are : c.hosts.result.now ≡ c.args.one.now.config.hosts = c.hosts.ensures.value ∙ ap (λ x. x.hosts) c.config.ensures in
-    let names_are : c.deref.result.now ≡ hosted_in R c.args.one.now.config.hosts = c.deref.ensures.value ∙ (c.in_ok-names.ensures ∙ ap (λ (hs : List HostedNode). hosted_in R hs) hosts_are) in
+    let nodes_are : c.nodes.result.now ≡ c.args.one.now.config.nodes = c.nodes.ensures.value ∙ ap (λ x. x.nodes) c.config.ensures in
+    let names_are : c.deref.result.now ≡ hosted_in R c.args.one.now.config.nodes = c.deref.ensures.value ∙ (c.in_ok-names.ensures ∙ ap (λ (hs : List HostedNode). hosted_in R hs) nodes_are) in
     same_with c.args.one.now _ c.args.slot c.args.node.now c.in_ok-members.members c.in_ok-members.ensures hosted c.in_default.ensures c.in-Some-other.other.now (ap (λ o. option_map (λ j. j.now) o) c.in-Some-other.is)
     c.slices.ensures.ascending c.in_default-first_difference.ensures c.are_isolated.ensures c.in_ok-outs_of_each.field-0
     (c.in_ok-outs_of_each.ensures ∙ ap (λ names. outs_of_each c.args.slot c.args.one.now.entries names) names_are)

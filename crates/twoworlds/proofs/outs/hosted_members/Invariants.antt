@@ -4,5 +4,5 @@ use Rattle.closure.specs.Announcing.{names_of}
 use Rattle.twoworlds.specs.OutLists.{hosted_in}
 use Rattle.twoworlds.proofs.outs.hosted_members.Given as goal
 
-abbrev pub invariant-loop-host : goal.invariant-loop-host
-invariant-loop-host l = l.names.items ≡ hosted_in (among (names_of l.members)) (take l.host-index l.hosts)
+abbrev pub invariant-loop-hosted : goal.invariant-loop-hosted
+invariant-loop-hosted l = l.names.items ≡ hosted_in (among (names_of l.members)) (take l.hosted-index l.nodes)

@@ -1,6 +1,6 @@
 use Rattle.std.proofs.Common.{◌∙◌, List, ℕ, Option, ap, arith, flat_map, length, option_to_list}
 use Rattle.types.specs.declared.statement.Statement.{Statement}
-use Rattle.fedvote.specs.Searching.{bettered, next_under}
+use Rattle.fedvote.specs.Searching.{better_under, next_under}
 use Rattle.protocol.specs.Rows.{row}
 use Rattle.fedvote.specs.Mentions.{mentioned_by, mentioned_in}
 use Rattle.view.specs.Watching.{rows_of_others, said_by_another}
@@ -15,7 +15,7 @@ loop-place-preserved g c =
     let said : ℕ → Option Statement = λ u. said_by_another c.args.own.now (row rows.table u rows.kind) in
     best_goes_on said rows.nodes before.place (mentioned_by c.args.mention) before.best bound c.mentioned_with-best.result (next_under bound (mentioned_in c.args.mention (rows_of_others c.args.own.now rows.kind rows.table rows.nodes)))
     (omega (arith, c.loop-place-test.true, ap (λ (us : List ℕ). length us) c.nodes-place-end.ensures))
-    (c.mentioned_with-best.ensures ∙ ap (λ (o : Option Statement). bettered before.best bound (flat_map (mentioned_by c.args.mention) (option_to_list o))) c.said_by_another.ensures)
+    (c.mentioned_with-best.ensures ∙ ap (λ (o : Option Statement). better_under before.best bound (flat_map (mentioned_by c.args.mention) (option_to_list o))) c.said_by_another.ensures)
     before.invariant
 
 pub returns : goal.returns

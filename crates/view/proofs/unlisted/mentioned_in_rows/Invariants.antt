@@ -1,5 +1,5 @@
 use Rattle.std.proofs.Common.{◌≡◌, drop, filter_map, flat_map}
-use Rattle.fedvote.specs.Searching.{bettered, next_under}
+use Rattle.fedvote.specs.Searching.{better_under, next_under}
 use Rattle.protocol.specs.Rows.{row}
 use Rattle.fedvote.specs.Mentions.{mentioned_by, mentioned_in}
 use Rattle.view.specs.Watching.{rows_of_others, said_by_another}
@@ -7,4 +7,4 @@ use Rattle.view.proofs.unlisted.mentioned_in_rows.Given as goal
 
 abbrev pub invariant-loop-place : goal.invariant-loop-place
 invariant-loop-place g l =
-    bettered l.best l.bound (flat_map (mentioned_by l.mention) (filter_map (λ u. said_by_another l.own (row l.rows.table u l.rows.kind)) (drop l.place l.rows.nodes))) ≡ next_under l.bound (mentioned_in l.mention (rows_of_others l.own l.rows.kind l.rows.table l.rows.nodes))
+    better_under l.best l.bound (flat_map (mentioned_by l.mention) (filter_map (λ u. said_by_another l.own (row l.rows.table u l.rows.kind)) (drop l.place l.rows.nodes))) ≡ next_under l.bound (mentioned_in l.mention (rows_of_others l.own l.rows.kind l.rows.table l.rows.nodes))

@@ -3,7 +3,7 @@ use Rattle.types.specs.declared.ballot.Ballot.{Ballot}
 use Rattle.types.specs.declared.kind.Kind.{Kind}
 use Rattle.types.specs.declared.statement.Statement.{Statement}
 use Rattle.fedvote.specs.Mentions.{mentioned_by, mentioned_in}
-use Rattle.fedvote.specs.Searching.{next_under, bettered}
+use Rattle.fedvote.specs.Searching.{next_under, better_under}
 use Rattle.ballot.proofs.ChoosingLaws.{next_with}
 use Rattle.ballot.proofs.mentioned_ballots.MentionedBallotsCandidates.next.Goals as goal
 
@@ -12,6 +12,6 @@ returns-in-Some g c =
     let rows = (g.S.Sight.seen c.args.self.now.sight.now).rows Kind.Ballot in
     let by = mentioned_by c.args.mention in
     c.better_mentioned.ensures
-    ∙ ap (λ (o : Option Ballot). bettered o c.args.bound.now (by c.in-Some.own)) c.next_mentioned-best.ensures
+    ∙ ap (λ (o : Option Ballot). better_under o c.args.bound.now (by c.in-Some.own)) c.next_mentioned-best.ensures
     ∙ next_with by c.args.bound.now rows c.in-Some.own
     ∙ ap (λ (o : Option Statement). next_under c.args.bound.now (mentioned_in c.args.mention (rows ++ option_to_list o))) (sym c.in-Some.is)

@@ -9,17 +9,17 @@ use Rattle.closure.proofs.turns.Turns.all_names.Goals as goal
 pub loop-next-init : goal.loop-next-init
 loop-next-init g c =
     let sent_is : c.deliveries.inside.sent ≡ c.args.self.now.deliveries.now.sent = ap (λ (d : AnnouncementIndex). d.sent) c.deliveries.view_is in
-    gather_begins (g.J.Announcements.hosts c.args.self.now.journal.now) c.args.self.now.slot (g.J.Announcements.entries c.args.self.now.journal.now) (names_of c.args.members.now) c.args.node.now
+    gather_begins (g.J.Announcements.nodes c.args.self.now.journal.now) c.args.self.now.slot (g.J.Announcements.entries c.args.self.now.journal.now) (names_of c.args.members.now) c.args.node.now
     c.latest-next.result c.in_ok-names.names.items (c.latest-next.ensures ∙ (ap (λ (d : PartyIndex). found_by d.latest c.args.node.now) sent_is ∙ c.requires.sent.latest c.args.node.now)) c.in_ok-names.ensures
 
 pub loop-next-preserved : goal.loop-next-preserved
 loop-next-preserved g c =
-    let hosts = g.J.Announcements.hosts c.args.self.now.journal.now in
+    let nodes = g.J.Announcements.nodes c.args.self.now.journal.now in
     let run = g.J.Announcements.entries c.args.self.now.journal.now in
     let sent_is : c.deliveries.inside.sent ≡ c.args.self.now.deliveries.now.sent = ap (λ (d : AnnouncementIndex). d.sent) c.deliveries.view_is in
-    subst (λ o. IsGathered hosts c.args.self.now.slot run (names_of c.args.members.now) c.args.node.now o c.count.new.names.items)
+    subst (λ o. IsGathered nodes c.args.self.now.slot run (names_of c.args.members.now) c.args.node.now o c.count.new.names.items)
     (ap (λ (d : PartyIndex). get_or d.earlier c.in-Some.number None) (sym sent_is) ∙ sym c.earlier-next.ensures)
-    (gather_goes_on hosts c.args.self.now.slot run (names_of c.args.members.now) c.args.node.now c.args.self.now.deliveries.now.sent c.in-Some.number c.loop-next.next c.loop-next.names.items c.count.new.names.items
+    (gather_goes_on nodes c.args.self.now.slot run (names_of c.args.members.now) c.args.node.now c.args.self.now.deliveries.now.sent c.in-Some.number c.loop-next.next c.loop-next.names.items c.count.new.names.items
     c.requires.sent c.loop-next.invariant c.in-Some.is c.in_ok-count.ensures)
 
 pub loop-next-smaller : goal.loop-next-smaller
@@ -34,5 +34,5 @@ loop-next-smaller g c =
 
 pub returns : goal.returns
 returns g c =
-    gather_ends (g.J.Announcements.hosts c.args.self.now.journal.now) c.args.self.now.slot (g.J.Announcements.entries c.args.self.now.journal.now) (names_of c.args.members.now) c.args.node.now
+    gather_ends (g.J.Announcements.nodes c.args.self.now.journal.now) c.args.self.now.slot (g.J.Announcements.entries c.args.self.now.journal.now) (names_of c.args.members.now) c.args.node.now
     c.loop-next.next c.loop-next.names.items c.in_default.is c.loop-next.invariant

@@ -4,7 +4,7 @@ use Rattle.closure.proofs.Walking.{steps_left}
 use Rattle.closure.proofs.turns.Turns.all_names.Given as goal
 
 abbrev pub invariant-loop-next : goal.invariant-loop-next
-invariant-loop-next g l = IsGathered (g.J.Announcements.hosts l.self.journal.now) l.self.slot (g.J.Announcements.entries l.self.journal.now) (names_of l.members) l.node l.next l.names.items
+invariant-loop-next g l = IsGathered (g.J.Announcements.nodes l.self.journal.now) l.self.slot (g.J.Announcements.entries l.self.journal.now) (names_of l.members) l.node l.next l.names.items
 
 abbrev pub decreases-loop-next : goal.decreases-loop-next
 decreases-loop-next g l = steps_left l.next

@@ -7,8 +7,8 @@ use Rattle.closure.proofs.turns.Turns.closure_of.Given as goal
 
 abbrev pub invariant-loop-known : goal.invariant-loop-known
 invariant-loop-known g l =
-    IsSwept (g.J.Announcements.hosts l.self.journal.now) l.self.slot l.node (g.J.Announcements.entries l.self.journal.now) l.members l.known
-    × IsReady (g.J.Announcements.hosts l.self.journal.now) l.self.slot (g.J.Announcements.entries l.self.journal.now) (names_of l.members) l.ready
+    IsSwept (g.J.Announcements.nodes l.self.journal.now) l.self.slot l.node (g.J.Announcements.entries l.self.journal.now) l.members l.known
+    × IsReady (g.J.Announcements.nodes l.self.journal.now) l.self.slot (g.J.Announcements.entries l.self.journal.now) (names_of l.members) l.ready
 
 abbrev pub decreases-loop-known : goal.decreases-loop-known
-decreases-loop-known g l = suc (length (all_given (g.J.Announcements.hosts l.self.journal.now) l.self.slot (g.J.Announcements.entries l.self.journal.now))) - l.known
+decreases-loop-known g l = suc (length (all_given (g.J.Announcements.nodes l.self.journal.now) l.self.slot (g.J.Announcements.entries l.self.journal.now))) - l.known

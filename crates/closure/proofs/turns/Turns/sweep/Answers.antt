@@ -1,21 +1,21 @@
 use Rattle.std.proofs.Common.{◌≡◌, ◌<◌, ◌≤◌, suc, get_or, slice_get, Some, length, arith}
 use Rattle.std.proofs.lemmas.Option.{slice_get-get_or}
 use Rattle.closure.specs.Announcing.{names_of}
-use Rattle.closure.specs.Turns.{turned}
+use Rattle.closure.specs.Turns.{lists_after_turn}
 use Rattle.closure.proofs.ClosureSteps.{all_given}
 use Rattle.closure.proofs.Growing.{names_length, sweeping_begins, sweeping_goes_on, sweep_settles, members_bound}
 use Rattle.closure.proofs.Readiness.{turned_within}
 use Rattle.closure.proofs.turns.Turns.sweep.Goals as goal
 
 pub loop-place-init : goal.loop-place-init
-loop-place-init g c = (sweeping_begins (g.J.Announcements.hosts c.args.self.now.journal.now) c.args.self.now.slot (g.J.Announcements.entries c.args.self.now.journal.now) c.args.members.now, c.requires.ready, omega arith)
+loop-place-init g c = (sweeping_begins (g.J.Announcements.nodes c.args.self.now.journal.now) c.args.self.now.slot (g.J.Announcements.entries c.args.self.now.journal.now) c.args.members.now, c.requires.ready, omega arith)
 
 pub loop-place-smaller : goal.loop-place-smaller
 loop-place-smaller g c =
-    let hosts = g.J.Announcements.hosts c.args.self.now.journal.now in
+    let nodes = g.J.Announcements.nodes c.args.self.now.journal.now in
     let run = g.J.Announcements.entries c.args.self.now.journal.now in
-    let bound : length c.loop-place.members ≤ suc (length (all_given hosts c.args.self.now.slot run)) =
-    members_bound hosts c.args.self.now.slot run c.requires.chained.0 c.loop-place.members (c.loop-place.invariant.0.chained c.requires.chained.0 c.requires.chained.1) c.len.ensures.once in
+    let bound : length c.loop-place.members ≤ suc (length (all_given nodes c.args.self.now.slot run)) =
+    members_bound nodes c.args.self.now.slot run c.requires.chained.0 c.loop-place.members (c.loop-place.invariant.0.chained c.requires.chained.0 c.requires.chained.1) c.len.ensures.once in
     omega (arith, bound, c.loop-place-test.true, c.len.ensures.value)
 
 pub loop-place-preserved : goal.loop-place-preserved
@@ -23,9 +23,9 @@ loop-place-preserved g c =
     let within : c.loop-place.place < length c.loop-place.members = omega (arith, c.loop-place-test.true, c.len.ensures.value) in
     let there : slice_get (names_of c.loop-place.members) c.loop-place.place ≡ Some (get_or (names_of c.loop-place.members) c.loop-place.place 0) =
     slice_get-get_or (names_of c.loop-place.members) c.loop-place.place 0 (omega (arith, within, names_length c.loop-place.members)) in
-    let counted : length c.take.new.ready ≡ length (turned c.loop-place.ready c.loop-place.place) = c.in_ok-take.ensures.counted (get_or (names_of c.loop-place.members) c.loop-place.place 0) there in
-    let more : c.loop-place.place < length (turned c.loop-place.ready c.loop-place.place) = turned_within c.loop-place.ready c.loop-place.place c.loop-place.invariant.2 in (
-      sweeping_goes_on (g.J.Announcements.hosts c.args.self.now.journal.now) c.args.self.now.slot (g.J.Announcements.entries c.args.self.now.journal.now)
+    let counted : length c.take.new.ready ≡ length (lists_after_turn c.loop-place.ready c.loop-place.place) = c.in_ok-take.ensures.counted (get_or (names_of c.loop-place.members) c.loop-place.place 0) there in
+    let more : c.loop-place.place < length (lists_after_turn c.loop-place.ready c.loop-place.place) = turned_within c.loop-place.ready c.loop-place.place c.loop-place.invariant.2 in (
+      sweeping_goes_on (g.J.Announcements.nodes c.args.self.now.journal.now) c.args.self.now.slot (g.J.Announcements.entries c.args.self.now.journal.now)
           c.args.members.now c.loop-place.members c.take.new.members c.loop-place.place c.requires.chained.0 c.loop-place.invariant.0 within c.requires.chained.1
           c.in_ok-take.ensures.grown c.in_ok-take.ensures.settled,
       c.in_ok-take.ensures.ready,
@@ -34,5 +34,5 @@ loop-place-preserved g c =
 
 pub returns-clause-settled : goal.returns-clause-settled
 returns-clause-settled g c =
-    sweep_settles (g.J.Announcements.hosts c.args.self.now.journal.now) c.args.self.now.slot (g.J.Announcements.entries c.args.self.now.journal.now)
+    sweep_settles (g.J.Announcements.nodes c.args.self.now.journal.now) c.args.self.now.slot (g.J.Announcements.entries c.args.self.now.journal.now)
     c.args.members.now c.loop-place.members c.loop-place.place c.loop-place.invariant.0 (omega (arith, c.loop-place-test.false, c.len.ensures.value))

@@ -7,9 +7,9 @@ use Rattle.closure.proofs.turns.Turns.sweep.Given as goal
 
 abbrev pub invariant-loop-place : goal.invariant-loop-place
 invariant-loop-place g l =
-    IsSweeping (g.J.Announcements.hosts l.self.journal.now) l.self.slot (g.J.Announcements.entries l.self.journal.now) l.initial.members l.members l.place
-    × IsReady (g.J.Announcements.hosts l.self.journal.now) l.self.slot (g.J.Announcements.entries l.self.journal.now) (names_of l.members) l.ready
+    IsSweeping (g.J.Announcements.nodes l.self.journal.now) l.self.slot (g.J.Announcements.entries l.self.journal.now) l.initial.members l.members l.place
+    × IsReady (g.J.Announcements.nodes l.self.journal.now) l.self.slot (g.J.Announcements.entries l.self.journal.now) (names_of l.members) l.ready
     × (l.place ≤ length l.ready)
 
 abbrev pub decreases-loop-place : goal.decreases-loop-place
-decreases-loop-place g l = suc (length (all_given (g.J.Announcements.hosts l.self.journal.now) l.self.slot (g.J.Announcements.entries l.self.journal.now))) - l.place
+decreases-loop-place g l = suc (length (all_given (g.J.Announcements.nodes l.self.journal.now) l.self.slot (g.J.Announcements.entries l.self.journal.now))) - l.place

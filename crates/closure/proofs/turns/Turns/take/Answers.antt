@@ -8,51 +8,51 @@ use Rattle.closure.proofs.turns.Turns.take.Goals as goal
 
 pub loop-name-init : goal.loop-name-init
 loop-name-init g c =
-    let hosts = g.J.Announcements.hosts c.args.self.now.journal.now in
+    let nodes = g.J.Announcements.nodes c.args.self.now.journal.now in
     let run = g.J.Announcements.entries c.args.self.now.journal.now in
     let given_is : c.deref-name-items.result.now ≡ c.in_ok-given.given.items = c.deref-name-items.ensures.value in
-    let sound = subst (λ (xs : List ℕ). IsGiven hosts c.args.self.now.slot run (names_of c.args.members.now) c.in-Some.node xs) (sym given_is) c.in_ok-given.ensures.given in (
-      joining_begins hosts c.args.self.now.slot run c.deref-name-items.result.now c.args.members.now,
-      subst (λ (r : List (List ℕ)). AreCovered hosts c.args.self.now.slot run (names_of c.args.members.now) r c.args.place c.deref-name-items.result.now) (sym c.in_ok-given.ensures.turned)
-          (kept_begins hosts c.args.self.now.slot run (names_of c.args.members.now) c.args.ready.now c.args.place c.in-Some.node c.deref-name-items.result.now c.requires.ready (sym c.in-Some.ensures) c.requires.next sound),
+    let sound = subst (λ (xs : List ℕ). IsGiven nodes c.args.self.now.slot run (names_of c.args.members.now) c.in-Some.node xs) (sym given_is) c.in_ok-given.ensures.given in (
+      joining_begins nodes c.args.self.now.slot run c.deref-name-items.result.now c.args.members.now,
+      subst (λ (r : List (List ℕ)). AreCovered nodes c.args.self.now.slot run (names_of c.args.members.now) r c.args.place c.deref-name-items.result.now) (sym c.in_ok-given.ensures.turned)
+          (kept_begins nodes c.args.self.now.slot run (names_of c.args.members.now) c.args.ready.now c.args.place c.in-Some.node c.deref-name-items.result.now c.requires.ready (sym c.in-Some.ensures) c.requires.next sound),
       refl,
     )
 
 pub loop-name-preserved : goal.loop-name-preserved
 loop-name-preserved g c =
-    let hosts = g.J.Announcements.hosts c.args.self.now.journal.now in
+    let nodes = g.J.Announcements.nodes c.args.self.now.journal.now in
     let run = g.J.Announcements.entries c.args.self.now.journal.now in
     let given_is : c.deref-name-items.result.now ≡ c.in_ok-given.given.items = c.deref-name-items.ensures.value in
-    let sound = subst (λ (xs : List ℕ). IsGiven hosts c.args.self.now.slot run (names_of c.args.members.now) c.in-Some.node xs) (sym given_is) c.in_ok-given.ensures.given in (
-      subst (λ (xs : MemberList). IsJoining hosts c.args.self.now.slot run c.deref-name-items.result.now c.args.members.now xs (c.loop-name.name-index + 1)) (sym c.in_ok-join.ensures.members)
-          (joining_goes_on hosts c.args.self.now.slot run c.deref-name-items.result.now c.args.members.now c.loop-name.members c.args.place c.in-Some.node c.loop-name.name-index c.name-item.result
+    let sound = subst (λ (xs : List ℕ). IsGiven nodes c.args.self.now.slot run (names_of c.args.members.now) c.in-Some.node xs) (sym given_is) c.in_ok-given.ensures.given in (
+      subst (λ (xs : MemberList). IsJoining nodes c.args.self.now.slot run c.deref-name-items.result.now c.args.members.now xs (c.loop-name.name-index + 1)) (sym c.in_ok-join.ensures.members)
+          (joining_goes_on nodes c.args.self.now.slot run c.deref-name-items.result.now c.args.members.now c.loop-name.members c.args.place c.in-Some.node c.loop-name.name-index c.name-item.result
           c.loop-name.invariant.0 (sym c.in-Some.ensures) sound
           (slice_get_read c.deref-name-items.result.now (length c.deref-name-items.result.now) c.loop-name.name-index c.name-item.result refl c.loop-name-test.true c.name-item.is)),
-      kept_goes_on hosts c.args.self.now.slot run c.loop-name.members c.join.new.members c.loop-name.ready c.join.new.ready c.args.place c.deref-name-items.result.now c.name-item.result c.args.place
+      kept_goes_on nodes c.args.self.now.slot run c.loop-name.members c.join.new.members c.loop-name.ready c.join.new.ready c.args.place c.deref-name-items.result.now c.name-item.result c.args.place
           c.loop-name.invariant.1 c.in_ok-join.ensures,
       c.in_ok-join.ensures.more.counted ∙ c.loop-name.invariant.2,
     )
 
 pub returns-after-loop-name-clause-settled : goal.returns-after-loop-name-clause-settled
 returns-after-loop-name-clause-settled g c = λ w e.
-    let hosts = g.J.Announcements.hosts c.args.self.now.journal.now in
+    let nodes = g.J.Announcements.nodes c.args.self.now.journal.now in
     let run = g.J.Announcements.entries c.args.self.now.journal.now in
     let given_is : c.deref-name-items.result.now ≡ c.in_ok-given.given.items = c.deref-name-items.ensures.value in
-    let sound = subst (λ (xs : List ℕ). IsGiven hosts c.args.self.now.slot run (names_of c.args.members.now) c.in-Some.node xs) (sym given_is) c.in_ok-given.ensures.given in
+    let sound = subst (λ (xs : List ℕ). IsGiven nodes c.args.self.now.slot run (names_of c.args.members.now) c.in-Some.node xs) (sym given_is) c.in_ok-given.ensures.given in
     let same : c.in-Some.node ≡ w = one_name (names_of c.args.members.now) c.args.place c.in-Some.node w (sym c.in-Some.ensures) e in
     let whole : c.loop-name.name-index ≡ length c.deref-name-items.result.now = omega arith in
-    let way = subst (λ n. IsJoining hosts c.args.self.now.slot run c.deref-name-items.result.now c.args.members.now c.loop-name.members n) whole c.loop-name.invariant.0 in
-    subst (λ x. NamesAreMembers hosts c.args.self.now.slot run (names_of c.loop-name.members) (names_of c.args.members.now) x) same
-    (turn_settles hosts c.args.self.now.slot run c.deref-name-items.result.now c.args.members.now c.loop-name.members c.in-Some.node way sound)
+    let way = subst (λ n. IsJoining nodes c.args.self.now.slot run c.deref-name-items.result.now c.args.members.now c.loop-name.members n) whole c.loop-name.invariant.0 in
+    subst (λ x. NamesAreMembers nodes c.args.self.now.slot run (names_of c.loop-name.members) (names_of c.args.members.now) x) same
+    (turn_settles nodes c.args.self.now.slot run c.deref-name-items.result.now c.args.members.now c.loop-name.members c.in-Some.node way sound)
 
 pub returns-after-loop-name-clause-ready : goal.returns-after-loop-name-clause-ready
 returns-after-loop-name-clause-ready g c =
-    let hosts = g.J.Announcements.hosts c.args.self.now.journal.now in
+    let nodes = g.J.Announcements.nodes c.args.self.now.journal.now in
     let run = g.J.Announcements.entries c.args.self.now.journal.now in
     let whole : c.loop-name.name-index ≡ length c.deref-name-items.result.now = omega arith in
-    let way = subst (λ n. IsJoining hosts c.args.self.now.slot run c.deref-name-items.result.now c.args.members.now c.loop-name.members n) whole c.loop-name.invariant.0 in
-    kept_ends hosts c.args.self.now.slot run (names_of c.loop-name.members) c.loop-name.ready c.args.place c.deref-name-items.result.now c.loop-name.invariant.1
-    (all_held hosts c.args.self.now.slot run c.deref-name-items.result.now c.args.members.now c.loop-name.members way)
+    let way = subst (λ n. IsJoining nodes c.args.self.now.slot run c.deref-name-items.result.now c.args.members.now c.loop-name.members n) whole c.loop-name.invariant.0 in
+    kept_ends nodes c.args.self.now.slot run (names_of c.loop-name.members) c.loop-name.ready c.args.place c.deref-name-items.result.now c.loop-name.invariant.1
+    (all_held nodes c.args.self.now.slot run c.deref-name-items.result.now c.args.members.now c.loop-name.members way)
 
 pub returns-after-loop-name-clause-counted : goal.returns-after-loop-name-clause-counted
 returns-after-loop-name-clause-counted g c = λ w e. c.loop-name.invariant.2 ∙ ap (λ (r : List (List ℕ)). length r) c.in_ok-given.ensures.turned

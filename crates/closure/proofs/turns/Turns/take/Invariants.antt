@@ -6,6 +6,6 @@ use Rattle.closure.proofs.turns.Turns.take.Given as goal
 
 abbrev pub invariant-loop-name : goal.invariant-loop-name
 invariant-loop-name g l =
-    IsJoining (g.J.Announcements.hosts l.self.journal.now) l.self.slot (g.J.Announcements.entries l.self.journal.now) l.name-items l.initial.members l.members l.name-index
-    × AreCovered (g.J.Announcements.hosts l.self.journal.now) l.self.slot (g.J.Announcements.entries l.self.journal.now) (names_of l.members) l.ready l.place l.name-items
+    IsJoining (g.J.Announcements.nodes l.self.journal.now) l.self.slot (g.J.Announcements.entries l.self.journal.now) l.name-items l.initial.members l.members l.name-index
+    × AreCovered (g.J.Announcements.nodes l.self.journal.now) l.self.slot (g.J.Announcements.entries l.self.journal.now) (names_of l.members) l.ready l.place l.name-items
     × (length l.ready ≡ length l.initial.ready)

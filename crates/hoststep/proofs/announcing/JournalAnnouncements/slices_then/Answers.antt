@@ -10,5 +10,5 @@ returns-in-Some g c = open_then c.args.self.now.config c.args.self.now.entries c
 pub returns-in-None : goal.returns-in-None
 returns-in-None g c =
     c.configured_slices.ensures.value
-    ∙ ap (λ (k : Config). slices_of k.hosts c.args.node.now) c.config.ensures
+    ∙ ap (λ (k : Config). slices_of k.nodes c.args.node.now) c.config.ensures
     ∙ configured_then c.args.self.now.config c.args.self.now.entries c.args.slot c.args.node.now c.replays.ensures c.in-None.ensures.there

@@ -1,12 +1,12 @@
 use Rattle.std.proofs.Common.{rules}
 use Rattle.network.specs.Decoding.{step_of}
 use Rattle.hoststep.specs.declared.kept.StoredEntry.{StoredEntry}
-use Rattle.hoststep.proofs.Growing.{entered-with, is-readable, log-grows, names-hosts, stands-more}
+use Rattle.hoststep.proofs.Growing.{entered-with, is-readable, log-grows, names-nodes, stands-more}
 use Rattle.hoststep.proofs.journal.Journal.enter.Goals as goal
 
 pub kept_event-event-requires-clause-hosted : goal.kept_event-event-requires-clause-hosted
 kept_event-event-requires-clause-hosted g c =
-    names-hosts c.self.inside.network c.apply.new.self c.config.result.now c.self.inside.given.items c.self.inside.entries.items (step_of c.args.event) c.args.copies c.in_ok-applied.applied c.self.invariant c.in_ok-applied.ensures.applied c.config.ensures c.apply.ensures.config
+    names-nodes c.self.inside.network c.apply.new.self c.config.result.now c.self.inside.given.items c.self.inside.entries.items (step_of c.args.event) c.args.copies c.in_ok-applied.applied c.self.invariant c.in_ok-applied.ensures.applied c.config.ensures c.apply.ensures.config
 
 pub kept_event-event-requires-clause-readable : goal.kept_event-event-requires-clause-readable
 kept_event-event-requires-clause-readable g c =

@@ -1,11 +1,11 @@
 use Rattle.std.proofs.Common.{◌∙◌, ap, sym}
-use Rattle.latest.specs.Places.{listed}
+use Rattle.latest.specs.Places.{index_of_entries}
 use Rattle.latest.proofs.Searches.{removed-read, kept-read}
 use Rattle.latest.proofs.index.Index.forget.Goals as goal
 
 pub returns-then-is_vacant : goal.returns-then-is_vacant
 returns-then-is_vacant c =
-    ap listed c.remove.ensures.entries
+    ap index_of_entries c.remove.ensures.entries
     ∙ removed-read c.self.inside.by_sender.entries c.args.self.now c.args.sender.now c.args.kind c.places.result c.without_place-places.result c.self.view_is c.places.ensures (c.without_place-places.ensures c.args.sender.now) (sym (c.if-is_vacant.ensures c.args.sender.now))
 
 pub returns-else-is_vacant : goal.returns-else-is_vacant

@@ -1,6 +1,6 @@
 use Rattle.std.proofs.Common.{◌∙◌, ap, ap₂}
 use Rattle.types.specs.Statements.{kind_of}
-use Rattle.latest.specs.Places.{forgotten}
+use Rattle.latest.specs.Places.{index_without_place}
 use Rattle.envstore.specs.Archives.{sents_of}
 use Rattle.latest.proofs.Tabled.{indexed-ascends}
 use Rattle.latest.proofs.WaysBack.{popped-read, left-last}
@@ -12,7 +12,7 @@ forget-requires g c = indexed-ascends (sents_of c.self.inside.rows.items) c.self
 pub invariant_of-self : goal.invariant_of-self
 invariant_of-self g c =
     popped-read c.self.inside.rows.items c.pop.new.self.items c.self.inside.index c.forget.new.self c.in-Some.row c.read-known.result.now c.self.invariant c.in-Some.ensures.items c.read-known.ensures
-    (c.forget.ensures ∙ ap₂ (λ u k. forgotten c.self.inside.index u k) c.sender.ensures.value (c.kind.ensures ∙ ap kind_of c.body.ensures.value))
+    (c.forget.ensures ∙ ap₂ (λ u k. index_without_place c.self.inside.index u k) c.sender.ensures.value (c.kind.ensures ∙ ap kind_of c.body.ensures.value))
 
 pub returns-in-Some : goal.returns-in-Some
 returns-in-Some g c = left-last c.self.inside.rows.items c.args.self.now c.pop.new.self.items c.in-Some.row c.self.view_is c.in-Some.ensures.items

@@ -6,4 +6,4 @@ use Rattle.network.proofs.Placed.{fresh-standing}
 use Rattle.network.proofs.network.Network.new.Goals as goal
 
 pub invariant_of-result : goal.invariant_of-result
-invariant_of-result g c = fresh-standing c.args.config c.new.result c.nothing.result c.nothing.ensures (subst (λ (hs : List HostedNode). IsAscending (names_of hs)) c.hosts-hosts.ensures.value c.hosts-hosts.ensures.ascending)
+invariant_of-result g c = fresh-standing c.args.config c.new.result c.nothing.result c.nothing.ensures (subst (λ (hs : List HostedNode). IsAscending (names_of hs)) c.nodes-nodes.ensures.value c.nodes-nodes.ensures.ascending)

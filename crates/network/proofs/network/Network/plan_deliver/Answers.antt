@@ -9,15 +9,15 @@ use Rattle.network.specs.Standing.{IsRefusal, machine_of}
 use Rattle.network.proofs.Handings.{bytes-bad, bytes-nowhere}
 use Rattle.network.proofs.network.Network.plan_deliver.Goals as goal
 
-pub returns-in_err-host_at : goal.returns-in_err-host_at
-returns-in_err-host_at g c =
+pub returns-in_err-node_at : goal.returns-in_err-node_at
+returns-in_err-node_at g c =
     let m = c.args.self.now in
     let e : c.from_residual.result ≡ Err NoSuchNode = search rules in
-    subst (IsPlanned m (Delivers c.args.node.now (length c.args.bytes.now) (reading c.args.bytes.now))) (sym e) (bytes-nowhere m c.args.node.now (length c.args.bytes.now) (reading c.args.bytes.now) c.in_err-host_at.ensures.1)
+    subst (IsPlanned m (Delivers c.args.node.now (length c.args.bytes.now) (reading c.args.bytes.now))) (sym e) (bytes-nowhere m c.args.node.now (length c.args.bytes.now) (reading c.args.bytes.now) c.in_err-node_at.ensures.1)
 
 pub returns-in-Ok-Faulty : goal.returns-in-Ok-Faulty
 returns-in-Ok-Faulty g c =
     let m = c.args.self.now in
     let said : Fault c.in-Ok-Faulty.number ≡ reading c.args.bytes.now = ap said_by (sym c.in-Ok-Faulty.field-0-is) ∙ c.in-Ok-Faulty.ensures in
     subst (λ (r : Reading). IsRefusal (machine_of m) (Delivers c.args.node.now (length c.args.bytes.now) r) (BadEnvelope c.in-Ok-Faulty.number)) said
-    (bytes-bad m c.args.node.now c.in_ok-host_at.host_at (length c.args.bytes.now) c.in-Ok-Faulty.number c.in_ok-host_at.ensures)
+    (bytes-bad m c.args.node.now c.in_ok-node_at.node_at (length c.args.bytes.now) c.in-Ok-Faulty.number c.in_ok-node_at.ensures)

@@ -15,24 +15,24 @@ returns-then-is_some g c =
     let m = c.args.self.now in
     let u = c.args.node.now in
     let env = c.args.envelope in
-    let t : is_some (index_of_name m.config.hosts env.sender) ≡ true = search rules in
-    sender-hosted-so m u c.args.host_at c.args.size env c.requires t
+    let t : is_some (index_of_name m.config.nodes env.sender) ≡ true = search rules in
+    sender-hosted-so m u c.args.node_at c.args.size env c.requires t
 
 pub returns-in_err-slot_at : goal.returns-in_err-slot_at
 returns-in_err-slot_at g c =
     let m = c.args.self.now in
     let u = c.args.node.now in
     let env = c.args.envelope in
-    let f : is_some (index_of_name m.config.hosts env.sender) ≡ false = search rules in
-    let free = none-so (index_of_name m.config.hosts env.sender) f in
+    let f : is_some (index_of_name m.config.nodes env.sender) ≡ false = search rules in
+    let free = none-so (index_of_name m.config.nodes env.sender) f in
     let e : c.from_residual.result ≡ Err SlotNotOpen = search rules in
     let closed : index_of_slot (map slot_of (machine_of m).slots) env.slot ≡ None = ap (λ i. index_of_slot (map slot_of (machine_of m).slots) i) (sym c.slot.ensures) ∙ c.in_err-slot_at.ensures.1 in
-    subst (IsPlanned m (Delivers u c.args.size (Read env))) (sym e) (envelope-closed m u c.args.host_at c.args.size env c.requires free closed)
+    subst (IsPlanned m (Delivers u c.args.size (Read env))) (sym e) (envelope-closed m u c.args.node_at c.args.size env c.requires free closed)
 
 pub returns-in_err-drawn : goal.returns-in_err-drawn
 returns-in_err-drawn g c =
     let a = c.args in
-    let reach = reaching a.self.now a.node.now a.host_at c.in_ok-slot_at.slot_at c.slot.result a.envelope c.requires (search rules) c.slot.ensures c.in_ok-slot_at.ensures in
+    let reach = reaching a.self.now a.node.now a.node_at c.in_ok-slot_at.slot_at c.slot.result a.envelope c.requires (search rules) c.slot.ensures c.in_ok-slot_at.ensures in
     let r = c.in_err-drawn.field-0.0 in
     let e : c.from_residual-in_err-drawn.result ≡ Err r = search rules in
     let full = sender-room reach (Err r) c.sender-2.ensures.value c.in_err-drawn.ensures.room in
@@ -41,7 +41,7 @@ returns-in_err-drawn g c =
 pub returns-in_err-has_room_for_bytes : goal.returns-in_err-has_room_for_bytes
 returns-in_err-has_room_for_bytes g c =
     let a = c.args in
-    let reach = reaching a.self.now a.node.now a.host_at c.in_ok-slot_at.slot_at c.slot.result a.envelope c.requires (search rules) c.slot.ensures c.in_ok-slot_at.ensures in
+    let reach = reaching a.self.now a.node.now a.node_at c.in_ok-slot_at.slot_at c.slot.result a.envelope c.requires (search rules) c.slot.ensures c.in_ok-slot_at.ensures in
     let room = sender-room reach (Ok c.in_ok-drawn.drawn) c.sender-2.ensures.value c.in_ok-drawn.ensures.room in
     let r = c.in_err-has_room_for_bytes.field-0.0 in
     let e : c.from_residual-in_err-has_room_for_bytes.result ≡ Err r = search rules in
@@ -50,6 +50,6 @@ returns-in_err-has_room_for_bytes g c =
 pub returns : goal.returns
 returns g c =
     let a = c.args in
-    let reach = reaching a.self.now a.node.now a.host_at c.in_ok-slot_at.slot_at c.slot.result a.envelope c.requires (search rules) c.slot.ensures c.in_ok-slot_at.ensures in
+    let reach = reaching a.self.now a.node.now a.node_at c.in_ok-slot_at.slot_at c.slot.result a.envelope c.requires (search rules) c.slot.ensures c.in_ok-slot_at.ensures in
     let room = sender-room reach (Ok c.in_ok-drawn.drawn) c.sender-2.ensures.value c.in_ok-drawn.ensures.room in
     envelope-plan a.size c.in_ok-drawn.drawn (subst IsStanding c.self.view_is c.self.invariant) reach room c.in_ok-has_room_for_bytes.ensures

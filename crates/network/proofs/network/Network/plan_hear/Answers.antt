@@ -11,11 +11,11 @@ use Rattle.network.proofs.Handings.{AreTwo, hearing, hears-closed, hears-full, h
 use Rattle.network.proofs.Plans.{seat-there}
 use Rattle.network.proofs.network.Network.plan_hear.Goals as goal
 
-pub returns-in_err-host_at : goal.returns-in_err-host_at
-returns-in_err-host_at g c =
+pub returns-in_err-node_at : goal.returns-in_err-node_at
+returns-in_err-node_at g c =
     let m = c.args.self.now in
     let e : c.from_residual.result ≡ Err NoSuchNode = search rules in
-    subst (IsPlanned m (Hears c.args.slot c.args.node.now c.args.emission.now.from c.args.emission.now.kind c.args.emission.now.number)) (sym e) (hears-nowhere m c.args.slot c.args.node.now c.args.emission.now.from c.args.emission.now.kind c.args.emission.now.number c.in_err-host_at.ensures.1)
+    subst (IsPlanned m (Hears c.args.slot c.args.node.now c.args.emission.now.from c.args.emission.now.kind c.args.emission.now.number)) (sym e) (hears-nowhere m c.args.slot c.args.node.now c.args.emission.now.from c.args.emission.now.kind c.args.emission.now.number c.in_err-node_at.ensures.1)
 
 pub returns-in_err-from_at : goal.returns-in_err-from_at
 returns-in_err-from_at g c =
@@ -29,10 +29,10 @@ returns-in_err-slot_at g c =
     let i = c.args.slot in
     let u = c.args.node.now in
     let w = c.args.emission.now.from in
-    let h = c.in_ok-host_at.host_at in
+    let h = c.in_ok-node_at.node_at in
     let j = c.in_ok-from_at.from_at in
     let differ : (u == w) ≡ false = search rules in
-    let two : AreTwo m u h w j = record { node = c.in_ok-host_at.ensures; from = c.in_ok-from_at.ensures; differ = differ } in
+    let two : AreTwo m u h w j = record { node = c.in_ok-node_at.ensures; from = c.in_ok-from_at.ensures; differ = differ } in
     let e : c.from_residual-in_err-slot_at.result ≡ Err SlotNotOpen = search rules in
     subst (IsPlanned m (Hears i u w c.args.emission.now.kind c.args.emission.now.number)) (sym e) (hears-closed m i u h w j c.args.emission.now.kind c.args.emission.now.number two c.in_err-slot_at.ensures.1)
 
@@ -46,15 +46,15 @@ instance-requires g c =
 pub returns-in_default : goal.returns-in_default
 returns-in_default g c =
     let a = c.args in
-    let x = hearing a.self.now a.slot a.node.now c.in_ok-host_at.host_at a.emission.now.from c.in_ok-from_at.from_at c.in_ok-slot_at.slot_at a.emission.now.kind a.emission.now.number (seat_of c.instance.result.now) c.emission.result
-    c.self.view_is c.self.invariant c.in_ok-host_at.ensures c.in_ok-from_at.ensures (search rules) c.in_ok-slot_at.ensures c.instance.ensures.seat c.emission.ensures.sent in
+    let x = hearing a.self.now a.slot a.node.now c.in_ok-node_at.node_at a.emission.now.from c.in_ok-from_at.from_at c.in_ok-slot_at.slot_at a.emission.now.kind a.emission.now.number (seat_of c.instance.result.now) c.emission.result
+    c.self.view_is c.self.invariant c.in_ok-node_at.ensures c.in_ok-from_at.ensures (search rules) c.in_ok-slot_at.ensures c.instance.ensures.seat c.emission.ensures.sent in
     hears-nothing x c.in_default.is
 
 pub returns-in_err-drawn : goal.returns-in_err-drawn
 returns-in_err-drawn g c =
     let a = c.args in
-    let x = hearing a.self.now a.slot a.node.now c.in_ok-host_at.host_at a.emission.now.from c.in_ok-from_at.from_at c.in_ok-slot_at.slot_at a.emission.now.kind a.emission.now.number (seat_of c.instance.result.now) c.emission.result
-    c.self.view_is c.self.invariant c.in_ok-host_at.ensures c.in_ok-from_at.ensures (search rules) c.in_ok-slot_at.ensures c.instance.ensures.seat c.emission.ensures.sent in
+    let x = hearing a.self.now a.slot a.node.now c.in_ok-node_at.node_at a.emission.now.from c.in_ok-from_at.from_at c.in_ok-slot_at.slot_at a.emission.now.kind a.emission.now.number (seat_of c.instance.result.now) c.emission.result
+    c.self.view_is c.self.invariant c.in_ok-node_at.ensures c.in_ok-from_at.ensures (search rules) c.in_ok-slot_at.ensures c.instance.ensures.seat c.emission.ensures.sent in
     let r = c.in_err-drawn.field-0.0 in
     let e : c.from_residual-in_err-drawn.result ≡ Err r = search rules in
     subst (IsPlanned a.self.now (Hears a.slot a.node.now a.emission.now.from a.emission.now.kind a.emission.now.number)) (sym e)
@@ -63,9 +63,9 @@ returns-in_err-drawn g c =
 pub returns : goal.returns
 returns g c =
     let a = c.args in
-    let x = hearing a.self.now a.slot a.node.now c.in_ok-host_at.host_at a.emission.now.from c.in_ok-from_at.from_at c.in_ok-slot_at.slot_at a.emission.now.kind a.emission.now.number (seat_of c.instance.result.now) c.emission.result
-    c.self.view_is c.self.invariant c.in_ok-host_at.ensures c.in_ok-from_at.ensures (search rules) c.in_ok-slot_at.ensures c.instance.ensures.seat c.emission.ensures.sent in
+    let x = hearing a.self.now a.slot a.node.now c.in_ok-node_at.node_at a.emission.now.from c.in_ok-from_at.from_at c.in_ok-slot_at.slot_at a.emission.now.kind a.emission.now.number (seat_of c.instance.result.now) c.emission.result
+    c.self.view_is c.self.invariant c.in_ok-node_at.ensures c.in_ok-from_at.ensures (search rules) c.in_ok-slot_at.ensures c.instance.ensures.seat c.emission.ensures.sent in
     let d = c.in_ok-drawn.drawn in
     let filed = c.in-Some.ensures.filed a.self.now.archive c.instance.ensures.lodged in
     let plan = hears-plan c.in-Some.emitted d x c.in-Some.is filed (c.in_ok-drawn.ensures.room a.slot c.in_ok-slot_at.ensures) in
-    subst (λ (f : Filed). IsPlan a.self.now (Hears a.slot a.node.now a.emission.now.from a.emission.now.kind a.emission.now.number) (record { deed = Act c.in_ok-slot_at.slot_at c.in_ok-host_at.host_at (events.Take f); drawn = d; size = 0 })) (sym c.copy_of.ensures) plan
+    subst (λ (f : Filed). IsPlan a.self.now (Hears a.slot a.node.now a.emission.now.from a.emission.now.kind a.emission.now.number) (record { deed = Act c.in_ok-slot_at.slot_at c.in_ok-node_at.node_at (events.Take f); drawn = d; size = 0 })) (sym c.copy_of.ensures) plan

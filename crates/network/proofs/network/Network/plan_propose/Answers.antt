@@ -28,7 +28,7 @@ pub instance-requires : goal.instance-requires
 instance-requires g c =
     let m = c.args.self.now in
     let st : IsStanding m = subst IsStanding c.self.view_is c.self.invariant in
-    let y = seat-there (machine_of m) c.args.slot c.args.node.now c.in_ok-spot.spot.slot_at c.in_ok-spot.spot.host_at st.tidy c.in_ok-spot.ensures.slot c.in_ok-spot.ensures.host in
+    let y = seat-there (machine_of m) c.args.slot c.args.node.now c.in_ok-spot.spot.slot_at c.in_ok-spot.spot.node_at st.tidy c.in_ok-spot.ensures.slot c.in_ok-spot.ensures.node in
     (y.1, (y.0, y.2, y.3))
 
 pub returns-then-has_proposal : goal.returns-then-has_proposal
@@ -57,5 +57,5 @@ returns-in-Ok g c =
     let st : IsStanding m = subst IsStanding c.self.view_is c.self.invariant in
     let bad : is_bad_value c.args.value.now ≡ false = search rules in
     let plan = asks-plan m c.args.slot c.args.node.now c.args.value.now c.in_ok-spot.spot (seat_of c.instance.result.now) c.has_proposal.result c.in_ok-drawn.drawn st c.in_ok-spot.ensures c.instance.ensures.seat bad c.has_proposal.ensures c.if-has_proposal.false (c.in_ok-drawn.ensures c.args.slot c.in_ok-spot.ensures.slot) in
-    let e : c.plan_at.result ≡ record { deed = Act c.in_ok-spot.spot.slot_at c.in_ok-spot.spot.host_at (events.Propose c.args.value.now); drawn = c.in_ok-drawn.drawn; size = 0 } = c.plan_at.ensures ∙ ap (λ (x : List ℕ). record { deed = Act c.in_ok-spot.spot.slot_at c.in_ok-spot.spot.host_at (events.Propose x); drawn = c.in_ok-drawn.drawn; size = 0 }) c.in-Ok.ensures in
+    let e : c.plan_at.result ≡ record { deed = Act c.in_ok-spot.spot.slot_at c.in_ok-spot.spot.node_at (events.Propose c.args.value.now); drawn = c.in_ok-drawn.drawn; size = 0 } = c.plan_at.ensures ∙ ap (λ (x : List ℕ). record { deed = Act c.in_ok-spot.spot.slot_at c.in_ok-spot.spot.node_at (events.Propose x); drawn = c.in_ok-drawn.drawn; size = 0 }) c.in-Ok.ensures in
     subst (λ (p : Plan). IsPlan m (Proposes c.args.slot c.args.node.now c.args.value.now) p) (sym e) plan

@@ -5,19 +5,19 @@ use Rattle.types.specs.declared.event.Refusal.TheVariants.{NoSuchNode, SlotNotOp
 use Rattle.protocol.specs.Networks.{open_test}
 use Rattle.network.specs.Deeds.{IsSpot, IsSpotRefused}
 use Rattle.network.specs.declared.plan.Spot.{Spot}
-use Rattle.network.proofs.Allowed.{no_host, host_then, not_open}
+use Rattle.network.proofs.Allowed.{no_node, node_then, not_open}
 use Rattle.network.proofs.network.Network.spot.Goals as goal
 
-pub returns-in_err-host_at : goal.returns-in_err-host_at
-returns-in_err-host_at g c =
+pub returns-in_err-node_at : goal.returns-in_err-node_at
+returns-in_err-node_at g c =
     let m = c.args.self.now in
     let e : c.from_residual.result ≡ Err NoSuchNode = search rules in
     subst (λ (x : Result Spot Refusal). MatchResult x (IsSpot m c.args.slot c.args.node.now) (IsSpotRefused m c.args.slot c.args.node.now)) (sym e)
-    (λ net s ts. no_host m net c.args.node.now (open_test net c.args.slot ∷ ts) s c.in_err-host_at.ensures.1)
+    (λ net s ts. no_node m net c.args.node.now (open_test net c.args.slot ∷ ts) s c.in_err-node_at.ensures.1)
 
 pub returns-in_err-slot_at : goal.returns-in_err-slot_at
 returns-in_err-slot_at g c =
     let m = c.args.self.now in
     let e : c.from_residual-in_err-slot_at.result ≡ Err SlotNotOpen = search rules in
     subst (λ (x : Result Spot Refusal). MatchResult x (IsSpot m c.args.slot c.args.node.now) (IsSpotRefused m c.args.slot c.args.node.now)) (sym e)
-    (λ net s ts. host_then m net c.args.node.now c.in_ok-host_at.host_at (open_test net c.args.slot ∷ ts) s c.in_ok-host_at.ensures ∙ not_open m net c.args.slot ts s c.in_err-slot_at.ensures.1)
+    (λ net s ts. node_then m net c.args.node.now c.in_ok-node_at.node_at (open_test net c.args.slot ∷ ts) s c.in_ok-node_at.ensures ∙ not_open m net c.args.slot ts s c.in_err-slot_at.ensures.1)

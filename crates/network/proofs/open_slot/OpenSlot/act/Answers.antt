@@ -2,7 +2,7 @@ use Rattle.std.proofs.Common.{◌≡◌, ◌<◌, Option, Some, IfOk, IfSome, On
 use Rattle.std.specs.List.{All}
 use Rattle.std.proofs.lemmas.List.Elements.{All-get_or}
 use Rattle.protocol.specs.Networks.{Instance, emissions, outs_at}
-use Rattle.network.specs.Marks.{numbered, emitted_at}
+use Rattle.network.specs.Marks.{numbers_by_kind, emitted_at}
 use Rattle.slot.specs.Filings.{event_of}
 use Rattle.network.specs.Changes.{IsChangedAt}
 use Rattle.network.specs.Charges.{HasRoomFor, IsActed}
@@ -40,7 +40,7 @@ returns-clause-applied g c =
     let within : c.args.at < length items = subst (λ (s : Lodgings). c.args.at < length s.instances) (sym c.self.view_is) c.requires.at in
     let q : slice_get (map instance_in c.args.self.now.instances) c.args.at ≡ Some (instance_in c.index_mut.result.now) =
     subst (λ (s : Lodgings). slice_get (map instance_in s.instances) c.args.at ≡ Some (instance_in c.index_mut.result.now)) c.self.view_is (got items c.args.at c.index_mut.result.now within c.index_mut.ensures.value) in
-    subst (λ (o : Option Instance). IfOk c.act.result (IsGiven (outs_at e o) (numbered (emitted_at o) (emissions (outs_at e o))) c.args.terms.now.copies)) (sym q) c.act.ensures.applied
+    subst (λ (o : Option Instance). IfOk c.act.result (IsGiven (outs_at e o) (numbers_by_kind (emitted_at o) (emissions (outs_at e o))) c.args.terms.now.copies)) (sym q) c.act.ensures.applied
 
 pub returns-clause-lodged : goal.returns-clause-lodged
 returns-clause-lodged g c =

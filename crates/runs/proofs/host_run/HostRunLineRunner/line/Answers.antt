@@ -5,8 +5,8 @@ use Rattle.runs.proofs.host_run.HostRunLineRunner.line.Goals as goal
 pub returns-in_ok-answer-in-Apply-clause-told : goal.returns-in_ok-answer-in-Apply-clause-told
 returns-in_ok-answer-in-Apply-clause-told c = answered _ _ (rw c.in-Apply.is at c.in_ok-number.ensures.asked) c.in_ok-answer-in-Apply.ensures.told
 
-pub returns-in_ok-settle-in-Settle-clause-told : goal.returns-in_ok-settle-in-Settle-clause-told
-returns-in_ok-settle-in-Settle-clause-told c = settled _ _ (rw c.in-Settle.is at c.in_ok-number.ensures.asked) c.in_ok-settle-in-Settle.ensures.told
+pub returns-in_ok-settle_line-in-Settle-clause-told : goal.returns-in_ok-settle_line-in-Settle-clause-told
+returns-in_ok-settle_line-in-Settle-clause-told c = settled _ _ (rw c.in-Settle.is at c.in_ok-number.ensures.asked) c.in_ok-settle_line-in-Settle.ensures.told
 
 pub returns-in_ok-prepare-in-Declare-clause-told : goal.returns-in_ok-prepare-in-Declare-clause-told
 returns-in_ok-prepare-in-Declare-clause-told c =

@@ -47,16 +47,16 @@ loop-index-preserved g c =
           let s = w.tell_others.ensures in
           let now = w.tell_others.new.self in
           let more = found_some config r.outs r.marks index mark o e lt (sym found ∙ w.in-Some.is) in
-          let kept = subst (λ (k : Config). KeepsSums cs (hears_of e k.hosts) was now) (sym c.config-config.ensures) (s.kept c.index.result.now c.index.ensures) in
+          let kept = subst (λ (k : Config). KeepsSums cs (hears_of e k.nodes) was now) (sym c.config-config.ensures) (s.kept c.index.result.now c.index.ensures) in
           subst (λ y. IsBusy cs c.args.workplace.now.shared.now.queue c.args.k y × SamePlaces a.walks.items y.walks.items × (c.match-emission_at.mark ≤ index + 1)
           × ((handed : List Job) × (handed ++ hears_from config (drop (index + 1) r.outs) (drop c.match-emission_at.mark r.marks) ≡ hears config r) × KeepsSums cs handed a y)) (sym w.self-is) (
             s.busy,
             places_both a.walks.items was.walks.items now.walks.items i.1 s.places,
             (let m = i.2 in let k : c.match-emission_at.mark ≡ mark + 1 = w.mark-is in omega arith),
             (
-              handed ++ hears_of e config.hosts,
-              subst (λ m. (handed ++ hears_of e config.hosts) ++ hears_from config (drop (index + 1) r.outs) (drop m r.marks) ≡ hears config r) (sym w.mark-is)
-                  (append_assoc handed (hears_of e config.hosts) _ ∙ ap (λ l. handed ++ l) (sym more) ∙ i.3.1),
+              handed ++ hears_of e config.nodes,
+              subst (λ m. (handed ++ hears_of e config.nodes) ++ hears_from config (drop (index + 1) r.outs) (drop m r.marks) ≡ hears config r) (sym w.mark-is)
+                  (append_assoc handed (hears_of e config.nodes) _ ∙ ap (λ l. handed ++ l) (sym more) ∙ i.3.1),
               kept_both cs handed _ a was now i.3.2 kept,
             ),
           )

@@ -8,23 +8,23 @@ use Rattle.std.proofs.lemmas.List.{get_or_default, take_all}
 use Rattle.workers.proofs.worker.Worker.tell_others.Goals as goal
 use Rattle.workers.proofs.worker.Worker.tell_others.Goals.{in-Some, in-None}
 
-pub loop-host-init : goal.loop-host-init
-loop-host-init g c = (c.requires.busy, places_none _, kept_none _ _)
+pub loop-hosted-init : goal.loop-hosted-init
+loop-hosted-init g c = (c.requires.busy, places_none _, kept_none _ _)
 
 pub apply_at-requires-clause-job : goal.apply_at-requires-clause-job
 apply_at-requires-clause-job g c = λ d. c.requires.network d ∙ sym c.in-Some.ensures.network
 
-pub loop-host-preserved : goal.loop-host-preserved
-loop-host-preserved g c =
-    let i = c.loop-host.invariant in
+pub loop-hosted-preserved : goal.loop-hosted-preserved
+loop-hosted-preserved g c =
+    let i = c.loop-hosted.invariant in
     let e = c.args.emission in
-    let hs = c.hosts-hosts.result.now in
-    let n = c.loop-host.host-index in
-    let h = c.host-item.result in
-    let was = c.loop-host.self in
+    let hs = c.nodes-nodes.result.now in
+    let n = c.loop-hosted.hosted-index in
+    let h = c.hosted-item.result in
+    let was = c.loop-hosted.self in
     let a = c.args.self.now in
     let cs = c.args.workplace.now.shared.now.cells.items in
-    let more = hears_more e hs n h c.loop-host-test.true c.host-item.is in
+    let more = hears_more e hs n h c.loop-hosted-test.true c.hosted-item.is in
     elim c.match-hearing.branch [
       | in-Some w ↦
           let s = w.apply_at.ensures in
@@ -43,9 +43,9 @@ loop-host-preserved g c =
 
 pub returns-clause-kept : goal.returns-clause-kept
 returns-clause-kept g c = λ d at.
-    (let i = c.loop-host.invariant in
+    (let i = c.loop-hosted.invariant in
     let cs = c.args.workplace.now.shared.now.cells.items in
-    let le : length c.hosts-hosts.result.now ≤ c.loop-host.host-index = let t = c.loop-host-test.false in omega arith in
+    let le : length c.nodes-nodes.result.now ≤ c.loop-hosted.hosted-index = let t = c.loop-hosted-test.false in omega arith in
     let cell : c.index.result.now ≡ d = c.index.ensures ∙ get_or_default cs c.args.k c.index.result.now d c.requires.busy.there ∙ sym at in
-    let hosts = take_all c.loop-host.host-index c.hosts-hosts.result.now le ∙ c.hosts-hosts.ensures.value ∙ ap (λ (k : Config). k.hosts) c.config.ensures ∙ ap (λ (x : CellSight). x.config.hosts) cell in
-    subst (λ l. KeepsSums cs (hears_of c.args.emission l) c.args.self.now c.loop-host.self) hosts i.2)
+    let nodes = take_all c.loop-hosted.hosted-index c.nodes-nodes.result.now le ∙ c.nodes-nodes.ensures.value ∙ ap (λ (k : Config). k.nodes) c.config.ensures ∙ ap (λ (x : CellSight). x.config.nodes) cell in
+    subst (λ l. KeepsSums cs (hears_of c.args.emission l) c.args.self.now c.loop-hosted.self) nodes i.2)

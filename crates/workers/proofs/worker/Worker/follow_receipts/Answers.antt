@@ -1,7 +1,7 @@
 use Rattle.std.proofs.Common.{[], arith, rules}
-use Rattle.workers.proofs.Sums.{is_seated, kept_none, kept_both, settled, short_of}
-use Rattle.workers.proofs.worker.Worker.settle.Goals as goal
-use Rattle.workers.proofs.worker.Worker.settle.Goals.{in-None, in-Some+else-is_short}
+use Rattle.workers.proofs.Sums.{is_seated, kept_none, kept_both, receipts_followed, short_of}
+use Rattle.workers.proofs.worker.Worker.follow_receipts.Goals as goal
+use Rattle.workers.proofs.worker.Worker.follow_receipts.Goals.{in-None, in-Some+else-is_short}
 
 pub loop-init : goal.loop-init
 loop-init g c = (c.requires, kept_none _ _)
@@ -19,5 +19,5 @@ pub returns-clause-ready : goal.returns-clause-ready
 returns-clause-ready g c =
     elim c.match-next.branch [
       | in-None w ↦ search rules
-      | in-Some+else-is_short w ↦ settled _ _ c.args.k _ w.index.result.now c.loop.invariant.0 w.index.ensures (w.is_short.ensures.past w.if-is_short.false)
+      | in-Some+else-is_short w ↦ receipts_followed _ _ c.args.k _ w.index.result.now c.loop.invariant.0 w.index.ensures (w.is_short.ensures.past w.if-is_short.false)
     ]

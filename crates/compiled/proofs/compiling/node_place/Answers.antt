@@ -3,7 +3,7 @@ use Rattle.std.proofs.Math.Path.{fun_ext}
 use Rattle.std.specs.List.Sorted.{IsBinarySearchResult}
 use Rattle.types.proofs.NameOrder.{name_cmp_is}
 use Rattle.slices.proofs.SetLists.{is_found}
-use Rattle.compiled.proofs.compiling.place_of.Goals as goal
+use Rattle.compiled.proofs.compiling.node_place.Goals as goal
 
 pub returns-clause-exactly : goal.returns-clause-exactly
 returns-clause-exactly c =

@@ -2,7 +2,7 @@
 
 ghost use Rattle.std.specs.Prelude.{◌≡◌, is_some, true};
 ghost use Rattle.protocol.specs.Networks.{slices_of};
-ghost use Rattle.hoststep.specs.Hosting.{IsHostAt, host_name};
+ghost use Rattle.hoststep.specs.Hosting.{IsNodePlace, node_name};
 
 use configuration::NetConfig;
 use std::snapshot::Snapshot;
@@ -11,23 +11,23 @@ use types::NodeId;
 /// A hosted node by its place among those of its network, from 0 on: two bytes, where a name has 32. In
 /// contracts it is known with its name.
 #[derive(Drop)]
-pub(crate) struct HostPlace {
+pub(crate) struct NodePlace {
     place: u16,
     name: Snapshot<NodeId>,
 }
 
-impl HostPlace {
+impl NodePlace {
     /// A hosted node, found by a binary search.
-    pub(crate) fn of(config: &NetConfig, node: &NodeId) -> HostPlace
-        requires { is_some (slices_of config.now.hosts node.now) ≡ true }
-        ensures name { host_name result ≡ node.now }
-        ensures there { IsHostAt config.now.hosts result }
+    pub(crate) fn of(config: &NetConfig, node: &NodeId) -> NodePlace
+        requires { is_some (slices_of config.now.nodes node.now) ≡ true }
+        ensures name { node_name result ≡ node.now }
+        ensures there { IsNodePlace config.now.nodes result }
     {
-        let _hosts = config.hosts();
+        let _nodes = config.nodes();
         let Some(place) = config.place(node) else {
             unreachable!()
         };
-        HostPlace {
+        NodePlace {
             place: place as u16,
             name: Snapshot::of(node),
         }
@@ -35,10 +35,10 @@ impl HostPlace {
 
     /// Its name.
     pub(crate) fn name(&self, config: &NetConfig) -> NodeId
-        requires { IsHostAt config.now.hosts self.now }
-        ensures { result ≡ host_name self.now }
+        requires { IsNodePlace config.now.nodes self.now }
+        ensures { result ≡ node_name self.now }
     {
-        let hosts = config.hosts();
-        *hosts[self.place as usize].name()
+        let nodes = config.nodes();
+        *nodes[self.place as usize].name()
     }
 }

@@ -1,0 +1,33 @@
+-- A command line: the call that its words are, carried out, and the exit status.
+use Rattle.std.specs.Prelude.{◌≡◌, ◌⊎◌, ℕ, true, List, Option, Err}
+use Rattle.std.specs.Io.KnownBytes.{Keeps}
+use Rattle.scripts.specs.Script.{Bytes}
+use Rattle.scripts.specs.declared.run.Stop.TheVariants as stop
+use Rattle.command_line.specs.CommandLine.{IsCall}
+use Rattle.command_line.specs.Help.{IsHelp, ask_for_help}
+use Rattle.command_line.specs.Words.{Text}
+use Rattle.command_line.specs.declared.call.Call.{Call}
+use Rattle.command_line.specs.declared.call.Usage.{Usage}
+use Rattle.command_line.specs.declared.call.Usage.TheVariants.{NoMemory}
+use Rattle.scphost.specs.Printing.{HasAnsweredUsage, IsPerformed, IsPerformedAsItComes}
+use Rattle.scphost.specs.Stops.{End, status_of_end}
+
+-- a call is carried out: it is performed on some contents of its readers, or on those of a standard input as they
+-- come; or one of its files cannot be opened, which is told, and nothing is written
+abbrev pub IsCarriedOut : Call → Option Bytes → Option Bytes → End → Type 0
+IsCarriedOut call old new end =
+    ((first second : Option Bytes) × IsPerformed call first second old new end)
+    ⊎ (((input : Option Bytes) × IsPerformedAsItComes call input old new end)
+    ⊎ ((end ≡ Err stop.CannotRead) × Keeps old new))
+
+-- why words are not taken as a call: they are none, or memory is short; help is for words that ask for it
+pub record IsUsageOf (words : List Text) (usage : Usage) : Type 0 where
+  pub none : (call : Call) → IsCall words call → usage ≡ NoMemory
+  pub asked : IsHelp usage → ask_for_help words ≡ true
+
+-- words are answered: they are a call, which is carried out, and the status is that of how it ended; or they are not
+-- taken as one, which is told
+abbrev pub HasAnsweredWords : List Text → Option Bytes → Option Bytes → ℕ → Type 0
+HasAnsweredWords words old new status =
+    ((call : Call) × (end : End) × IsCall words call × IsCarriedOut call old new end × (status ≡ status_of_end end))
+    ⊎ ((usage : Usage) × IsUsageOf words usage × HasAnsweredUsage usage old new status)

@@ -1,0 +1,114 @@
+//! The command line, from its words to its status.
+
+ghost use Rattle.std.specs.Prelude.{map};
+ghost use Rattle.scphost.specs.Commands.{HasAnsweredWords, IsCarriedOut};
+
+use crate::outputs::Outputs;
+use crate::perform::{exit_status, perform, perform_stream, print_stop, print_usage};
+use command_line::{Call, read_call};
+use scripts::Stop;
+use std::convert::AsStr;
+use std::io::{Input, Read, Write};
+use std::rt::Files;
+use std::sync::Wait;
+use std::thread::Threads;
+use std::{fs, io};
+
+/// Answers the words after the program's name, and gives the exit status: where they are a call, it is carried out, and
+/// the status says how that ended; else they are told to be none, or help is printed where they ask for it. Words that
+/// are a call are refused only for want of memory.
+#[tactic(auto, using(crate::proofs::CommandLaws::called))]
+pub fn answer_words<
+    R: Files + Input + AllocGlobal + Threads + Wait + Sync + Send + Copy + Drop,
+    S: AsStr,
+    W: Write,
+    E: Write,
+>(rt: &R, words: &[S], outputs: &mut Outputs<W, E>) -> u8
+    ensures { HasAnsweredWords (map S.text words.now) (W.contents outputs.old.out) (W.contents outputs.new.out) result }
+{
+    match read_call(rt.alloc(), words) {
+        Ok(call) => exit_status(open_and_perform(rt, &call, outputs)),
+        Err(usage) => print_usage(&usage, outputs),
+    }
+}
+
+/// Opens the files of a call in order and carries it out. The file `-` is the standard input.
+fn open_and_perform<
+    R: Files + Input + AllocGlobal + Threads + Wait + Sync + Send + Copy + Drop,
+    W: Write,
+    E: Write,
+>(rt: &R, call: &Call, outputs: &mut Outputs<W, E>) -> Result<bool, Stop>
+    ensures { IsCarriedOut call.now (W.contents outputs.old.out) (W.contents outputs.new.out) result }
+{
+    match call {
+        Call::Table { file }
+        | Call::Run { script: file, .. }
+        | Call::Closure { script: file, .. } => perform_one(rt, call, file.as_str(), outputs),
+        Call::Compare { first, second, .. } | Call::Crowd { first, second, .. } => {
+            perform_two(rt, call, first.as_str(), second.as_str(), outputs)
+        }
+    }
+}
+
+/// Opens the file of a call and carries it out.
+#[tactic(auto, using(crate::proofs::CommandLaws::performed_on, crate::proofs::CommandLaws::performed_as_it_comes, crate::proofs::CommandLaws::not_opened))]
+fn perform_one<
+    R: Files + Input + AllocGlobal + Threads + Wait + Sync + Send + Copy + Drop,
+    W: Write,
+    E: Write,
+>(rt: &R, call: &Call, file: &str, outputs: &mut Outputs<W, E>) -> Result<bool, Stop>
+    ensures { IsCarriedOut call.now (W.contents outputs.old.out) (W.contents outputs.new.out) result }
+{
+    if file == "-" {
+        return perform_stream(rt, call, &mut rt.reader(), outputs);
+    }
+    match fs::open(rt, file) {
+        Ok(mut opened) => perform(rt, call, &mut opened, &mut io::empty(), outputs),
+        Err(_) => print_stop(Stop::CannotRead, file, &mut outputs.err),
+    }
+}
+
+/// Opens both files of a call, the first one first, and carries it out. One of them may be the standard input.
+#[tactic(auto, using(crate::proofs::CommandLaws::performed_on, crate::proofs::CommandLaws::not_opened))]
+fn perform_two<
+    R: Files + Input + AllocGlobal + Threads + Wait + Sync + Send + Copy + Drop,
+    W: Write,
+    E: Write,
+>(rt: &R, call: &Call, one: &str, other: &str, outputs: &mut Outputs<W, E>) -> Result<bool, Stop>
+    ensures { IsCarriedOut call.now (W.contents outputs.old.out) (W.contents outputs.new.out) result }
+{
+    if one == "-" {
+        return perform_with_second(rt, call, &mut rt.reader(), other, outputs);
+    }
+    let mut first = match fs::open(rt, one) {
+        Ok(first) => first,
+        Err(_) => return print_stop(Stop::CannotRead, one, &mut outputs.err),
+    };
+    if other == "-" {
+        return perform(rt, call, &mut first, &mut rt.reader(), outputs);
+    }
+    perform_with_second(rt, call, &mut first, other, outputs)
+}
+
+/// Opens the second file of a call and carries it out. A `-` names no file here, since the first one is the
+/// standard input.
+#[tactic(auto, using(crate::proofs::CommandLaws::performed_on, crate::proofs::CommandLaws::not_opened))]
+fn perform_with_second<
+    R: Files + AllocGlobal + Threads + Wait + Sync + Send + Copy + Drop,
+    F: Read,
+    W: Write,
+    E: Write,
+>(
+    rt: &R,
+    call: &Call,
+    first: &mut F,
+    other: &str,
+    outputs: &mut Outputs<W, E>,
+) -> Result<bool, Stop>
+    ensures { IsCarriedOut call.now (W.contents outputs.old.out) (W.contents outputs.new.out) result }
+{
+    match fs::open(rt, other) {
+        Ok(mut second) => perform(rt, call, first, &mut second, outputs),
+        Err(_) => print_stop(Stop::CannotRead, other, &mut outputs.err),
+    }
+}
