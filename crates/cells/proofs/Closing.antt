@@ -20,16 +20,16 @@ use Rattle.std.proofs.lemmas.List.Edits.{map_over_more}
 pub keeps_shown : (b v w n : Knowledge) → Keeps b v → w ≡ with_note v n → Keeps b w
 keeps_shown b v w n k is = subst (Keeps b) (sym is) (record { holding = k.holding; live = k.live; known = k.known; opens = k.opens; config = k.config; all = k.all; owners = k.owners; over = k.over; stopper = k.stopper })
 
-pub told_by : (b v w : Knowledge) → Keeps b v → IsKnownAtEnd v.config v.all v.owners v.over v.stopper w → IsKnownAtEnd b.config b.all b.owners b.over b.stopper w
-told_by b v w k t = subst (λ (y : Config × List Entry × List ℕ × Bool × ℕ). IsKnownAtEnd y.0 y.1 y.2 y.3 y.4 w) (λ i. (k.config i, k.all i, k.owners i, k.over i, k.stopper i)) t
+pub end_known_by : (b v w : Knowledge) → Keeps b v → IsKnownAtEnd v.config v.all v.owners v.over v.stopper w → IsKnownAtEnd b.config b.all b.owners b.over b.stopper w
+end_known_by b v w k t = subst (λ (y : Config × List Entry × List ℕ × Bool × ℕ). IsKnownAtEnd y.0 y.1 y.2 y.3 y.4 w) (λ i. (k.config i, k.all i, k.owners i, k.over i, k.stopper i)) t
 
 -- what the one who has the desk knows of a seat
-abbrev pub IsTold : Knowledge → SeatSight → Type 0
-IsTold b s = IsKnownAtEnd b.config b.all b.owners b.over b.stopper s.me × IsSound s.me × (s.me.config ≡ b.config)
+abbrev pub KnowsItsEnd : Knowledge → SeatSight → Type 0
+KnowsItsEnd b s = IsKnownAtEnd b.config b.all b.owners b.over b.stopper s.me × IsSound s.me × (s.me.config ≡ b.config)
 
 pub gathered : (c : Config) (n : ℕ) (d : CellStateSight) (v w : Knowledge) (xs now : List SeatSight) (i : ℕ) → IsTaken v d w → v.config ≡ c → v.seats ≡ n
     → now ≡ map ended_sight (take i xs) ++ drop i xs → length xs ≤ i
-    → AllSeats (λ s. IsTold w (ended_sight s)) (take i xs) → Gathered c n d now
+    → AllSeats (λ s. KnowsItsEnd w (ended_sight s)) (take i xs) → Gathered c n d now
 gathered c n d v w xs now i t config seats is whole all =
     let same : w.config ≡ c = ap (λ (u : Knowledge). u.config) t.now ∙ config in
     let entries : w.all ≡ d.log.entries = ap (λ (u : Knowledge). u.all) t.now in
@@ -43,8 +43,8 @@ gathered c n d v w xs now i t config seats is whole all =
       paired = t.paired ∙ ap length entries;
       owned = subst (λ (k : ℕ). AllBelow k w.owners) seats t.owned;
       within = λ s. subst (λ (k : ℕ). w.stopper < k) seats (t.stopper (over ∙ s));
-      told = subst (λ (y : Config × List Entry × Bool × List SeatSight). AllSeats (λ s. IsKnownAtEnd y.0 y.1 w.owners y.2 w.stopper s.me × IsSound s.me × (s.me.config ≡ y.0)) y.3) (λ j. (same j, entries j, over j, sym now_is j))
-          (All-map (IsTold w) ended_sight (take i xs) all);
+      end_known = subst (λ (y : Config × List Entry × Bool × List SeatSight). AllSeats (λ s. IsKnownAtEnd y.0 y.1 w.owners y.2 w.stopper s.me × IsSound s.me × (s.me.config ≡ y.0)) y.3) (λ j. (same j, entries j, over j, sym now_is j))
+          (All-map (KnowsItsEnd w) ended_sight (take i xs) all);
     }
 
 pub has_ended : (l : List SeatSight) (k : ℕ) → HasNumber l k → HasNumber (map ended_sight l) k
@@ -54,8 +54,8 @@ pub one_history : (c : Config) (n : ℕ) (d : CellStateSight) (seats : List Seat
 one_history c n d seats g present =
     let j : Log = d.log in
     let P : SeatSight → Type 0 = λ s. IsKnownAtEnd j.config j.entries g.owners d.stopped g.stopper s.me × IsSound s.me × (s.me.config ≡ j.config) in
-    let told : AllSeats P seats = subst (λ (k : Config). AllSeats (λ s. IsKnownAtEnd k j.entries g.owners d.stopped g.stopper s.me × IsSound s.me × (s.me.config ≡ k)) seats) (sym g.config) g.told in
-    let receipts : AllSeats (λ s. map extract_of s.me.receipts ≡ extracts_of j.config s.me.number g.owners j.entries) seats = λ k d lt. (told k d lt).0.receipts in
+    let end_known : AllSeats P seats = subst (λ (k : Config). AllSeats (λ s. IsKnownAtEnd k j.entries g.owners d.stopped g.stopper s.me × IsSound s.me × (s.me.config ≡ k)) seats) (sym g.config) g.end_known in
+    let receipts : AllSeats (λ s. map extract_of s.me.receipts ≡ extracts_of j.config s.me.number g.owners j.entries) seats = λ k d lt. (end_known k d lt).0.receipts in
     record {
       owners = g.owners;
       paired = g.paired;
@@ -63,13 +63,13 @@ one_history c n d seats g present =
       present = present;
       counted = as_many j.config n g.owners j.entries seats g.paired g.owned present receipts;
       receipts = receipts;
-      seen = λ k d lt. (told k d lt).0.seen;
-      stand = All-weaker P (λ s. AllStand j.config j.entries s.me.receipts) (λ s p. subst (λ (k : Config). AllStand k j.entries s.me.receipts) p.2 (stand_more s.me.config s.me.seen j.entries s.me.receipts p.0.seen p.1.stand)) seats told;
-      right = All-weaker P (λ s. AllRight j.config j.entries s.me.stopped s.me.denials) (λ s p. subst (λ (k : Config). AllRight k j.entries s.me.stopped s.me.denials) p.2 (right_more s.me.config s.me.seen j.entries s.me.stopped s.me.stopped s.me.denials p.0.seen (λ h. h) p.1.right)) seats told;
+      seen = λ k d lt. (end_known k d lt).0.seen;
+      stand = All-weaker P (λ s. AllStand j.config j.entries s.me.receipts) (λ s p. subst (λ (k : Config). AllStand k j.entries s.me.receipts) p.2 (stand_more s.me.config s.me.seen j.entries s.me.receipts p.0.seen p.1.stand)) seats end_known;
+      right = All-weaker P (λ s. AllRight j.config j.entries s.me.stopped s.me.denials) (λ s p. subst (λ (k : Config). AllRight k j.entries s.me.stopped s.me.denials) p.2 (right_more s.me.config s.me.seen j.entries s.me.stopped s.me.stopped s.me.denials p.0.seen (λ h. h) p.1.right)) seats end_known;
       stops = λ k d lt mark.
-          let over = (told k d lt).0.stopped mark in
+          let over = (end_known k d lt).0.stopped mark in
           let there = present g.stopper (g.within over) in
-          let one = subst P (get_or_from_slice_get seats there.0 there.1 there.1 there.2) (told there.0 there.1 (slice_get_within seats there.0 there.1 there.2)) in
+          let one = subst P (get_or_from_slice_get seats there.0 there.1 there.1 there.2) (end_known there.0 there.1 (slice_get_within seats there.0 there.1 there.2)) in
           (there.0, there.1, there.2, one.0.stops over there.3);
     }
 
@@ -89,11 +89,11 @@ seam_read f xs now i d h is = ap (λ l. get_or l i d) is ∙ seam_at f xs i d h
 -- one turn of the loop
 pub one_more_seat : (b v w : Knowledge) (xs seats : List SeatSight) (i : ℕ) (item new : SeatSight) → i < length xs → seats ≡ map ended_sight (take i xs) ++ drop i xs → item ≡ get_or seats i item
     → new ≡ ended_sight item → Keeps b v → IsKnownAtEnd v.config v.all v.owners v.over v.stopper new.me → IsSound new.me → item.me.config ≡ b.config
-    → AllSeats (λ s. IsTold b (ended_sight s)) (take i xs)
-    → (set seats i new ≡ map ended_sight (take (i + 1) xs) ++ drop (i + 1) xs) × AllSeats (λ s. IsTold b (ended_sight s)) (take (i + 1) xs)
-one_more_seat b v w xs seats i item new lt is at now keeps told sound config all =
-    let one : IsTold b new = (told_by b v new.me keeps told, sound, ap (λ (s : SeatSight). s.me.config) now ∙ config) in
+    → AllSeats (λ s. KnowsItsEnd b (ended_sight s)) (take i xs)
+    → (set seats i new ≡ map ended_sight (take (i + 1) xs) ++ drop (i + 1) xs) × AllSeats (λ s. KnowsItsEnd b (ended_sight s)) (take (i + 1) xs)
+one_more_seat b v w xs seats i item new lt is at now keeps end_known sound config all =
+    let one : KnowsItsEnd b new = (end_known_by b v new.me keeps end_known, sound, ap (λ (s : SeatSight). s.me.config) now ∙ config) in
     let here : item ≡ get_or xs i item = at ∙ seam_read ended_sight xs seats i item lt is in (
       ap (set seats i) now ∙ map_over_more ended_sight xs seats i item lt is at,
-      All-more (λ s. IsTold b (ended_sight s)) xs i item lt all (subst (IsTold b) (now ∙ ap ended_sight here) one),
+      All-more (λ s. KnowsItsEnd b (ended_sight s)) xs i item lt all (subst (KnowsItsEnd b) (now ∙ ap ended_sight here) one),
     )

@@ -33,7 +33,7 @@ pub record Gathered (c : Config) (n : ℕ) (d : CellStateSight) (seats : List Se
   pub paired : length owners ≡ length d.log.entries
   pub owned : AllBelow n owners
   pub within : d.stopped ≡ true → stopper < n
-  pub told : AllSeats (λ s. IsKnownAtEnd c d.log.entries owners d.stopped stopper s.me × IsSound s.me × (s.me.config ≡ c)) seats
+  pub end_known : AllSeats (λ s. IsKnownAtEnd c d.log.entries owners d.stopped stopper s.me × IsSound s.me × (s.me.config ≡ c)) seats
 
 -- Each entry is one seat's, and each seat's receipts are its entries. What each seat saw is a beginning. Each denial
 -- was right. A mark was set by some seat. Where no more seats are there than the cell has, there are as many entries as

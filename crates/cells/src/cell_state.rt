@@ -132,8 +132,9 @@ impl<S: Shelf, H: Wait + Drop> CellState<S, H> {
             return Err(CellRefusal::Closed);
         }
         if receipts.reserve(1).is_err() {
-            // Memory: the receipt has no room.
-            return Err(CellRefusal::Network(Refusal::NoMemory));
+            // Memory: the receipt has no room; a refusal that applies comes first.
+            let refusal = self.journal.refusal(&event);
+            return Err(CellRefusal::Network(refusal));
         }
         match self.journal.apply_recorded(event) {
             Ok(recorded) => {

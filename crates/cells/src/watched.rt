@@ -144,6 +144,13 @@ impl<S: Shelf, H: Wait + Drop> WatchedJournal<S, H> {
         self.journal.config()
     }
 
+    /// Why an event is refused for which somebody else has no room, as by [`Journal::refusal`].
+    pub(crate) fn refusal(&self, event: &Event) -> Refusal
+        ensures { IsRefused self.now (step_of event.now) result }
+    {
+        self.journal.refusal(event)
+    }
+
     /// One event, as by [`Journal::apply_recorded`].
     pub(crate) fn apply_recorded(&mut self, event: Event) -> Result<Recorded, Refusal>
         ensures ok { IfOk result (λ r. IsEntered self.old (step_of event) r.outs.items) }

@@ -305,13 +305,13 @@ module _ (nodes : List HostedNode) (i : ℕ) (run : List Entry) where
       by_announcement : (r : Rule) → Contains (flat_map (λ x. announcement_rules i x.event) run) r → AreWithin (among r.sources) (among (names_of list)) → (u : ℕ) → IsTrue (among r.gives u) → among (names_of list) u ≡ true
       by_announcement r k within u g =
           let x = from_flat (λ (y : Entry). announcement_rules i y.event) run r k in
-          let told_by = rule_announced i x.1.event r x.3 in
-          let a = told_by.announcement in
-          let receiver : among (names_of list) a.receiver ≡ true = within a.receiver told_by.is.receiver in
-          let sender : among (names_of list) a.sender ≡ true = within a.sender told_by.is.sender in
+          let ruled_by = rule_announced i x.1.event r x.3 in
+          let a = ruled_by.announcement in
+          let receiver : among (names_of list) a.receiver ≡ true = within a.receiver ruled_by.is.receiver in
+          let sender : among (names_of list) a.sender ≡ true = within a.sender ruled_by.is.sender in
           let place = place_among (names_of list) a.sender sender in
-          let at : announced_at run x.0 ≡ Some a = ap announced_in x.2 ∙ told_by.by in
-          settled place.0 a.sender place.1 u (learnt x.0 a at told_by.at refl receiver (subst (λ (ns : List ℕ). IsTrue (among ns u)) told_by.is.gives g))
+          let at : announced_at run x.0 ≡ Some a = ap announced_in x.2 ∙ ruled_by.by in
+          settled place.0 a.sender place.1 u (learnt x.0 a at ruled_by.at refl receiver (subst (λ (ns : List ℕ). IsTrue (among ns u)) ruled_by.is.gives g))
 
   -- a chained list in which all is settled is the closure
   pub is_closure : (v : ℕ) (list : MemberList) → IsAscending (node_names nodes) → IsChained nodes i v run list → AllNamesAreMembers nodes i run (names_of list) (names_of list) → IsDistinct (λ x y. x == y) (names_of list) → IsClosureList nodes i v run list

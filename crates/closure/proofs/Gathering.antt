@@ -36,16 +36,16 @@ module _ (nodes : List HostedNode) (i : ℕ) (run : List Entry) (members : List 
   unfolding added_at
   added_sound n u h = go (announced_at run n) refl h
     where
-      told : (a : AnnouncedSlices) (b : Bool) → announced_at run n ≡ Some a → (a.slot == i && (a.sender == w && among members a.receiver)) ≡ b → among (if b then names a.slices else []) u ≡ true → IsNamedBy nodes i run (among members) w u
-      told a false e q g = absurd (false≢true g)
-      told a true e q g =
+      announces : (a : AnnouncedSlices) (b : Bool) → announced_at run n ≡ Some a → (a.slot == i && (a.sender == w && among members a.receiver)) ≡ b → among (if b then names a.slices else []) u ≡ true → IsNamedBy nodes i run (among members) w u
+      announces a false e q g = absurd (false≢true g)
+      announces a true e q g =
           let p = and_parts (a.slot == i) (a.sender == w && among members a.receiver) q in
           let r = and_parts (a.sender == w) (among members a.receiver) p.1 in
           learnt n a e (eqb-true a.slot i p.0) (eqb-true a.sender w r.0) r.1 g
 
       go : (o : Option AnnouncedSlices) → announced_at run n ≡ o → among (added_names i members w o) u ≡ true → IsNamedBy nodes i run (among members) w u
       go None e g = absurd (false≢true g)
-      go (Some a) e g = told a (a.slot == i && (a.sender == w && among members a.receiver)) e refl g
+      go (Some a) e g = announces a (a.slot == i && (a.sender == w && among members a.receiver)) e refl g
 
   added_there : (n : ℕ) (a : AnnouncedSlices) (u : ℕ) → announced_at run n ≡ Some a → a.slot ≡ i → a.sender ≡ w → IsTrue (among members a.receiver) → IsTrue (among (names a.slices) u) → among (added_at n) u ≡ true
   unfolding added_at

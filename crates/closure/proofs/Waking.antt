@@ -37,16 +37,16 @@ one_place xs j k u once e h = elim (cases_lt j k) [
 pub for_more : (members : List ℕ) (old new : List (List ℕ)) (n : ℕ) (o : Option AnnouncedSlices) → AreMore old new → IsFor members old n o → IsFor members new n o
 for_more members old new n o more is a j e at l = more.kept j n (is a j e at (omega (arith, l, more.counted)))
 
-pub for_stranger : (members : List ℕ) (ready : List (List ℕ)) (n : ℕ) (told : AnnouncedSlices) (o : Option AnnouncedSlices) → Some told ≡ o → IsFalse (among members told.sender) → IsFor members ready n o
-for_stranger members ready n told o e none a j h at l =
-    let same : a ≡ told = cc in
-    absurd (true≢false (sym (among_at members j told.sender (subst (λ (x : AnnouncedSlices). slice_get members j ≡ Some x.sender) same at)) ∙ none))
+pub for_stranger : (members : List ℕ) (ready : List (List ℕ)) (n : ℕ) (announced : AnnouncedSlices) (o : Option AnnouncedSlices) → Some announced ≡ o → IsFalse (among members announced.sender) → IsFor members ready n o
+for_stranger members ready n announced o e none a j h at l =
+    let same : a ≡ announced = cc in
+    absurd (true≢false (sym (among_at members j announced.sender (subst (λ (x : AnnouncedSlices). slice_get members j ≡ Some x.sender) same at)) ∙ none))
 
-pub for_sender : (members : List ℕ) (ready new : List (List ℕ)) (n place : ℕ) (told : AnnouncedSlices) (o : Option AnnouncedSlices) → IsDistinct (λ x y. x == y) members → Some told ≡ o → slice_get members place ≡ Some told.sender
+pub for_sender : (members : List ℕ) (ready new : List (List ℕ)) (n place : ℕ) (announced : AnnouncedSlices) (o : Option AnnouncedSlices) → IsDistinct (λ x y. x == y) members → Some announced ≡ o → slice_get members place ≡ Some announced.sender
     → new ≡ with_ready ready place n → IsFor members new n o
-for_sender members ready new n place told o once e there put a j h at l =
-    let same : a ≡ told = cc in
-    let here : j ≡ place = one_place members j place told.sender once (subst (λ (x : AnnouncedSlices). slice_get members j ≡ Some x.sender) same at) there in
+for_sender members ready new n place announced o once e there put a j h at l =
+    let same : a ≡ announced = cc in
+    let here : j ≡ place = one_place members j place announced.sender once (subst (λ (x : AnnouncedSlices). slice_get members j ≡ Some x.sender) same at) there in
     subst (λ (r : List (List ℕ)). IsTrue (among (ready_at r j) n)) (sym put) (subst (λ k. IsTrue (among (ready_at (with_ready ready place n) k) n)) (sym here)
     (put_there ready place n (omega (arith, l, here, ap length put, (put_more ready place n).counted))))
 

@@ -15,7 +15,7 @@ use Rattle.types.proofs.StatementRules.{keeps_rules, passes_test}
 use Rattle.codec.specs.Formats.{NoFault, ValidThen, ValidJudged, text_either}
 use Rattle.codec.specs.Faults.{length_fault, count_fault, statement_fault}
 use Rattle.codec.specs.Steps.{number_at}
-use Rattle.codec.specs.Spelling.{value, ballot, optional, value_set, body, kind}
+use Rattle.codec.specs.Spelling.{value, ballot, optional, nominated_values, body, kind}
 use Rattle.codec.specs.Reading.{some_or_none, value_at, ballot_at, optional_at, values_at, nominated_at, nominate_at, prepare_at, commit_at, externalize_at, body_at, statement_at}
 use Rattle.codec.specs.Grammar.{IsWord, ShowsValue, ShowsBallot, ShowsOptional, IsOptional, ShowsValues, ShowsNominated, AreNominated, HasFields, HasKind, ShowsNominate, ShowsPrepare, ShowsBody, ShowsStatement, IsKind}
 use Rattle.codec.proofs.FieldLaws.{Takes, ok_is, wide16, wide32}
@@ -117,10 +117,10 @@ count_is n e = ltb-false _ _ (cleared (ltb 16 n) Limit None e).0
 count_from : (n : ℕ) → n ≤ 16 → count_fault n ≡ None
 count_from n h = rw (le-ltb _ _ h) refl
 
-pub Laws-nominated : Laws nominated_at value_set AreNominated ShowsNominated
+pub Laws-nominated : Laws nominated_at nominated_values AreNominated ShowsNominated
 unfolding nominated_at
 Laws-nominated =
-    Laws-when (Laws-as (Laws-then (Laws-judged Laws-byte count_fault count_cut) (λ n v. Laws-values n)) (λ x. x.1) value_set (λ x v. ap (λ (n : ℕ). n ∷ flat_map value x.1) v.1.0)) AreNominated
+    Laws-when (Laws-as (Laws-then (Laws-judged Laws-byte count_fault count_cut) (λ n v. Laws-values n)) (λ x. x.1) nominated_values (λ x v. ap (λ (n : ℕ). n ∷ flat_map value x.1) v.1.0)) AreNominated
     (λ vs v. subst AreNominated v.2 (let few = count_is v.0.0 v.1.0.1 in (omega (arith, few, v.1.1.0), v.1.1.1)))
     (λ vs h. ((length vs, vs), ((tt, count_from (length vs) h.0), (refl, h.1)), refl))
 

@@ -8,7 +8,7 @@ use Rattle.types.specs.declared.statement.Statement.TheVariants.{Nominate, Prepa
 use Rattle.types.specs.Trees.{Members, none, node, inner, Slices, member_count, names_in, depth_of, HaveThresholds, IsNested, most_levels}
 use Rattle.types.specs.Nominations.{IsValue}
 use Rattle.types.specs.Statements.{Sent, IsBallot, IsWellFormed, HasWidths, IsEnvelope}
-use Rattle.codec.specs.Spelling.{name, value, ballot, optional, value_set, members, slices, body, spelling, most_bytes}
+use Rattle.codec.specs.Spelling.{name, value, ballot, optional, nominated_values, members, slices, body, spelling, most_bytes}
 
 length-name : (u : ℕ) → length (name u) ≡ 32
 unfolding name
@@ -30,7 +30,7 @@ length-values (v ∷ vs) h = omega (arith, length-append (value v) (flat_map val
 
 length-body : (s : Statement) → HasWidths s → IsWellFormed s → length (body s) ≤ 8258
 length-body (Nominate v a) h r =
-    omega (arith, length-append (value_set v) (value_set a), length-values v h.0, length-values a h.1, r.voted_set.few, r.accepted_set.few)
+    omega (arith, length-append (nominated_values v) (nominated_values a), length-values v h.0, length-values a h.1, r.voted_set.few, r.accepted_set.few)
 length-body (Prepare b p x y z) h r =
     simp length-append (omega (arith, length-ballot b h.0, length-optional p h.1))
 length-body (Commit b x y z) h r = simp length-append (omega (arith, length-ballot b h.0))

@@ -11,7 +11,7 @@ use Rattle.types.specs.declared.statement.Statement.TheVariants.{Nominate, Prepa
 use Rattle.types.specs.Nominations.{IsValue, most_nominated}
 use Rattle.types.specs.Statements.{Sent, IsBallot, HasWidths, IsEnvelope}
 use Rattle.codec.specs.Formats.{Fronts, NoFault, ValidThen, ShowsThen, text_then, ValidJudged, ShowsJudged, ShowsEither, ShowsFail, text_either, ShowsIf}
-use Rattle.codec.specs.Spelling.{byte, name, slices, value, ballot, value_set, kind, body, first_levels, spelling, Spells, most_bytes}
+use Rattle.codec.specs.Spelling.{byte, name, slices, value, ballot, nominated_values, kind, body, first_levels, spelling, Spells, most_bytes}
 use Rattle.codec.specs.Faults.{version_fault, spare_fault, kind_fault, header_fault, name_fault, length_fault, count_fault, statement_fault}
 use Rattle.codec.specs.Parts.{Part, part_names, part_before}
 
@@ -84,7 +84,7 @@ HasKind k s = (kind s ≡ k) × HasFields s
 
 -- the voted values show it, or the accepted ones
 abbrev pub ShowsNominate : Fronts
-ShowsNominate = ShowsThen value_set AreNominated ShowsNominated (λ v. ShowsNominated)
+ShowsNominate = ShowsThen nominated_values AreNominated ShowsNominated (λ v. ShowsNominated)
 
 -- the ballot shows it, or what is prepared
 abbrev pub ShowsPrepare : Fronts

@@ -32,8 +32,8 @@ optional None = 0 ∷ []
 optional (Some b) = 1 ∷ ballot b
 
 -- a set of a nomination: a count, and the values
-abbrev pub value_set : List (List ℕ) → List ℕ
-value_set vs = length vs ∷ flat_map value vs
+abbrev pub nominated_values : List (List ℕ) → List ℕ
+nominated_values vs = length vs ∷ flat_map value vs
 
 -- each member: a 0 and a name, or a 1 and a set
 abbrev pub members : Members → List ℕ
@@ -54,7 +54,7 @@ kind (Externalize b h) = 4
 
 -- the fields of a statement
 abbrev pub body : Statement → List ℕ
-body (Nominate voted accepted) = value_set voted ++ value_set accepted
+body (Nominate voted accepted) = nominated_values voted ++ nominated_values accepted
 body (Prepare b p a h c) = ballot b ++ optional p ++ to_be_bytes w32 a ++ to_be_bytes w32 h ++ to_be_bytes w32 c
 body (Commit b p h c) = ballot b ++ to_be_bytes w32 p ++ to_be_bytes w32 h ++ to_be_bytes w32 c
 body (Externalize b h) = ballot b ++ to_be_bytes w32 h

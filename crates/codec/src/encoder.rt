@@ -5,7 +5,7 @@ ghost use Rattle.types.specs.Trees.{HasThreshold, HaveThresholds};
 ghost use Rattle.types.specs.Nominations.{most_nominated};
 ghost use Rattle.types.specs.Statements.{IsWellFormed};
 ghost use Rattle.std.specs.Int.{w16, w32, w64, to_be_bytes};
-ghost use Rattle.codec.specs.Spelling.{name, value, ballot, optional, value_set, slices, body, Spells};
+ghost use Rattle.codec.specs.Spelling.{name, value, ballot, optional, nominated_values, slices, body, Spells};
 
 use crate::statements::StatementKind;
 use crate::versions::version_of;
@@ -116,7 +116,7 @@ fn put_statement(out: &mut Vec<u8>, statement: &Statement) -> Result<(), AllocEr
 /// Adds one set of a nomination: a count, and so many values.
 fn put_nominated(out: &mut Vec<u8>, values: &Values) -> Result<(), AllocError>
     requires { length values.now ≤ most_nominated }
-    ensures { OnOk result (out.new.items ≡ out.old.items ++ value_set values.now) }
+    ensures { OnOk result (out.new.items ≡ out.old.items ++ nominated_values values.now) }
 {
     let items = values.as_slice();
     out.push(items.len() as u8)?;

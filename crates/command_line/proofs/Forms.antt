@@ -16,7 +16,7 @@ use Rattle.scripts.specs.Names.{word_name}
 use Rattle.scripts.specs.Words.{word_number}
 use Rattle.command_line.specs.Words.{Text, HasForm, is_plain, operands_in}
 use Rattle.command_line.specs.Subjects.{IsSubject, format_in, subject_in}
-use Rattle.command_line.specs.Options.{AsksExplanation, AsksFormat, HasFormWith, attached_form, explain_behind, explain_in, form_before, form_behind, form_chosen, form_in, form_named, form_or_text, form_with, name_of_format, operands_alone, word_of_format}
+use Rattle.command_line.specs.Options.{AsksExplanation, AsksFormat, HasFormWith, attached_form, explain_behind, explain_in, form_before, form_behind, form_chosen, form_in, form_named, form_or_text, form_with, name_of_format, operands_without_explanation, word_of_format}
 use Rattle.command_line.specs.CommandLine.{IsCall, call_in, closure_of, closure_with, compare_of, compare_with, crowd_of, crowd_with, run_of, run_with, table_of, table_with}
 use Rattle.command_line.specs.declared.call.Call.{Call}
 use Rattle.command_line.specs.declared.call.Call.TheVariants.{Table, Run, Closure, Compare, Crowd}
@@ -207,12 +207,12 @@ unexplained_by rest false operands (Some found) is e =
     let found_is : found ≡ operands = (same_read false false found operands e).1 in
     ([], refl, in_front [] rest operands rest refl (operands_sound rest operands (is ∙ ap Some found_is)))
 
-unexplained_sound : (rest : List Text) (explain : Bool) (operands : List Text) → operands_alone rest ≡ Some (explain, operands) → Explained rest explain operands
+unexplained_sound : (rest : List Text) (explain : Bool) (operands : List Text) → operands_without_explanation rest ≡ Some (explain, operands) → Explained rest explain operands
 unexplained_sound rest explain operands e = unexplained_by rest explain operands (operands_in rest) refl e
 
 explained_last : (front : List Text) (option : Text) (explain : Bool) (operands : List Text) (is_option plain : Bool)
     → bytes_eq option (codes "--explain") ≡ is_option → list_all is_plain front ≡ plain
-    → (if is_option && plain then Some (true, front) else operands_alone (front ++ option ∷ [])) ≡ Some (explain, operands)
+    → (if is_option && plain then Some (true, front) else operands_without_explanation (front ++ option ∷ [])) ≡ Some (explain, operands)
     → Explained (front ++ option ∷ []) explain operands
 explained_last front option true operands true true is plain e =
     let front_is : front ≡ operands = (same_read true true front operands e).1 in (

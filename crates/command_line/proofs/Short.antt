@@ -1,7 +1,7 @@
 -- Words that are too few, or too many.
 use Rattle.std.proofs.Common.{◌≡◌, ◌<◌, ◌≤◌, Bool, List, [], ◌∷◌, None, refl, map, length, arith}
 use Rattle.command_line.specs.Words.{Text}
-use Rattle.command_line.specs.Options.{explain_behind, form_behind, form_or_text, operands_alone}
+use Rattle.command_line.specs.Options.{explain_behind, form_behind, form_or_text, operands_without_explanation}
 use Rattle.command_line.specs.CommandLine.{closure_of, compare_of, crowd_of}
 use Rattle.command_line.specs.declared.subject.Format.{Format}
 
@@ -13,7 +13,7 @@ module _ {X : Type 0} (text : X → Text) where
   form_short (a ∷ b ∷ d ∷ []) lt = refl
   form_short (a ∷ b ∷ d ∷ e ∷ more) lt = absurd (omega arith)
 
-  pub explain_short : (xs : List X) → length xs < 6 → explain_behind (map text xs) ≡ operands_alone (map text xs)
+  pub explain_short : (xs : List X) → length xs < 6 → explain_behind (map text xs) ≡ operands_without_explanation (map text xs)
   explain_short [] lt = refl
   explain_short (a ∷ []) lt = refl
   explain_short (a ∷ b ∷ []) lt = refl
@@ -22,7 +22,7 @@ module _ {X : Type 0} (text : X → Text) where
   explain_short (a ∷ b ∷ d ∷ e ∷ f ∷ []) lt = refl
   explain_short (a ∷ b ∷ d ∷ e ∷ f ∷ g ∷ more) lt = absurd (omega arith)
 
-  pub explain_long : (xs : List X) → 7 ≤ length xs → explain_behind (map text xs) ≡ operands_alone (map text xs)
+  pub explain_long : (xs : List X) → 7 ≤ length xs → explain_behind (map text xs) ≡ operands_without_explanation (map text xs)
   explain_long [] le = absurd (omega arith)
   explain_long (a ∷ []) le = absurd (omega arith)
   explain_long (a ∷ b ∷ []) le = absurd (omega arith)

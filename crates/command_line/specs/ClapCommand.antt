@@ -18,8 +18,8 @@ abbrev pub flag_rule : Text → Rule
 flag_rule name = record (new_rule name) { long = Some name; action = Some SetTrue }
 
 -- a command that wants one operand
-abbrev pub wanting : Text → Text → App
-wanting name operand = with_rule (new_app name) (operand_rule operand)
+abbrev pub command_with_operand : Text → Text → App
+command_with_operand name operand = with_rule (new_app name) (operand_rule operand)
 
 -- a command that wants a subject
 abbrev pub with_subject : App → App
@@ -27,24 +27,24 @@ with_subject a =
     with_rule (with_rule (with_rule a (operand_rule (codes "NET"))) (operand_rule (codes "SLOT"))) (operand_rule (codes "NODE"))
 
 abbrev pub table_command : App
-table_command = wanting (codes "table") (codes "FILE")
+table_command = command_with_operand (codes "table") (codes "FILE")
 
 abbrev pub run_command : App
-run_command = with_rule (wanting (codes "run") (codes "SCRIPT")) (option_rule (codes "N") (codes "workers"))
+run_command = with_rule (command_with_operand (codes "run") (codes "SCRIPT")) (option_rule (codes "N") (codes "workers"))
 
 abbrev pub closure_command : App
 closure_command =
-    with_rule (with_subject (wanting (codes "closure") (codes "SCRIPT"))) (option_rule (codes "FORM") (codes "format"))
+    with_rule (with_subject (command_with_operand (codes "closure") (codes "SCRIPT"))) (option_rule (codes "FORM") (codes "format"))
 
 -- a command that wants two scripts and a subject
-abbrev pub comparing : Text → App
-comparing name = with_subject (with_rule (wanting name (codes "SCRIPT1")) (operand_rule (codes "SCRIPT2")))
+abbrev pub comparison_command : Text → App
+comparison_command name = with_subject (with_rule (command_with_operand name (codes "SCRIPT1")) (operand_rule (codes "SCRIPT2")))
 
 abbrev pub compare_command : App
-compare_command = with_rule (comparing (codes "compare")) (flag_rule (codes "explain"))
+compare_command = with_rule (comparison_command (codes "compare")) (flag_rule (codes "explain"))
 
 abbrev pub crowd_command : App
-crowd_command = comparing (codes "crowd")
+crowd_command = comparison_command (codes "crowd")
 
 abbrev pub bare_command : App
 bare_command =

@@ -87,19 +87,19 @@ abbrev pub form_in : List Text → Option (Format × List Text)
 form_in rest = form_with (form_before rest) rest
 
 -- no explanation, and the operands
-abbrev pub operands_alone : List Text → Option (Bool × List Text)
-operands_alone rest = option_map (λ operands. (false, operands)) (operands_in rest)
+abbrev pub operands_without_explanation : List Text → Option (Bool × List Text)
+operands_without_explanation rest = option_map (λ operands. (false, operands)) (operands_in rest)
 
 abbrev pub explain_behind : List Text → Option (Bool × List Text)
 explain_behind (one ∷ other ∷ net ∷ slot ∷ node ∷ option ∷ []) =
     if bytes_eq option (codes "--explain") && list_all is_plain (one ∷ other ∷ net ∷ slot ∷ node ∷ [])
     then Some (true, one ∷ other ∷ net ∷ slot ∷ node ∷ [])
-    else operands_alone (one ∷ other ∷ net ∷ slot ∷ node ∷ option ∷ [])
-explain_behind rest = operands_alone rest
+    else operands_without_explanation (one ∷ other ∷ net ∷ slot ∷ node ∷ option ∷ [])
+explain_behind rest = operands_without_explanation rest
 
 -- whether an explanation is asked for, and the operands in the words behind `compare`
 abbrev pub explain_in : List Text → Option (Bool × List Text)
-explain_in [] = operands_alone []
+explain_in [] = operands_without_explanation []
 explain_in (option ∷ rest) = if bytes_eq option (codes "--explain")
     then option_map (λ operands. (true, operands)) (operands_in rest)
     else explain_behind (option ∷ rest)

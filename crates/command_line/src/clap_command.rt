@@ -2,7 +2,7 @@
 
 ghost use Rattle.std.specs.Prelude.{◌≡◌, IfOk};
 ghost use Rattle.clap.specs.Words.{app_of, with_rule};
-ghost use Rattle.command_line.specs.ClapCommand.{closure_command, compare_command, comparing, crowd_command, flag_rule, operand_rule, option_rule, run_command, table_command, wanting, whole_command, with_subject};
+ghost use Rattle.command_line.specs.ClapCommand.{closure_command, compare_command, comparison_command, crowd_command, flag_rule, operand_rule, option_rule, run_command, table_command, command_with_operand, whole_command, with_subject};
 
 use clap::{Arg, ArgAction, Command};
 use std::alloc::{AllocError, Global};
@@ -181,7 +181,7 @@ fn command_of_file<'a>(
     file: &'a str,
     help: &'a str,
 ) -> Result<Command<'a>, AllocError>
-    ensures { IfOk result (λ c. app_of c ≡ wanting texts.entry.name.now file.entry.now) }
+    ensures { IfOk result (λ c. app_of c ≡ command_with_operand texts.entry.name.now file.entry.now) }
 {
     let command = Command::new(alloc, texts.name)
         .about(texts.about)
@@ -194,7 +194,7 @@ fn command_of_two_scripts<'a>(
     alloc: Global,
     texts: CommandTexts<'a>,
 ) -> Result<Command<'a>, AllocError>
-    ensures { IfOk result (λ c. app_of c ≡ comparing texts.entry.name.now) }
+    ensures { IfOk result (λ c. app_of c ≡ comparison_command texts.entry.name.now) }
 {
     let help = "The first script, or - for the standard input";
     let command = command_of_file(alloc, texts, "SCRIPT1", help)?;

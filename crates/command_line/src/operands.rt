@@ -4,7 +4,7 @@ ghost use Rattle.std.specs.Prelude.{◌≡◌, codes, map, option_map};
 ghost use Rattle.std.specs.List.{list_all};
 ghost use Rattle.std.specs.Str.{bytes_eq};
 ghost use Rattle.command_line.specs.Words.{is_plain as plain_word, operands_in};
-ghost use Rattle.command_line.specs.Options.{attached_form, explain_behind, explain_in, form_before, form_behind, form_chosen, form_in, form_named, form_or_text, operands_alone};
+ghost use Rattle.command_line.specs.Options.{attached_form, explain_behind, explain_in, form_before, form_behind, form_chosen, form_in, form_named, form_or_text, operands_without_explanation};
 
 use crate::subject::{Format, format_of};
 use std::convert::AsStr;
@@ -146,7 +146,7 @@ fn explain_behind<S: AsStr>(rest: &[S]) -> Option<(bool, &[S])>
 
 /// The same, where the option is left out.
 fn without_explanation<S: AsStr>(rest: &[S]) -> Option<(bool, &[S])>
-    ensures { option_map (λ p. (p.0, map S.text p.1.now)) result ≡ operands_alone (map S.text rest.now) }
+    ensures { option_map (λ p. (p.0, map S.text p.1.now)) result ≡ operands_without_explanation (map S.text rest.now) }
 {
     match operands_of(rest) {
         Some(operands) => Some((false, operands)),

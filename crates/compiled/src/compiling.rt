@@ -56,7 +56,7 @@ fn add_node(masks: &mut Vec<Mask>, nodes: &[NodeId], node: &NodeId) -> Result<()
     ensures places { OnOk result ((ws : List ℕ) → places_in masks.new.items ws ≡ places_in masks.old.items ws + one_where (among (nodes_at nodes.now ws) node.now)) }
     ensures count { OnOk result (count_in masks.new.items ≤ count_in masks.old.items + 1) }
 {
-    match node_place(nodes, node) {
+    match place_in_nodes(nodes, node) {
         None => Ok(()),
         Some(place) => add_place(masks, place),
     }
@@ -71,7 +71,7 @@ pub fn has_places(set: &SliceSet, nodes: &[NodeId]) -> bool
     for member in members {
         match member {
             Member::Node(node) => {
-                if node_place(nodes, node).is_none() {
+                if place_in_nodes(nodes, node).is_none() {
                     return false;
                 }
             }
@@ -86,7 +86,7 @@ pub fn has_places(set: &SliceSet, nodes: &[NodeId]) -> bool
 }
 
 /// The place of a node, if it has one.
-pub fn node_place(nodes: &[NodeId], node: &NodeId) -> Option<usize>
+pub fn place_in_nodes(nodes: &[NodeId], node: &NodeId) -> Option<usize>
     requires { IsAscending nodes.now }
     ensures exactly { is_some result ≡ among nodes.now node.now }
     ensures place { IfSome result (λ i. (i < length nodes.now) × (get_or nodes.now i 0 ≡ node.now)) }
@@ -106,5 +106,5 @@ pub fn place_near(nodes: &[NodeId], first: usize, node: &NodeId) -> Option<usize
             return Some(first);
         }
     }
-    node_place(nodes, node)
+    place_in_nodes(nodes, node)
 }

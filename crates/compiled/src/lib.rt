@@ -13,7 +13,7 @@ mod search;
 mod set;
 
 pub use asking::{Passing, is_met_by};
-pub use compiling::{compile, has_places, node_place, place_near};
+pub use compiling::{compile, has_places, place_in_nodes, place_near};
 pub use form::Form;
 pub use moving::relocate;
 pub use places::{add_place, has_place, no_places};

@@ -11,7 +11,7 @@ use Rattle.protocol.specs.Networks.{Net, Reply, Step, effect, first_that, net_st
 use Rattle.protocol.specs.Networks.Reply.{Done, Refused}
 use Rattle.protocol.specs.Hosts.{Config, Entry, History, applied_entries, nodes_of, journal_with, entries, journal, net_at, nets, new_net, steps_of}
 use Rattle.protocol.specs.Runs.{net_after, refusal_of, state_of}
-use Rattle.protocol.specs.Submissions.{Answer, answers, answers_of, concerning_steps, concerning, concerns, config_of, net_run, replied_to}
+use Rattle.protocol.specs.Submissions.{Answer, answers, answers_of, concerning_steps, concerning_answers, concerns, config_of, net_run, replied_to}
 use Rattle.protocol.proofs.Runs.Hosts.{answers-run, applied-journal, steps_to}
 use Rattle.differences.proofs.Places.{front_at}
 use Rattle.network.specs.Decoding.{reading, step_of}
@@ -184,7 +184,7 @@ concerning_steps-run R i [] net = refl
 concerning_steps-run R i (e ∷ es) net = go (concerns R i e) (concerning_steps-run R i es (net_step net e).0)
   where
     go : (b : Bool) → concerning_steps R i (net_run (net_step net e).0 es) ≡ filter (concerns R i) es
-        → map (λ (x : Answer). x.step) (if b then record { step = e; reply = (net_step net e).1 } ∷ concerning R i (net_run (net_step net e).0 es) else concerning R i (net_run (net_step net e).0 es))
+        → map (λ (x : Answer). x.step) (if b then record { step = e; reply = (net_step net e).1 } ∷ concerning_answers R i (net_run (net_step net e).0 es) else concerning_answers R i (net_run (net_step net e).0 es))
         ≡ (if b then e ∷ filter (concerns R i) es else filter (concerns R i) es)
     go true ih = ap (λ (xs : List Step). e ∷ xs) ih
     go false ih = ih

@@ -1,26 +1,26 @@
 -- What the code answers, as the definitions have it, and the theorem that each comparison carries.
-use Rattle.std.specs.Prelude.{◌≡◌, ℕ, is_some, IsTrue}
-use Rattle.protocol.specs.Sets.{among, AreWithin}
+use Rattle.std.specs.Prelude.{◌≡◌, ℕ, map, is_some, IsTrue}
+use Rattle.protocol.specs.Sets.{Names, among, AreWithin}
 use Rattle.protocol.specs.Networks.{slices_of}
 use Rattle.protocol.specs.Hosts.{History, nodes_of, entries}
 use Rattle.protocol.specs.Isolation.{closure, outs_of, SameCast}
-use Rattle.protocol.specs.Submissions.{answers, concerning_steps, replied_to, config_of, SameReserves, roster_names}
+use Rattle.protocol.specs.Submissions.{answers, concerning_steps, replied_to, config_of, SameReserves, roster_names, without_size}
 use Rattle.protocol.specs.Crowds.{Crowd, IsCrowd}
 use Rattle.protocol.specs.Crowds.Crowd.{CastDiffers, RosterDiffers, OutsideRoster, InputsDiffer, Same}
 use Rattle.network.specs.Decoding.{reading}
 use Rattle.crowds.specs.declared.verdict.Crowd.{Crowd as CrowdVerdict}
-use Rattle.crowds.specs.declared.verdict.Crowd.TheVariants as told
+use Rattle.crowds.specs.declared.verdict.Crowd.TheVariants as code
 
-abbrev pub meant : CrowdVerdict → Crowd
-meant (told.CastDiffers u) = CastDiffers u
-meant told.RosterDiffers = RosterDiffers
-meant (told.OutsideRoster u) = OutsideRoster u
-meant (told.InputsDiffer place) = InputsDiffer place
-meant (told.Same replies) = Same replies
+abbrev pub defined_crowd : CrowdVerdict → Crowd
+defined_crowd (code.CastDiffers u) = CastDiffers u
+defined_crowd code.RosterDiffers = RosterDiffers
+defined_crowd (code.OutsideRoster u) = OutsideRoster u
+defined_crowd (code.InputsDiffer place) = InputsDiffer place
+defined_crowd (code.Same replies) = Same replies
 
 -- it is the verdict of two submissions, read by this host's decoder
 abbrev pub IsCrowdHere : History → History → ℕ → ℕ → ℕ → CrowdVerdict → Type 0
-IsCrowdHere one other g i v c = IsCrowd reading one other g i v (meant c)
+IsCrowdHere one other g i v c = IsCrowd reading one other g i v (defined_crowd c)
 
 -- Reserved shares, of these two submissions and this host's decoder: if the closure of v in the first has the same
 -- hosted members in both, both networks have one roster with equal shares and equal budgets of open slots, the closure
@@ -35,3 +35,11 @@ AreNeverCrowdedOut one other g i v =
     → concerning_steps R i (answers reading one g) ≡ concerning_steps R i (answers reading other g)
     → (replied_to R i (answers reading one g) ≡ replied_to R i (answers reading other g))
     × ((u : ℕ) → IsTrue (R u) → IsTrue (is_some (slices_of (nodes_of one.configs g) u)) → outs_of i u (entries reading one g) ≡ outs_of i u (entries reading other g))
+
+-- Of this host's decoder: if the submitted steps that concern a set at a slot are the same in order but for the lengths
+-- of what is delivered, they are the same. So it is premise enough that envelopes are.
+abbrev pub LengthsFollowHere : Type 0
+LengthsFollowHere = (one other : History) (g i : ℕ) (R : Names) →
+    map without_size (concerning_steps R i (answers reading one g))
+    ≡ map without_size (concerning_steps R i (answers reading other g))
+    → concerning_steps R i (answers reading one g) ≡ concerning_steps R i (answers reading other g)

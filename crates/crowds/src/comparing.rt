@@ -7,7 +7,7 @@ ghost use Rattle.protocol.specs.Networks.{slices_of};
 ghost use Rattle.protocol.specs.Sets.{among};
 ghost use Rattle.closure.specs.Announcing.{names_of};
 ghost use Rattle.network.specs.Decoding.{reading};
-ghost use Rattle.crowds.specs.Crowding.{AreNeverCrowdedOut, IsCrowdHere};
+ghost use Rattle.crowds.specs.Crowding.{AreNeverCrowdedOut, IsCrowdHere, LengthsFollowHere};
 
 use crate::cast::{least_unlike, slices_among};
 use crate::inputs::first_difference;
@@ -101,3 +101,10 @@ fn are_never_crowded_out(one: &Submission, other: &Submission, subject: &Subject
 {
     members_are_never_crowded_out();
 }
+
+/// Submitted steps are compared with the lengths of deliveries, which adds nothing here: by this host's
+/// decoder an envelope tells the length of its delivery. So what [`crowd`] promises of steps that are the
+/// same holds of those that are the same but for lengths.
+pub fn lengths_follow_here()
+    ensures { LengthsFollowHere }
+{}

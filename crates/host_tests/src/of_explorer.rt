@@ -20,7 +20,7 @@ const Z: u64 = 90 << 56;
 
 /// A journal of two hosted nodes in which nothing has happened.
 #[derive(Drop)]
-struct Hosts {
+struct TwoNodes {
     lesser: NodeId,
     lesser_slices: Nested,
     greater: NodeId,
@@ -28,7 +28,7 @@ struct Hosts {
     ghost ascending: { lesser < greater },
 }
 
-impl Announcements for Hosts {
+impl Announcements for TwoNodes {
     ghost use Rattle.std.specs.Prelude.{[], ◌∷◌};
 
     ghost nodes = { λ s. (record { name = s.lesser; slices = s.lesser_slices }) ∷ (record { name = s.greater; slices = s.greater_slices }) ∷ [] };
@@ -80,8 +80,8 @@ fn slices(alloc: Global, threshold: u8, words: &[u64]) -> Result<Nested, Fail> {
 }
 
 /// A depends on two of B, C and D, and D on Z alone.
-fn example(alloc: Global) -> Result<Hosts, Fail> {
-    Ok(Hosts {
+fn example(alloc: Global) -> Result<TwoNodes, Fail> {
+    Ok(TwoNodes {
         lesser: NodeId::from_words(A, 0, 0, 0),
         lesser_slices: slices(alloc, 2, &[B, C, D])?,
         greater: NodeId::from_words(D, 0, 0, 0),

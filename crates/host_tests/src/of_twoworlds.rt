@@ -65,7 +65,7 @@ fn acceptance(alloc: Global, counter: u32, letter: u8) -> Option<Statement> {
     })
 }
 
-/// That is delivered to node 1 at slot 1, from a node that wants itself alone.
+/// The delivery of a statement to node 1 at slot 1, from a node that wants itself alone.
 fn delivery_from(alloc: Global, sender: u64, body: Option<Statement>) -> Option<Event> {
     let own = slices(alloc, 1, &[sender])?;
     let envelope = Envelope::new(name(sender), 1, own, body?)?;

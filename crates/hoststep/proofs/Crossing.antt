@@ -142,11 +142,11 @@ config_sync = search (sendable, crosses, host_sync, name.the_sync, budgets.the_s
 pub config_send : IsSend (NetConfig.the_row)
 config_send = search (sendable, crosses, host_send, name.the_send, budgets.the_send, roster.the_send) depth 40
 
-told_sync : IsSync (EmissionLog.the_row)
-told_sync = search (sendable, crosses, filed_sync) depth 40
+log_sync : IsSync (EmissionLog.the_row)
+log_sync = search (sendable, crosses, filed_sync) depth 40
 
-told_send : IsSend (EmissionLog.the_row)
-told_send = search (sendable, crosses, filed_send) depth 40
+log_send : IsSend (EmissionLog.the_row)
+log_send = search (sendable, crosses, filed_send) depth 40
 
 tallies_sync : IsSync (Tallies.the_row)
 tallies_sync = search (sendable, crosses, tally.the_sync) depth 40
@@ -155,10 +155,10 @@ tallies_send : IsSend (Tallies.the_row)
 tallies_send = search (sendable, crosses, tally.the_send) depth 40
 
 instance_sync : IsSync (Instance.the_row)
-instance_sync = search (sendable, crosses, node_sync, told_sync, tallies_sync) depth 40
+instance_sync = search (sendable, crosses, node_sync, log_sync, tallies_sync) depth 40
 
 instance_send : IsSend (Instance.the_row)
-instance_send = search (sendable, crosses, node_send, told_send, tallies_send) depth 40
+instance_send = search (sendable, crosses, node_send, log_send, tallies_send) depth 40
 
 slot_sync : IsSync (OpenSlot.the_row)
 slot_sync = search (sendable, crosses, instance_sync) depth 40

@@ -121,55 +121,55 @@ entries-then h ls g event j l c at =
 
 -- where the event is not of the network, or it is refused, there are no more entries
 stays : (h : History) (ls : List Log) (g : ℕ) (event : Event) (j : ℕ) (l : Log) → AreJournalsOf h ls → log_at ls j ≡ Some l → (g == j) ≡ false → l.entries ≡ entries reading (and_then h g event) j
-stays h ls g event j l told at other =
-    told.entries j l at ∙ history-journal h ls j l told.configs at
+stays h ls g event j l own_is at other =
+    own_is.entries j l at ∙ history-journal h ls j l own_is.configs at
     ∙ ap (journal (new_net l.config)) (sym (append-nil (steps_to j (steps_of reading h.calls))) ∙ ap (λ b. steps_to j (steps_of reading h.calls) ++ (if b then step_of event ∷ [] else [])) (sym other))
-    ∙ sym (entries-then h ls g event j l told.configs at)
+    ∙ sym (entries-then h ls g event j l own_is.configs at)
 
 -- what the network of the event has then
 goes-on : (h : History) (ls : List Log) (g : ℕ) (event : Event) (l : Log) → AreJournalsOf h ls → log_at ls g ≡ Some l
     → l.entries ++ journal_with (step_of event) (replies l (step_of event)) [] ≡ entries reading (and_then h g event) g
-goes-on h ls g event l told at =
+goes-on h ls g event l own_is at =
     let e = step_of event in
     let net = new_net l.config in
     let steps = steps_to g (steps_of reading h.calls) in
-    let is : l.entries ≡ journal net steps = told.entries g l at ∙ history-journal h ls g l told.configs at in
+    let is : l.entries ≡ journal net steps = own_is.entries g l at ∙ history-journal h ls g l own_is.configs at in
     let self : (g == g) ≡ true = equal g g refl in
     ap (λ (xs : List Entry). xs ++ journal_with e (net_step (net_after net xs) e).1 []) is
     ∙ sym (journal-snoc steps net e)
     ∙ ap (λ b. journal net (steps ++ (if b then e ∷ [] else []))) (sym self)
-    ∙ sym (entries-then h ls g event g l told.configs at)
+    ∙ sym (entries-then h ls g event g l own_is.configs at)
 
 -- the journals are those of the history with the event, but where memory was wanting
-pub told-then : (h : History) (ls new : List Log) (g : ℕ) (event : Event) (r : Result (List Out) Refusal) → AreJournalsOf h ls → IsAnsweredAt (log_at ls g) ls (step_of event) r new → (r ≡ Err NoMemory → ⊥) → AreJournalsOf (and_then h g event) new
-told-then h ls new g event r told answer memory = go (log_at ls g) refl r memory answer
+pub history-then : (h : History) (ls new : List Log) (g : ℕ) (event : Event) (r : Result (List Out) Refusal) → AreJournalsOf h ls → IsAnsweredAt (log_at ls g) ls (step_of event) r new → (r ≡ Err NoMemory → ⊥) → AreJournalsOf (and_then h g event) new
+history-then h ls new g event r own_is answer memory = go (log_at ls g) refl r memory answer
   where
     e : Step
     e = step_of event
 
     same : new ≡ ls → ((l : Log) → log_at ls g ≡ Some l → l.entries ≡ entries reading (and_then h g event) g) → AreJournalsOf (and_then h g event) new
-    same is own = subst (λ (ks : List Log). AreJournalsOf (and_then h g event) ks) (sym is) (record { configs = told.configs; entries = λ j l at. each j l at (g == j) refl })
+    same is own = subst (λ (ks : List Log). AreJournalsOf (and_then h g event) ks) (sym is) (record { configs = own_is.configs; entries = λ j l at. each j l at (g == j) refl })
       where
         each : (j : ℕ) (l : Log) → log_at ls j ≡ Some l → (b : Bool) → (g == j) ≡ b → l.entries ≡ entries reading (and_then h g event) j
         each j l at true y = subst (λ n. l.entries ≡ entries reading (and_then h g event) n) (eqb-true g j y) (own l (ap (log_at ls) (eqb-true g j y) ∙ at))
-        each j l at false y = stays h ls g event j l told at y
+        each j l at false y = stays h ls g event j l own_is at y
 
     go : (o : Option Log) → log_at ls g ≡ o → (r : Result (List Out) Refusal) → (r ≡ Err NoMemory → ⊥) → IsAnsweredAt o ls e r new → AreJournalsOf (and_then h g event) new
     go None at r memory (unknown, is) = same is (λ l found. absurd (cc))
     go (Some l) at (Ok os) memory (entered_is, is) = subst (λ (ks : List Log). AreJournalsOf (and_then h g event) ks) (sym is) (record {
-      configs = set-configs ls g l (with_entry l e os) at refl ∙ told.configs;
+      configs = set-configs ls g l (with_entry l e os) at refl ∙ own_is.configs;
       entries = λ j m found. each j m found (g == j) refl;
     })
       where
         own : (with_entry l e os).entries ≡ entries reading (and_then h g event) g
-        own = ap (λ (p : Reply). l.entries ++ journal_with e p []) (sym (done l e os entered_is)) ∙ goes-on h ls g event l told at
+        own = ap (λ (p : Reply). l.entries ++ journal_with e p []) (sym (done l e os entered_is)) ∙ goes-on h ls g event l own_is at
 
         each : (j : ℕ) (m : Log) → log_at (logs_set (with_entry l e os) ls) j ≡ Some m → (b : Bool) → (g == j) ≡ b → m.entries ≡ entries reading (and_then h g event) j
         each j m found true y =
             let here : log_at (logs_set (with_entry l e os) ls) g ≡ Some (with_entry l e os) = set-at ls g l (with_entry l e os) at (has-number ls g l at) in
             let q : with_entry l e os ≡ m = let z : Some (with_entry l e os) ≡ Some m = sym here ∙ ap (log_at (logs_set (with_entry l e os) ls)) (eqb-true g j y) ∙ found in cc in
             sym (ap (λ (x : Log). x.entries) q) ∙ subst (λ n. (with_entry l e os).entries ≡ entries reading (and_then h g event) n) (eqb-true g j y) own
-        each j m found false y = stays h ls g event j m told (sym (set-other ls g j (with_entry l e os) (has-number ls g l at) y) ∙ found) y
+        each j m found false y = stays h ls g event j m own_is (sym (set-other ls g j (with_entry l e os) (has-number ls g l at) y) ∙ found) y
     go (Some l) at (Err x) memory (why, is) = same is own
       where
         own : (m : Log) → log_at ls g ≡ Some m → m.entries ≡ entries reading (and_then h g event) g
@@ -180,10 +180,10 @@ told-then h ls new g event r told answer memory = go (log_at ls g) refl r memory
 
             by : IsRefused l e x → m.entries ≡ entries reading (and_then h g event) g
             by (inl none) = absurd (memory (ap (λ (z : Refusal). Err z) none))
-            by (inr first) = sym (ap (λ (z : Log). z.entries) q) ∙ sym (append-nil l.entries) ∙ ap (λ (p : Reply). l.entries ++ journal_with e p []) (sym (refused l e x first)) ∙ goes-on h ls g event l told at
+            by (inr first) = sym (ap (λ (z : Log). z.entries) q) ∙ sym (append-nil l.entries) ∙ ap (λ (p : Reply). l.entries ++ journal_with e p []) (sym (refused l e x first)) ∙ goes-on h ls g event l own_is at
 
-pub told-answered : (h : History) (ls new : List Log) (g : ℕ) (event : Event) (r : Result (Vec Out Global) Refusal) → AreJournalsOf h ls → IsAnswered ls g event r new → r ≢ Err NoMemory → AreJournalsOf (and_then h g event) new
-told-answered h ls new g event r told answer memory = told-then h ls new g event (items_of r) told answer (go r memory)
+pub history-answered : (h : History) (ls new : List Log) (g : ℕ) (event : Event) (r : Result (Vec Out Global) Refusal) → AreJournalsOf h ls → IsAnswered ls g event r new → r ≢ Err NoMemory → AreJournalsOf (and_then h g event) new
+history-answered h ls new g event r own_is answer memory = history-then h ls new g event (items_of r) own_is answer (go r memory)
   where
     go : (r : Result (Vec Out Global) Refusal) → r ≢ Err NoMemory → items_of r ≡ Err NoMemory → ⊥
     go (Ok v) memory e = cc
@@ -237,15 +237,15 @@ none-left g (c ∷ cs) = go (c.0 == g) refl (none-left g cs)
     go true y ih = ih
     go false y ih = rw y ih
 
-pub told-joined : (h : History) (ls : List Log) (config : Config) → AreJournalsOf h ls → log_at ls config.number ≡ None → AreJournalsOf (with_new_network config h) (logs_with (record { config = config; entries = [] }) ls)
+pub history-joined : (h : History) (ls : List Log) (config : Config) → AreJournalsOf h ls → log_at ls config.number ≡ None → AreJournalsOf (with_new_network config h) (logs_with (record { config = config; entries = [] }) ls)
 unfolding journal
-told-joined h ls config told none = record { configs = configs-are; entries = λ j m found. each j m found (config.number == j) refl }
+history-joined h ls config own_is none = record { configs = configs-are; entries = λ j m found. each j m found (config.number == j) refl }
   where
     l : Log
     l = record { config = config; entries = [] }
 
     configs-are : map (λ k. k.config) (logs_with l ls) ≡ configs_with config h.configs
-    configs-are = with-configs ls l ∙ ap (configs_with config) told.configs
+    configs-are = with-configs ls l ∙ ap (configs_with config) own_is.configs
 
     each : (j : ℕ) (m : Log) → log_at (logs_with l ls) j ≡ Some m → (b : Bool) → (config.number == j) ≡ b → m.entries ≡ entries reading (with_new_network config h) j
     each j m found true y =
@@ -256,7 +256,7 @@ told-joined h ls config told none = record { configs = configs-are; entries = λ
         ∙ sym (history-journal (with_new_network config h) (logs_with l ls) j m configs-are found)
     each j m found false y =
         let at : log_at ls j ≡ Some m = sym (with-other ls l j y) ∙ found in
-        told.entries j m at ∙ history-journal h ls j m told.configs at ∙ ap (journal (new_net m.config)) (sym (others-left config.number j h.calls y))
+        own_is.entries j m at ∙ history-journal h ls j m own_is.configs at ∙ ap (journal (new_net m.config)) (sym (others-left config.number j h.calls y))
         ∙ sym (history-journal (with_new_network config h) (logs_with l ls) j m configs-are found)
 
 -- ---- a journal more
@@ -297,14 +297,14 @@ adopted-steps c own h j =
     ap (steps_to j) (map-append (λ (x : ℕ × Event). (x.0, step_of x.1)) (filter (λ x. not (x.0 == c.number)) h.calls) (filter (λ x. x.0 == c.number) own.calls))
     ∙ steps-both j (steps_of reading (filter (λ x. not (x.0 == c.number)) h.calls)) (steps_of reading (filter (λ x. x.0 == c.number) own.calls))
 
-pub told-adopted : (h own : History) (ls : List Log) (l : Log) → AreJournalsOf h ls → AreJournalsOf own (l ∷ []) → log_at ls l.config.number ≡ None → AreJournalsOf (with_history_of l.config own h) (logs_with l ls)
-told-adopted h own ls l told mine none = record { configs = configs-are; entries = λ j m found. each j m found (l.config.number == j) refl }
+pub history-adopted : (h own : History) (ls : List Log) (l : Log) → AreJournalsOf h ls → AreJournalsOf own (l ∷ []) → log_at ls l.config.number ≡ None → AreJournalsOf (with_history_of l.config own h) (logs_with l ls)
+history-adopted h own ls l own_is mine none = record { configs = configs-are; entries = λ j m found. each j m found (l.config.number == j) refl }
   where
     g : ℕ
     g = l.config.number
 
     configs-are : map (λ k. k.config) (logs_with l ls) ≡ configs_with l.config h.configs
-    configs-are = with-configs ls l ∙ ap (configs_with l.config) told.configs
+    configs-are = with-configs ls l ∙ ap (configs_with l.config) own_is.configs
 
     there : log_at (l ∷ []) g ≡ Some l
     there = rw (equal g g refl) refl
@@ -320,7 +320,7 @@ told-adopted h own ls l told mine none = record { configs = configs-are; entries
         ∙ sym (history-journal (with_history_of l.config own h) (logs_with l ls) j m configs-are found)
     each j m found false y =
         let at : log_at ls j ≡ Some m = sym (with-other ls l j y) ∙ found in
-        told.entries j m at ∙ history-journal h ls j m told.configs at
+        own_is.entries j m at ∙ history-journal h ls j m own_is.configs at
         ∙ ap (journal (new_net m.config)) (sym (others-left g j h.calls y) ∙ sym (append-nil (steps_to j (steps_of reading (filter (λ x. not (x.0 == g)) h.calls))))
         ∙ ap (λ (xs : List Step). steps_to j (steps_of reading (filter (λ x. not (x.0 == g)) h.calls)) ++ xs) (sym (none-own g j own.calls y)) ∙ sym (adopted-steps l.config own h j))
         ∙ sym (history-journal (with_history_of l.config own h) (logs_with l ls) j m configs-are found)

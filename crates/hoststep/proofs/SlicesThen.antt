@@ -5,7 +5,7 @@ use Rattle.std.proofs.lemmas.Bool.{and_parts, eqb-true, false≢true}
 use Rattle.types.specs.Trees.{Slices}
 use Rattle.types.specs.declared.event.Refusal.{Refusal}
 use Rattle.types.specs.declared.event.Refusal.TheVariants.{NoSuchNode, SlotNotOpen}
-use Rattle.protocol.specs.Networks.{Net, Instance, Slot, Step, with_draw, effect, first_that, room_test, is_hosted, is_open, node_where_open, net_step, nodes_of_new_slot, instances_at, state_and_reply, size_of, slices_of, source, tests}
+use Rattle.protocol.specs.Networks.{Net, Instance, Slot, Step, with_draw, effect, first_that, room_test, is_hosted, is_open, node_where_open, net_step, instances_of_new_slot, instances_at, state_and_reply, size_of, slices_of, source, tests}
 use Rattle.protocol.specs.Networks.Step.{Opens, Closes, Proposes, Delivers, Hears, NominationTimerFires, BallotTimerFires, Reslices}
 use Rattle.protocol.specs.Hosts.{Config, Entry, journal_with, journal, new_net}
 use Rattle.protocol.specs.Runs.{IsRun, net_after, state_of}
@@ -51,7 +51,7 @@ module _ (i u : ℕ) (q : Slices) where
   rests-effect now net (Opens j) free h = go (j == i) refl
     where
       slot : Slot
-      slot = record { number = j; instances = nodes_of_new_slot net.nodes j }
+      slot = record { number = j; instances = instances_of_new_slot net.nodes j }
 
       go : (b : Bool) → (j == i) ≡ b → is_some (instances_at (net.slots ++ slot ∷ []) i) ≡ false → (if b then q else now) ≡ q
       go true y k = refl

@@ -111,6 +111,14 @@ impl<S: Shelf> Journal<S> {
         self.network.slices(slot, node)
     }
 
+    /// Why an event is refused for which somebody else has no room: the first refusal that applies after all
+    /// entries, or else that memory is short. Nothing is changed.
+    pub fn refusal(&self, event: &Event) -> Refusal
+        ensures { IsRefused self.now (step_of event.now) result }
+    {
+        self.network.refusal(event)
+    }
+
     /// One event, entered in the journal where it is not refused; what it gives out is answered whole.
     ///
     /// An error is the first refusal that applies, or says that memory is short; the journal is as it was.
@@ -135,8 +143,8 @@ impl<S: Shelf> Journal<S> {
     {
         let number = self.entries.len();
         let Ok(copy) = event.try_copy(self.alloc) else {
-            // Memory: the copy has none.
-            return Err(Refusal::NoMemory);
+            // Memory: the copy has none; a refusal that applies comes first.
+            return Err(self.refusal(&event));
         };
         let entered = self.enter(copy, 2)?;
         let (outs, answer) = both_copies(entered.copies);
@@ -161,8 +169,8 @@ impl<S: Shelf> Journal<S> {
             || self.given.reserve(1).is_err()
             || self.room.make(self.alloc, &event).is_err()
         {
-            // Memory: the entry has no room.
-            return Err(Refusal::NoMemory);
+            // Memory: the entry has no room; a refusal that applies comes first.
+            return Err(self.refusal(&event));
         }
         let applied = self.network.apply(&event, copies)?;
         let Outcome {

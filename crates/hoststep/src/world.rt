@@ -79,7 +79,7 @@ impl<S: Shelf> World<S> {
         ensures fresh { OnOk result (log_at self.old config.number ≡ None) }
         ensures err { IfErr result (IsNotAdded self.old config.number) }
         ensures same { OnErr result (self.new ≡ self.old) }
-        ensures told { (h : History) → AreJournalsOf h self.old → OnOk result (AreJournalsOf (with_new_network config h) self.new) }
+        ensures history { (h : History) → AreJournalsOf h self.old → OnOk result (AreJournalsOf (with_new_network config h) self.new) }
     {
         match self.join(Journal::new(self.alloc, config, shelf)) {
             Ok(()) => Ok(()),
@@ -100,7 +100,7 @@ impl<S: Shelf> World<S> {
         ensures fresh { OnOk result (log_at self.old journal.config.number ≡ None) }
         ensures back { IfErr result (λ j. j ≡ journal) }
         ensures same { OnErr result (self.new ≡ self.old) }
-        ensures told { (h own : History) → AreJournalsOf h self.old → AreJournalsOf own (journal ∷ []) → OnOk result (AreJournalsOf (with_history_of journal.config own h) self.new) }
+        ensures history { (h own : History) → AreJournalsOf h self.old → AreJournalsOf own (journal ∷ []) → OnOk result (AreJournalsOf (with_history_of journal.config own h) self.new) }
     {
         match self.join(journal) {
             Ok(()) => Ok(()),
@@ -131,7 +131,7 @@ impl<S: Shelf> World<S> {
     pub fn apply(&mut self, number: u32, event: Event) -> Result<Vec<Out>, Refusal>
         ensures answer { IsAnswered self.old number event result self.new }
         ensures same { OnErr result (self.new ≡ self.old) }
-        ensures told { (h : History) → AreJournalsOf h self.old → result ≢ Err NoMemory → AreJournalsOf (and_then h number event) self.new }
+        ensures history { (h : History) → AreJournalsOf h self.old → result ≢ Err NoMemory → AreJournalsOf (and_then h number event) self.new }
     {
         match self.place(number) {
             Ok(at) => self.journals[at].apply(event),

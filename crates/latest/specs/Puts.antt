@@ -51,8 +51,8 @@ with_known_row r table =
     with_row_at (place_of_row (sents_of table) (sent_of r).sender (kind_of (sent_of r).body)) r table
 
 -- the table from which this answer led to that one
-abbrev pub undone : Put → List Filed → List Filed
-undone Stale table = table
-undone NoMemory table = table
-undone Added table = without_last table
-undone (Replaced r) table = with_known_row r table
+abbrev pub before_put : Put → List Filed → List Filed
+before_put Stale table = table
+before_put NoMemory table = table
+before_put Added table = without_last table
+before_put (Replaced r) table = with_known_row r table

@@ -3,7 +3,7 @@
 ghost use Rattle.std.specs.Prelude.{◌≡◌, ◌≢◌, ◌↔◌, ◌++◌, ◌∷◌, [], ◌<◌, ◌^◌, List, IfOk, IfSome, OnErr, OnOk, IsTrue, None, Some, false, length, option_map, slice_get, slice_index_or, slice_set, true, vec_capacity, vec_len};
 ghost use Rattle.envstore.specs.Archives.{AreFiled, IsFiled, sent_of, sents_of};
 ghost use Rattle.latest.specs.Places.{ascends, index_without_place, place_of_row};
-ghost use Rattle.latest.specs.Puts.{IsFiledPut, IsPut, offer_of, undone, with_known_row, without_last};
+ghost use Rattle.latest.specs.Puts.{IsFiledPut, IsPut, offer_of, before_put, with_known_row, without_last};
 ghost use Rattle.latest.specs.Senders.{senders};
 ghost use Rattle.protocol.specs.Rows.{has_single_rows, is_taken, table_with_offer, row, table_after};
 ghost use Rattle.types.specs.Statements.{Sent, kind_of};
@@ -128,7 +128,7 @@ impl Table {
         requires rows { AreFiled archive.now self.old }
         requires envelope { IsFiled archive.now envelope }
         ensures put { IsPut self.old (sent_of envelope) result self.new }
-        ensures back { undone result self.new ≡ self.old }
+        ensures back { before_put result self.new ≡ self.old }
         ensures filed { AreFiled archive.now self.new }
         ensures known { IsFiledPut archive.now result }
     {
@@ -150,7 +150,7 @@ impl Table {
     pub fn undo<S: envstore::Places>(&mut self, archive: &Archive<S>, put: Put)
         requires rows { AreFiled archive.now self.old }
         requires known { IsFiledPut archive.now put }
-        ensures { self.new ≡ undone put self.old }
+        ensures { self.new ≡ before_put put self.old }
     {
         match put {
             Put::Stale | Put::NoMemory => {}

@@ -4,7 +4,7 @@
 
 ghost use Rattle.std.specs.Prelude.{◌≡◌, IfOk, IfSome, IsTrue, List, None, Some, is_some, box_value, option_map};
 ghost use Rattle.envstore.specs.Archives.{AreFiled, IsFiled, sent_of, sents_of};
-ghost use Rattle.latest.specs.Puts.{IsFiledPut, IsPut, undone};
+ghost use Rattle.latest.specs.Puts.{IsFiledPut, IsPut, before_put};
 ghost use Rattle.protocol.specs.Rows.{with_row};
 ghost use Rattle.protocol.specs.Sets.{IsAscending};
 ghost use Rattle.protocol.specs.Stirring.{ReachesSame};
@@ -105,7 +105,7 @@ pub(crate) fn put_row<S: Places>(
     requires envelope { IsFiled row.archive.now row.envelope }
     requires known { KnowsReach configured.now (sents_of table.old) (reach_in known.old) }
     ensures put { IsPut table.old (sent_of row.entry.envelope) result.0 table.new }
-    ensures back { undone result.0 table.new ≡ table.old }
+    ensures back { before_put result.0 table.new ≡ table.old }
     ensures known { KnowsReach configured.now (sents_of table.new) (reach_in known.new) }
     ensures reach { IsTrue result.1 → ReachesSame configured.now.name configured.now.slices (sents_of table.old) (sents_of table.new) }
     ensures filed { AreFiled row.entry.archive.now table.new }

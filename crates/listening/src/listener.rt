@@ -2,7 +2,7 @@
 
 ghost use Rattle.std.specs.Prelude.{◌≡◌, IfOk, IsTrue, List, OnErr, OnOk, [], box_value, false, is_ok, is_some};
 ghost use Rattle.envstore.specs.Archives.{AreFiled, IsFiled, sent_of, sents_of};
-ghost use Rattle.latest.specs.Puts.{IsFiledPut, IsPut, undone};
+ghost use Rattle.latest.specs.Puts.{IsFiledPut, IsPut, before_put};
 ghost use Rattle.listening.specs.Listening.{IsKnownOf, IsStranger};
 ghost use Rattle.protocol.specs.Rows.{is_taken, table_with_offer};
 ghost use Rattle.protocol.specs.Stirring.{ReachesSame};
@@ -140,7 +140,7 @@ impl Listener {
         requires rows { AreFiled archive.now self.old.table }
         requires envelope { IsFiled archive.now envelope }
         ensures put { IsPut self.old.table (sent_of envelope) result.0 self.new.table }
-        ensures back { undone result.0 self.new.table ≡ self.old.table }
+        ensures back { before_put result.0 self.new.table ≡ self.old.table }
         ensures reach { IsTrue result.1 → ReachesSame self.old.configured.name self.old.configured.slices (sents_of self.old.table) (sents_of self.new.table) }
         ensures same { self.new.configured ≡ self.old.configured }
         ensures filed { AreFiled archive.now self.new.table }
@@ -159,7 +159,7 @@ impl Listener {
     pub fn undo<S: Places>(&mut self, archive: &Archive<S>, put: Put)
         requires rows { AreFiled archive.now self.old.table }
         requires known { IsFiledPut archive.now put }
-        ensures { self.new ≡ record self.old { table = undone put self.old.table } }
+        ensures { self.new ≡ record self.old { table = before_put put self.old.table } }
     {
         self.table.undo(archive, put);
         self.known = None;

@@ -13,6 +13,7 @@ mod Openings
 mod Placed
 mod Planned
 mod Plans
+mod ReadLengths
 pub mod Readings
 mod SlicesAt
 mod SlotPlaceLaws

@@ -4,7 +4,7 @@ use Rattle.std.specs.List.{All}
 use Rattle.types.specs.Statements.{Sent}
 use Rattle.types.specs.declared.event.Refusal.{Refusal}
 use Rattle.types.specs.declared.event.Refusal.TheVariants.{SlotNotOpen, SlotOpenAlready, TooManySlots}
-use Rattle.protocol.specs.Networks.{Net, Instance, Slot, effect, first_that, room_test, is_open, nodes_of_new_slot, source, tests}
+use Rattle.protocol.specs.Networks.{Net, Instance, Slot, effect, first_that, room_test, is_open, instances_of_new_slot, source, tests}
 use Rattle.protocol.specs.Networks.Step.{Opens, Closes}
 use Rattle.network.specs.Deeds.{IsPlan, IsRoom, IsSlotThere, index_of_slot}
 use Rattle.network.specs.Lodgings.{IsLodged, IsUncounted, Lodging, Lodgings, instance_in, seat_of, seats_of, slot_of}
@@ -61,12 +61,12 @@ seats-instances [] = refl
 seats-instances (l ∷ ls) = ap (λ (ps : List Instance). instance_in l ∷ ps) (seats-instances ls)
 
 pub opens-plan : (m : Standing) (i : ℕ) (d : Drawn) (x : Lodgings) → index_of_slot (map slot_of (machine_of m).slots) i ≡ None → not (nat_lt (length m.slots) m.config.budgets.slots) ≡ false → IsRoom m (λ o. source o (Opens i)) (Ok d)
-    → x.number ≡ i → map instance_in x.instances ≡ nodes_of_new_slot m.config.nodes i → ((archive : List Sent) → All (IsLodged archive) x.instances) → All IsUncounted x.instances → IsPlan m (Opens i) (record { deed = Open x; drawn = d; size = 0 })
+    → x.number ≡ i → map instance_in x.instances ≡ instances_of_new_slot m.config.nodes i → ((archive : List Sent) → All (IsLodged archive) x.instances) → All IsUncounted x.instances → IsPlan m (Opens i) (record { deed = Open x; drawn = d; size = 0 })
 unfolding effect
 opens-plan m i d x q l room number instances lodged counts = record {
   allowed = λ net s. opens-few m net i q l s ∙ passes (room_test net (source net.roster (Opens i))) [] (room.1 net s);
   slots = λ net s.
-      let is : map (λ y. y.instance) (map seat_of x.instances) ≡ nodes_of_new_slot net.nodes i = seats-instances x.instances ∙ instances ∙ ap (λ (n : Net). nodes_of_new_slot n.nodes i) (sym s.is) in
+      let is : map (λ y. y.instance) (map seat_of x.instances) ≡ instances_of_new_slot net.nodes i = seats-instances x.instances ∙ instances ∙ ap (λ (n : Net). instances_of_new_slot n.nodes i) (sym s.is) in
       (λ j. net.slots ++ record { number = number j; instances = is j } ∷ []);
   outs = λ net s. refl;
   named = ap Opens (sym number);

@@ -9,7 +9,7 @@ use Rattle.types.specs.declared.event.NodeEvent.{NodeEvent}
 use Rattle.std.proofs.Math.Seq.{drop-cons}
 use Rattle.std.proofs.lemmas.List.{map-append}
 use Rattle.protocol.specs.Nodes.{fresh}
-use Rattle.protocol.specs.Networks.{HostedNode, Instance, nodes_of_new_slot}
+use Rattle.protocol.specs.Networks.{HostedNode, Instance, instances_of_new_slot}
 use Rattle.envstore.specs.declared.filed.Filed.{Filed}
 use Rattle.envstore.specs.Archives.{AreFiled, IsFiled, Keeps}
 use Rattle.protocol.specs.Hosts.{Config}
@@ -66,13 +66,13 @@ one-more-uncounted xs ys x is own heard all =
     subst (λ (zs : List Lodging). All IsUncounted zs) (sym is) (All-append IsUncounted xs (x ∷ []) all (All-cons IsUncounted x [] one (All-nil IsUncounted)))
 
 -- one hosted node more
-pub nodes_of_new_slot-more : (old new : List Lodging) (start : List Instance) (nodes : List HostedNode) (i n : ℕ) (h : HostedNode) (x : Lodging) → i < length nodes → h ≡ get_or nodes i h → new ≡ old ++ x ∷ []
-    → instance_in x ≡ record { node = fresh n h.name h.slices; emitted = [] } → map instance_in old ++ nodes_of_new_slot (drop i nodes) n ≡ start → map instance_in new ++ nodes_of_new_slot (drop (i + 1) nodes) n ≡ start
-unfolding nodes_of_new_slot
-nodes_of_new_slot-more old new start nodes i n h x l is more made before =
+pub instances_of_new_slot-more : (old new : List Lodging) (start : List Instance) (nodes : List HostedNode) (i n : ℕ) (h : HostedNode) (x : Lodging) → i < length nodes → h ≡ get_or nodes i h → new ≡ old ++ x ∷ []
+    → instance_in x ≡ record { node = fresh n h.name h.slices; emitted = [] } → map instance_in old ++ instances_of_new_slot (drop i nodes) n ≡ start → map instance_in new ++ instances_of_new_slot (drop (i + 1) nodes) n ≡ start
+unfolding instances_of_new_slot
+instances_of_new_slot-more old new start nodes i n h x l is more made before =
     let z : suc i ≡ i + 1 = omega arith in
-    let rest = nodes_of_new_slot (drop (i + 1) nodes) n in
-    let next : nodes_of_new_slot (drop i nodes) n ≡ instance_in x ∷ rest = ap (λ (hs : List HostedNode). nodes_of_new_slot hs n) (drop-cons nodes i h l ∙ (λ j. sym is j ∷ drop (z j) nodes)) ∙ ap (λ (q : Instance). q ∷ rest) (sym made) in
+    let rest = instances_of_new_slot (drop (i + 1) nodes) n in
+    let next : instances_of_new_slot (drop i nodes) n ≡ instance_in x ∷ rest = ap (λ (hs : List HostedNode). instances_of_new_slot hs n) (drop-cons nodes i h l ∙ (λ j. sym is j ∷ drop (z j) nodes)) ∙ ap (λ (q : Instance). q ∷ rest) (sym made) in
     ap (λ (ls : List Lodging). map instance_in ls ++ rest) more ∙ ap (λ (ps : List Instance). ps ++ rest) (map-append instance_in old (x ∷ [])) ∙ append_assoc (map instance_in old) (instance_in x ∷ []) rest
     ∙ sym (ap (λ (ps : List Instance). map instance_in old ++ ps) next) ∙ before
 

@@ -10,7 +10,9 @@ use Rattle.codec.specs.Spelling.{Spells}
 use Rattle.codec.specs.Steps.{IsBytes}
 use Rattle.codec.proofs.EnvelopeLaws.{is_spelled, is_read, is_fault, fault_is}
 use Rattle.protocol.specs.Networks.Reading.{Read, Fault}
+use Rattle.protocol.specs.Submissions.{HasOneLength}
 use Rattle.network.specs.Decoding.{reading_of_result, reading, ReadingsAreExact}
+use Rattle.network.proofs.ReadLengths.{length_is}
 
 -- the number of a fault tells it
 fault_by : ℕ → Wrong
@@ -54,3 +56,8 @@ readings_are_exact bytes fits = record {
   envelope = λ e. (λ h. is_spelled bytes e fits (said-read (decoding bytes) e h), λ h. reads bytes e h);
   fault = λ f. (λ h. is_fault bytes f fits (said-fault (decoding bytes) f h), λ h. reads-fault bytes f fits h);
 }
+
+-- all that is read as one envelope has one length, whether or not it is a list of bytes
+pub has_one_length : HasOneLength reading
+unfolding reading
+has_one_length a b e p q = length_is a e (said-read (decoding a) e p) ∙ sym (length_is b e (said-read (decoding b) e q))

@@ -8,7 +8,7 @@ use Rattle.types.specs.Statements.{Sent}
 use Rattle.types.specs.declared.event.NodeEvent.{NodeEvent}
 use Rattle.types.specs.declared.event.NodeEvent.TheVariants.{Propose, Take, NominationTimer, BallotTimer, Reslice}
 use Rattle.protocol.specs.Nodes.{fresh}
-use Rattle.protocol.specs.Networks.{HostedNode, Net, Instance, Slot, Step, act, act_in, act_known, effect, emission, first_that, room_test, is_open, node_where_open, after_event, nodes_of_new_slot, instances_at, source, tests}
+use Rattle.protocol.specs.Networks.{HostedNode, Net, Instance, Slot, Step, act, act_in, act_known, effect, emission, first_that, room_test, is_open, node_where_open, after_event, instances_of_new_slot, instances_at, source, tests}
 use Rattle.types.specs.declared.event.Refusal.TheVariants.{SlotOpenAlready, TooManySlots}
 use Rattle.protocol.specs.Networks.Reading.{Read, Fault}
 use Rattle.protocol.specs.Networks.Step.{Opens, Closes, Proposes, Delivers, Hears, NominationTimerFires, BallotTimerFires, Reslices}
@@ -67,8 +67,8 @@ neat-known net i u None n = n
 neat-known net i u (Some e) n = neat-act net i u (Take e) n
 
 -- ---- opening
-fresh-names : (nodes : List HostedNode) (i : ℕ) → names_at (nodes_of_new_slot nodes i) ≡ names_of nodes
-unfolding nodes_of_new_slot fresh
+fresh-names : (nodes : List HostedNode) (i : ℕ) → names_at (instances_of_new_slot nodes i) ≡ names_of nodes
+unfolding instances_of_new_slot fresh
 fresh-names [] i = refl
 fresh-names (h ∷ hs) i = ap (λ (ns : List ℕ). h.name ∷ ns) (fresh-names hs i)
 
@@ -121,9 +121,9 @@ push-numbers : (ss : List Slot) (s : Slot) → slot_numbers (ss ++ s ∷ []) ≡
 push-numbers [] s = refl
 push-numbers (x ∷ xs) s = ap (λ (ns : List ℕ). x.number ∷ ns) (push-numbers xs s)
 
-neat-open : (net : Net) (i : ℕ) → is_open net i ≡ false → Neat net.nodes net.slots → Neat net.nodes (net.slots ++ record { number = i; instances = nodes_of_new_slot net.nodes i } ∷ [])
+neat-open : (net : Net) (i : ℕ) → is_open net i ≡ false → Neat net.nodes net.slots → Neat net.nodes (net.slots ++ record { number = i; instances = instances_of_new_slot net.nodes i } ∷ [])
 neat-open net i out n =
-    let s : Slot = record { number = i; instances = nodes_of_new_slot net.nodes i } in
+    let s : Slot = record { number = i; instances = instances_of_new_slot net.nodes i } in
     record {
       names = push-names (λ s. names_at s.instances ≡ names_of net.nodes) net.slots s n.names (fresh-names net.nodes i);
       apart = ap all_differ (push-numbers net.slots s) ∙ push-apart (slot_numbers net.slots) i n.apart (absent net.slots i out);

@@ -125,9 +125,9 @@ impl EmissionLog {
         ensures emitted { OnOk result (sents_of self.new ≡ sents_of self.old ++ emissions (step node.old.node (event_of event)).1) }
         ensures applied { IfOk result (IsGiven (step node.old.node (event_of event)).1 (numbers_by_kind (sents_of self.old) (emissions (step node.old.node (event_of event)).1)) copies) }
         ensures node_err { OnErr result (node.new ≡ node.old) }
-        ensures told_err { OnErr result (self.new ≡ self.old) }
+        ensures log_err { OnErr result (self.new ≡ self.old) }
         ensures rows { AreFiled archive.new node.new.rows }
-        ensures filed_told { AreFiled archive.new self.new }
+        ensures log_filed { AreFiled archive.new self.new }
         ensures filed { IfOk result (λ a. AreFiledOuts archive.new a.outs.items) }
         ensures kept { Keeps archive.old archive.new }
     {

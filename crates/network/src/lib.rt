@@ -23,4 +23,4 @@ mod tallies;
 pub use applied::Outcome;
 pub use network::Network;
 pub use plan::Emission;
-pub use reading::readings_are_exact;
+pub use reading::{envelopes_have_one_length, readings_are_exact};

@@ -3,7 +3,7 @@
 ghost use Rattle.std.specs.Prelude.{◌≡◌, ◌<◌, IfOk, IfSome, List, OnErr, OnOk, length, map, slice_get};
 ghost use Rattle.std.specs.List.{All};
 ghost use Rattle.envstore.specs.Archives.{Keeps};
-ghost use Rattle.protocol.specs.Networks.{emissions, nodes_of_new_slot, outs_at};
+ghost use Rattle.protocol.specs.Networks.{emissions, instances_of_new_slot, outs_at};
 ghost use Rattle.network.specs.Marks.{numbers_by_kind, emitted_at};
 ghost use Rattle.slot.specs.Filings.{AreFiledOuts, IsFiledEvent, event_of};
 ghost use Rattle.network.specs.Changes.{IsChangedAt};
@@ -48,7 +48,7 @@ impl OpenSlot {
         config: &NetConfig,
     ) -> Result<OpenSlot, AllocError>
         ensures number { IfOk result (λ s. s.number ≡ number) }
-        ensures instances { IfOk result (λ s. map instance_in s.instances ≡ nodes_of_new_slot config.now.nodes number) }
+        ensures instances { IfOk result (λ s. map instance_in s.instances ≡ instances_of_new_slot config.now.nodes number) }
         ensures lodged { IfOk result (λ s. (archive : List Sent) → All (IsLodged archive) s.instances) }
         ensures counts { IfOk result (λ s. All IsUncounted s.instances) }
     {
@@ -95,13 +95,13 @@ impl OpenSlot {
 }
 
 /// A fresh instance of each hosted node. An error says that memory is short.
-#[tactic(auto, unfolding(protocol::specs::Networks::nodes_of_new_slot))]
+#[tactic(auto, unfolding(protocol::specs::Networks::instances_of_new_slot))]
 fn fresh_instances(
     alloc: Global,
     number: u64,
     nodes: &[HostedNode],
 ) -> Result<Vec<Instance>, AllocError>
-    ensures instances { IfOk result (λ v. map instance_in v.items ≡ nodes_of_new_slot nodes.now number) }
+    ensures instances { IfOk result (λ v. map instance_in v.items ≡ instances_of_new_slot nodes.now number) }
     ensures lodged { IfOk result (λ v. (archive : List Sent) → All (IsLodged archive) v.items) }
     ensures counts { IfOk result (λ v. All IsUncounted v.items) }
 {

@@ -6,6 +6,7 @@ ghost use Rattle.protocol.specs.Networks.Step.{Opens, Closes, Proposes, Nominati
 ghost use Rattle.configuration.specs.Configs.{index_of_name};
 ghost use Rattle.network.specs.Decoding.{step_of};
 ghost use Rattle.network.specs.Deeds.{IsOwnRoom, IsPlanned, IsPlannedOwn, IsSlotThere, IsSpot, IsSpotRefused};
+ghost use Rattle.network.specs.Standing.{IsRefusal, machine_of};
 ghost use Rattle.network.specs.declared.plan.Deed.TheVariants.{Act};
 ghost use Rattle.slot.specs.Filings.{IsFiledEvent};
 
@@ -17,8 +18,8 @@ use slot::FiledEvent;
 use types::{Event, MAX_VALUE_LENGTH, Nested, NodeId, Refusal, Value};
 
 impl<S: Shelf> Network<S> {
-    /// What is to be done for an event, or the first refusal that applies; or that memory is short, which
-    /// may come before a refusal that applies. Nothing is changed.
+    /// What is to be done for an event, or the first refusal that applies; or that memory is short, which comes
+    /// before a refusal only while the bytes of an envelope are read. Nothing is changed.
     pub(crate) fn plan(&self, event: &Event) -> Result<Plan, Refusal>
         ensures { IsPlanned self.now (step_of event.now) result }
     {
@@ -52,6 +53,18 @@ impl<S: Shelf> Network<S> {
                 counter,
             } => self.plan_ballot_timer(*slot, node, *counter),
             Event::Reslice { slot, node, slices } => self.plan_reslice(*slot, node, slices),
+        }
+    }
+
+    /// Why an event is refused for which somebody else has no room: the first refusal that applies, or else that
+    /// memory is short. Nothing is changed.
+    pub fn refusal(&self, event: &Event) -> Refusal
+        ensures { IsRefusal (machine_of self.now) (step_of event.now) result }
+    {
+        match self.plan(event) {
+            Err(refusal) => refusal,
+            // Memory: whoever asks has none, and no refusal applies.
+            Ok(_) => Refusal::NoMemory,
         }
     }
 

@@ -2,6 +2,7 @@
 
 ghost use Rattle.std.specs.Prelude.{◌≡◌, IfOk};
 ghost use Rattle.network.specs.Decoding.{ReadingsAreExact, reading, said_by};
+ghost use Rattle.protocol.specs.Submissions.{HasOneLength};
 
 use codec::{CodecError, decode};
 use std::alloc::{AllocError, Global};
@@ -34,4 +35,11 @@ pub(crate) fn read(alloc: Global, bytes: &[u8]) -> Result<Reading, AllocError>
 /// leaves, without a choice.
 pub fn readings_are_exact()
     ensures { ReadingsAreExact }
+{}
+
+/// All texts that are read as one envelope have one length. So an envelope that is delivered tells the
+/// length of its delivery, and to compare envelopes is to compare lengths too.
+#[tactic(auto, using(crate::proofs::Readings::has_one_length))]
+pub fn envelopes_have_one_length()
+    ensures { HasOneLength reading }
 {}

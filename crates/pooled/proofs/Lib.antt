@@ -1,7 +1,7 @@
 mod OpeningLaws
 mod SortingLaws
 mod StandingLaws
-mod TellingLaws
+mod WritingLaws
 mod JoiningLaws
 mod HostedSeats
 mod PassLaws

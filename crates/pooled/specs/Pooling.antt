@@ -32,14 +32,14 @@ abbrev pub AreJournals : List Net → List Log → Type 0
 AreJournals ns ls =
     AllZip (λ n (l : Log). ((seats : List SeatSight) × IsClosedNet n l seats) × Replays l.config l.entries) ns ls
 
--- of one journal more it was told what its nodes have externalized, and how long it is
-abbrev pub IsToldMore : Log → Bytes → Bytes → Bytes → Bytes → Type 0
-IsToldMore l decided lengths more longer =
+-- of one journal more it was written what its nodes have externalized, and how long it is
+abbrev pub AddsJournalLines : Log → Bytes → Bytes → Bytes → Bytes → Type 0
+AddsJournalLines l decided lengths more longer =
     Replays l.config l.entries
     × ((lines : Bytes) × AreDecidedLines l lines × (more ≡ decided ++ lines))
     × (longer ≡ lengths ++ length_line l.config.number (length l.entries))
 
--- what is told of networks: what their nodes have externalized, and how long their journals are
+-- what is written of networks: what their nodes have externalized, and how long their journals are
 pub record AreJournalLines (nets : List Net) (decided lengths : Bytes) : Type 0 where
   pub logs : List Log
   pub journals : AreJournals nets logs
@@ -48,10 +48,10 @@ pub record AreJournalLines (nets : List Net) (decided lengths : Bytes) : Type 0 
 
 -- what is printed of networks: what the nodes of each have externalized, then the length of each journal, then the
 -- counts of jobs
-pub record IsToldOf (nets : List Net) (one other : Report) (text : Bytes) : Type 0 where
+pub record IsTextOfNets (nets : List Net) (one other : Report) (text : Bytes) : Type 0 where
   pub decided : Bytes
   pub lengths : Bytes
-  pub told : AreJournalLines nets decided lengths
+  pub written : AreJournalLines nets decided lengths
   pub parts : text ≡ (decided ++ lengths)
       ++ report_line (one.applied + other.applied) (one.refused + other.refused) (one.unrun + other.unrun)
 
@@ -67,7 +67,7 @@ pub record AreDone (jobs : List Job) (ready ended : List Net) (one other : Repor
   pub runs : IsAllOrNothing offered ended put taken other
 
 -- networks of these configurations join, each with so many seats and its first slots; the events are jobs; and what
--- becomes of them is told
+-- becomes of them is written
 pub record IsPoolText (configs : List Config) (calls : List (ℕ × Event)) (opens : List (ℕ × ℕ)) (workers : ℕ)
     (text : Bytes) : Type 0 where
   pub ready : List Net
@@ -76,4 +76,4 @@ pub record IsPoolText (configs : List Config) (calls : List (ℕ × Event)) (ope
   pub other : Report
   pub joined : AreHosted workers opens [] configs ready
   pub done : AreDone (jobs_of calls) ready ended one other
-  pub told : IsToldOf ended one other text
+  pub written : IsTextOfNets ended one other text

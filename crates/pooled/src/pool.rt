@@ -5,7 +5,7 @@ ghost use Rattle.std.specs.List.Sorted.{IsNonDecreasingBy};
 ghost use Rattle.std.specs.Thread.{IsSend, IsSync};
 ghost use Rattle.pooled.specs.Opening.{AreHosted, slots_of};
 ghost use Rattle.pooled.specs.PoolLines.{report_line};
-ghost use Rattle.pooled.specs.Pooling.{AreClosed, AreDone, AreJournalLines, IsPoolText, IsToldMore, IsToldOf, jobs_of};
+ghost use Rattle.pooled.specs.Pooling.{AreClosed, AreDone, AreJournalLines, IsPoolText, AddsJournalLines, IsTextOfNets, jobs_of};
 
 use crate::gate::Open;
 use crate::joining::{UnopenedNetworks, join_all, open_by};
@@ -29,7 +29,7 @@ const FEWEST_PLACES: usize = 1024;
 /// How many places the queue has where there are more jobs: as many as a queue may have (this host's profile).
 const MOST_PLACES: usize = 65_536;
 
-/// What is told of networks: what their nodes have externalized, and how long their journals are.
+/// What is written of networks: what their nodes have externalized, and how long their journals are.
 #[derive(Drop)]
 struct JournalLines {
     decided: String,
@@ -43,7 +43,7 @@ struct JournalLines {
 ///
 /// All networks have one store of envelopes. The queue has a place for each job, from 1,024 places up to 65,536;
 /// what it has no place for is applied before the workers begin. Which order the jobs take is open. The memory of
-/// the journals that were told of is not given back: this is for a process that ends with the answer.
+/// the journals that were written of is not given back: this is for a process that ends with the answer.
 pub fn run_pool<R: Threads + Wait + Sync + Send + Copy + Drop>(
     rt: &R,
     alloc: Global,
@@ -60,7 +60,7 @@ pub fn run_pool<R: Threads + Wait + Sync + Send + Copy + Drop>(
     let jobs = jobs_of(alloc, calls)?;
     let threads = workers as usize;
     let reports = run_jobs(rt, alloc, &mut host, jobs, threads)?;
-    tell_all(rt, alloc, host, threads, reports)
+    write_all(rt, alloc, host, threads, reports)
 }
 
 /// The networks, each with so many seats, with their first slots open. As many threads as there are seats open
@@ -141,61 +141,61 @@ fn places_for(jobs: usize) -> usize
 }
 
 /// Closes each network, and says, ascending, what became of it, and how many jobs were applied, refused and not
-/// run by both reports. So many threads close and tell.
-fn tell_all<R: Threads + Wait + Sync + Send + Drop>(
+/// run by both reports. So many threads close and write.
+fn write_all<R: Threads + Wait + Sync + Send + Drop>(
     rt: &R,
     alloc: Global,
     host: Host<SharedHandle<R>, R>,
     threads: usize,
     reports: (Report, Report),
 ) -> Result<String, AllocError>
-    ensures { IfOk result (λ text. IsToldOf host reports.0 reports.1 (string_bytes text)) }
+    ensures { IfOk result (λ text. IsTextOfNets host reports.0 reports.1 (string_bytes text)) }
 {
     let (one, other) = reports;
-    let told = tell_by(rt, alloc, host, threads)?;
+    let written = write_by(rt, alloc, host, threads)?;
     let JournalLines {
         mut decided,
         lengths,
-    } = told;
+    } = written;
     decided.push_str(lengths.as_str())?;
     push_both(&mut decided, one, other)?;
     Ok(decided)
 }
 
-/// Closes each network, and tells of it, by so many threads: each half of the networks by half of them, as long as
+/// Closes each network, and writes of it, by so many threads: each half of the networks by half of them, as long as
 /// there are several, and by this one where no other can be started.
-#[cycle(telling)]
-fn tell_by<R: Threads + Wait + Sync + Send + Drop>(
+#[cycle(writing)]
+fn write_by<R: Threads + Wait + Sync + Send + Drop>(
     rt: &R,
     alloc: Global,
     host: Host<SharedHandle<R>, R>,
     threads: usize,
 ) -> Result<JournalLines, AllocError>
-    ensures { IfOk result (λ told. AreJournalLines host (string_bytes told.decided) (string_bytes told.lengths)) }
+    ensures { IfOk result (λ written. AreJournalLines host (string_bytes written.decided) (string_bytes written.lengths)) }
 {
     if threads < 2 {
-        return tell_alone(rt, alloc, host);
+        return write_alone(rt, alloc, host);
     }
     let count = host.len() / 2;
     let (low, high) = host.split_at(count)?;
     let fewer = threads / 2;
     let more = threads - fewer;
-    let tell_low = move || -> Result<JournalLines, AllocError>
+    let write_low = move || -> Result<JournalLines, AllocError>
         requires { IsSync R.row × IsSend R.row }
-        ensures { IfOk result (λ told. AreJournalLines low (string_bytes told.decided) (string_bytes told.lengths)) }
-    { tell_by(rt, alloc, low, fewer) };
-    let tell_high = move || -> Result<JournalLines, AllocError>
+        ensures { IfOk result (λ written. AreJournalLines low (string_bytes written.decided) (string_bytes written.lengths)) }
+    { write_by(rt, alloc, low, fewer) };
+    let write_high = move || -> Result<JournalLines, AllocError>
         requires { IsSync R.row × IsSend R.row }
-        ensures { IfOk result (λ told. AreJournalLines high (string_bytes told.decided) (string_bytes told.lengths)) }
-    { tell_by(rt, alloc, high, more) };
-    let (first, others) = thread::join(rt, tell_low, tell_high);
-    let told = tell_both(first?, others?)?;
-    Ok(told)
+        ensures { IfOk result (λ written. AreJournalLines high (string_bytes written.decided) (string_bytes written.lengths)) }
+    { write_by(rt, alloc, high, more) };
+    let (first, others) = thread::join(rt, write_low, write_high);
+    let written = write_both(first?, others?)?;
+    Ok(written)
 }
 
-/// What is told of some networks, and then of others.
-fn tell_both(first: JournalLines, others: JournalLines) -> Result<JournalLines, AllocError>
-    ensures { IfOk result (λ told. (string_bytes told.decided ≡ string_bytes first.decided ++ string_bytes others.decided) × (string_bytes told.lengths ≡ string_bytes first.lengths ++ string_bytes others.lengths)) }
+/// What is written of some networks, and then of others.
+fn write_both(first: JournalLines, others: JournalLines) -> Result<JournalLines, AllocError>
+    ensures { IfOk result (λ written. (string_bytes written.decided ≡ string_bytes first.decided ++ string_bytes others.decided) × (string_bytes written.lengths ≡ string_bytes first.lengths ++ string_bytes others.lengths)) }
 {
     let JournalLines {
         mut decided,
@@ -206,19 +206,19 @@ fn tell_both(first: JournalLines, others: JournalLines) -> Result<JournalLines, 
     Ok(JournalLines { decided, lengths })
 }
 
-/// Closes each network, and tells of it, in this thread. The memory of what was told of is not given back.
-fn tell_alone<R: Wait + Drop>(
+/// Closes each network, and writes of it, in this thread. The memory of what was written of is not given back.
+fn write_alone<R: Wait + Drop>(
     rt: &R,
     alloc: Global,
     mut host: Host<SharedHandle<R>, R>,
 ) -> Result<JournalLines, AllocError>
-    ensures { IfOk result (λ told. AreJournalLines host (string_bytes told.decided) (string_bytes told.lengths)) }
+    ensures { IfOk result (λ written. AreJournalLines host (string_bytes written.decided) (string_bytes written.lengths)) }
 {
     let mut journals = close_all(rt, alloc, &mut host)?;
     let mut decided = String::new(alloc);
     let mut lengths = String::new(alloc);
     while let Some(journal) = journals.pop() {
-        tell(alloc, &journal, &mut decided, &mut lengths)?;
+        write_journal(alloc, &journal, &mut decided, &mut lengths)?;
         // Piece by piece, into the heaps of the threads that took them, this cost a quarter of a run of four workers.
         forget(journal);
     }
@@ -252,13 +252,13 @@ fn push_both(text: &mut String, one: Report, other: Report) -> Result<(), AllocE
 
 /// Says of one journal more what its nodes have externalized, and how long it is. Where memory is wanting, a part
 /// may have been added.
-fn tell<S: Shelf>(
+fn write_journal<S: Shelf>(
     alloc: Global,
     journal: &Journal<S>,
     decided: &mut String,
     lengths: &mut String,
 ) -> Result<(), AllocError>
-    ensures { OnOk result (IsToldMore journal.now (string_bytes decided.old) (string_bytes lengths.old) (string_bytes decided.new) (string_bytes lengths.new)) }
+    ensures { OnOk result (AddsJournalLines journal.now (string_bytes decided.old) (string_bytes lengths.old) (string_bytes decided.new) (string_bytes lengths.new)) }
 {
     journal.replays();
     push_decided(alloc, decided, journal)?;

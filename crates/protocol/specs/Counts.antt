@@ -28,8 +28,8 @@ is_of_share i s (OfOpens shares) = false
 is_of_share i s (OfShare shares j t) = (j == i) && same_share t s
 
 -- the entries whose source passes the test
-abbrev pub drawing : Config → (Source → Bool) → List Entry → List Entry
-drawing config test xs = filter (λ x. test (source config.roster x.event)) xs
+abbrev pub drawing_entries : Config → (Source → Bool) → List Entry → List Entry
+drawing_entries config test xs = filter (λ x. test (source config.roster x.event)) xs
 
 -- how many delivered bytes they have
 abbrev pub bytes_in : List Entry → ℕ
@@ -47,13 +47,13 @@ since_opened i xs = fold (λ since x. if is_opening i x.event then [] else since
 -- a network counts what its journal drew: on the budgets and on openings and closings over its life, on a share since
 -- its slot was opened
 pub record IsCountOf (config : Config) (xs : List Entry) (net : Net) : Type 0 where
-  pub events : net.events ≡ length (drawing config is_of_budgets xs)
-  pub bytes : net.bytes ≡ bytes_in (drawing config is_of_budgets xs)
-  pub opens : net.opens ≡ length (drawing config is_of_opens xs)
+  pub events : net.events ≡ length (drawing_entries config is_of_budgets xs)
+  pub bytes : net.bytes ≡ bytes_in (drawing_entries config is_of_budgets xs)
+  pub opens : net.opens ≡ length (drawing_entries config is_of_opens xs)
   pub share_events : (i : ℕ) (s : Share)
-      → events_drawn i s net.draws ≡ length (drawing config (is_of_share i s) (since_opened i xs))
+      → events_drawn i s net.draws ≡ length (drawing_entries config (is_of_share i s) (since_opened i xs))
   pub share_bytes : (i : ℕ) (s : Share)
-      → bytes_drawn i s net.draws ≡ bytes_in (drawing config (is_of_share i s) (since_opened i xs))
+      → bytes_drawn i s net.draws ≡ bytes_in (drawing_entries config (is_of_share i s) (since_opened i xs))
 
 abbrev pub RunsAreCounted : Type 0
 RunsAreCounted = (config : Config) (xs : List Entry) → IsRun config xs → IsCountOf config xs (state_of config xs)

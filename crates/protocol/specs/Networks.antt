@@ -150,8 +150,8 @@ act_known net i u None = (net, [])
 act_known net i u (Some e) = act net i u (Take e)
 
 -- opening a slot makes each hosted node anew, with the slices of its configuration
-unfoldable pub nodes_of_new_slot : List HostedNode → ℕ → List Instance
-nodes_of_new_slot nodes i = map (λ h. record { node = fresh i h.name h.slices; emitted = [] }) nodes
+unfoldable pub instances_of_new_slot : List HostedNode → ℕ → List Instance
+instances_of_new_slot nodes i = map (λ h. record { node = fresh i h.name h.slices; emitted = [] }) nodes
 
 -- nothing is drawn yet on the shares of a slot that is opened
 abbrev pub draws_after_opening : ℕ → List Draw → List Draw
@@ -161,7 +161,7 @@ draws_after_opening i draws = filter (λ d. not (d.slot == i)) draws
 unfoldable pub effect : Net → Step → Net × List Out
 effect net (Opens i) = (
   record net {
-    slots = net.slots ++ record { number = i; instances = nodes_of_new_slot net.nodes i } ∷ [];
+    slots = net.slots ++ record { number = i; instances = instances_of_new_slot net.nodes i } ∷ [];
     draws = draws_after_opening i net.draws;
   },
   [],

@@ -39,8 +39,8 @@ QuorumsAreFound = (slices_at : ℕ → Option Slices) (all : List ℕ) (supporte
     → IsTrue (has_quorum sat slices_at all supporters node) ↔ HasQuorum sat slices_at supporters node
 
 -- the part of a set that lies in a region
-abbrev pub part_in : Names → Names → Names
-part_in region set = both region set
+abbrev pub cut_to : Names → Names → Names
+cut_to region set = both region set
 
 -- a region holds all names of these nodes' slices
 abbrev pub HoldsNamesOf : {Q : Type 0} → (Q → List ℕ) → (ℕ → Option Q) → (nodes region : Names) → Type 0
@@ -61,15 +61,15 @@ IsLocal {Q} satisfies names = (q : Q) (a b : Names) → ((u : ℕ) → IsTrue (a
     → satisfies q a ≡ satisfies q b
 
 -- a quorum, cut to a set that contains the names of its members' slices, is a quorum as soon as one name is left
-abbrev pub IsCut : {Q : Type 0} → (Q → Names → Bool) → (Q → List ℕ) → Type 0
-IsCut {Q} satisfies names = (slices_at : ℕ → Option Q) (set region : Names) → Quorum satisfies slices_at set
-    → HoldsNamesOf names slices_at (part_in region set) region
-    → (u : ℕ) → IsTrue (part_in region set u) → Quorum satisfies slices_at (part_in region set)
+abbrev pub CutsAreQuorums : {Q : Type 0} → (Q → Names → Bool) → (Q → List ℕ) → Type 0
+CutsAreQuorums {Q} satisfies names = (slices_at : ℕ → Option Q) (set region : Names) → Quorum satisfies slices_at set
+    → HoldsNamesOf names slices_at (cut_to region set) region
+    → (u : ℕ) → IsTrue (cut_to region set u) → Quorum satisfies slices_at (cut_to region set)
 
 -- so it is for slices of any kind whose answers lie in the names that they have
-abbrev pub Cut : Type 0 → Type 0
-Cut Q = (satisfies : Q → Names → Bool) (names : Q → List ℕ) → IsLocal satisfies names → IsCut satisfies names
+abbrev pub LocalCutsAreQuorums : Type 0 → Type 0
+LocalCutsAreQuorums Q = (satisfies : Q → Names → Bool) (names : Q → List ℕ) → IsLocal satisfies names → CutsAreQuorums satisfies names
 
 -- and for nested slices
-abbrev pub NestedCut : Type 0
-NestedCut = IsCut sat names
+abbrev pub NestedCutsAreQuorums : Type 0
+NestedCutsAreQuorums = CutsAreQuorums sat names

@@ -45,16 +45,16 @@ concerns R i (BallotTimerFires j u n) = is_some (kept_step R i (BallotTimerFires
 concerns R i (Reslices j u q) = is_some (kept_step R i (Reslices j u q))
 
 -- what concerns a set at a slot, of all that was submitted
-abbrev pub concerning : Names → ℕ → List Answer → List Answer
-concerning R i xs = filter (λ x. concerns R i x.step) xs
+abbrev pub concerning_answers : Names → ℕ → List Answer → List Answer
+concerning_answers R i xs = filter (λ x. concerns R i x.step) xs
 
 -- these steps, in order
 abbrev pub concerning_steps : Names → ℕ → List Answer → List Step
-concerning_steps R i xs = map (λ x. x.step) (concerning R i xs)
+concerning_steps R i xs = map (λ x. x.step) (concerning_answers R i xs)
 
 -- and their replies
 abbrev pub replied_to : Names → ℕ → List Answer → List Reply
-replied_to R i xs = map (λ x. x.reply) (concerning R i xs)
+replied_to R i xs = map (λ x. x.reply) (concerning_answers R i xs)
 
 -- ---- rosters
 -- a network as it is configured; none where it is not there

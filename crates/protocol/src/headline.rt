@@ -18,7 +18,7 @@ pub fn isolation()
 
 /// An envelope from outside a set that is closed for a calm node makes it give nothing out, and
 /// changes nothing of it but rows of senders outside the set.
-pub fn quiet()
+pub fn calm_nodes_are_quiet()
     ensures { CalmNodesAreQuiet }
 {}
 

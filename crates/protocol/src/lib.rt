@@ -21,8 +21,8 @@ pub use closures::{
 };
 pub use extremes::extremes_are_exact;
 pub use headline::{
-    agree, closures_are_the_same, isolation, journals_are_runs, members_stay_within_closures,
-    networks_agree, prefix, quiet, verdicts_are_determined,
+    agree, calm_nodes_are_quiet, closures_are_the_same, isolation, journals_are_runs,
+    members_stay_within_closures, networks_agree, prefix, verdicts_are_determined,
 };
 pub use limits::{four_passes_are_enough, rows_stir_their_kind};
 pub use node::{

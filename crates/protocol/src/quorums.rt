@@ -1,7 +1,7 @@
 //! Laws of quorums and blocking sets.
 
 ghost use Rattle.protocol.specs.Satisfaction.{BlockingIsCounted};
-ghost use Rattle.protocol.specs.Quorums.{QuorumsAreFound, Cut, NestedCut};
+ghost use Rattle.protocol.specs.Quorums.{QuorumsAreFound, LocalCutsAreQuorums, NestedCutsAreQuorums};
 
 /// A set blocks slices, no set apart from it satisfying them, exactly when counting down the tree
 /// finds fewer members left than the threshold (Mazières 2015, of v-blocking sets).
@@ -18,10 +18,10 @@ pub fn quorums_are_found()
 /// A quorum, cut to a set that contains the names of its members' slices, is a quorum or empty. It
 /// holds for slices of any kind that answer alike of sets with the same of the nodes that they name.
 pub fn quorum_cut<Q>()
-    ensures { Cut Q }
+    ensures { LocalCutsAreQuorums Q }
 {}
 
 /// So it is for nested slices.
 pub fn nested_quorum_cut()
-    ensures { NestedCut }
+    ensures { NestedCutsAreQuorums }
 {}

@@ -150,7 +150,7 @@ planned-is-job g _ old new h = declared-has-nodes g old.submitted h.0.0 h.0.1
 pub bad_lines_tell_nothing : BadLinesTellNothing
 bad_lines_tell_nothing old new fields printed bad (declared h named followed logs) = taken all_allowed old.waiting old.named fields new.waiting h bad
 bad_lines_tell_nothing old new fields printed bad (answered g e asked h) = not-bad all_allowed old.waiting old.named fields g (Apply e) asked (begun-has-nodes g old h.0 h.2) bad
-bad_lines_tell_nothing old new fields printed bad (settled g i asked h) = not-bad all_allowed old.waiting old.named fields g (Settle i) asked (begun-has-nodes g old h.0 h.1) bad
+bad_lines_tell_nothing old new fields printed bad (settled g i asked h) = not-bad all_allowed old.waiting old.named fields g (Settle i) asked (begun-has-nodes g old h.0 h.2) bad
 
 pub bad_lines_submit_nothing : BadLinesSubmitNothing
 bad_lines_submit_nothing old new fields printed bad (submits_declaration h named history) = taken no_settling old.waiting old.named fields new.waiting h bad

@@ -384,10 +384,10 @@ handed-on-follows g slot names old new ended s (one_waits e waits h rest) =
 handed-on-follows g slot names old new ended s (cut_short e r waits h) =
     subst FollowsJournals (sym h.2) (over-follows g slot (Some r) h.0 (heard-follows g slot e _ old h.0 (Some r) s h.1))
 
-settled-follows : (g slot : ℕ) (names : Option (List ℕ)) (o : Option OpenSlot) (old new : Hosting) (text : Bytes) → FollowsJournals old → HasSettledAt g slot names o old text new → FollowsJournals new
-settled-follows g slot None o old new text s h = subst FollowsJournals (sym h.0) s
-settled-follows g slot (Some names) None old new text s h = subst FollowsJournals (sym h.0) s
-settled-follows g slot (Some names) (Some o) old new text s h = handed-on-follows g slot names old new h.0 s h.1
+settled-follows : (g slot : ℕ) (names : Option (List ℕ)) (o : Option OpenSlot) (old new : Hosting) (ended : Option Refusal) → FollowsJournals old → HasSettledAt g slot names o old ended new → FollowsJournals new
+settled-follows g slot None o old new ended s h = subst FollowsJournals (sym h.0) s
+settled-follows g slot (Some names) None old new ended s h = subst FollowsJournals (sym h.0) s
+settled-follows g slot (Some names) (Some o) old new ended s h = handed-on-follows g slot names old new ended s h
 
 -- ---- a line, and all lines
 
@@ -397,7 +397,7 @@ line-follows old new fields printed s (declared p named kept logs) = record {
   slots = subst (λ (x : List Log × Followed). AreFollowed x.0 x.1) (λ i. (sym logs i, sym kept i)) s.slots;
 }
 line-follows old new fields printed s (answered g e asked put) = applied-follows g e put.1 put.0 new (begun-follows g old put.0 s put.2) put.3
-line-follows old new fields printed s (settled g slot asked done) = settled-follows g slot _ _ done.0 new _ (begun-follows g old done.0 s done.1) done.2
+line-follows old new fields printed s (settled g slot asked done) = settled-follows g slot _ _ done.0 new done.1 (begun-follows g old done.0 s done.2) done.3
 
 first-follows : FollowsJournals new_hosting
 first-follows = record {
@@ -410,7 +410,7 @@ lines_follow_journals = (first-follows, line-follows)
 
 passed-follows : (s t : Hosting) (line written : Bytes) → FollowsJournals s → Passes Tells s line written t → FollowsJournals t
 passed-follows s t line written h (skipped empty) = h
-passed-follows s t line written h (told are tells) = line-follows s t _ _ h tells
+passed-follows s t line written h (told runs are tells) = line-follows s t _ _ h tells
 
 runs-follow : (s t : Hosting) (lines : List (ℕ × Bytes)) (printed : Bytes) (end : Result (Unit {0}) Stop) → FollowsJournals s → end ≡ Ok tt → Runs Tells RefusesLine s lines printed end t → FollowsJournals t
 runs-follow s t lines printed end h ok ends = h

@@ -19,7 +19,7 @@ use Rattle.protocol.specs.Rows.{is_taken, with_row}
 use Rattle.protocol.specs.States.{counter_of, sent_in, sent_nomination, sent_vote}
 use Rattle.protocol.specs.Sameness.{same_sent}
 use Rattle.protocol.specs.Nodes.{Node, after_change, node_and_outs, change, externalization, emission_between, fresh, in_round, is_counter_live, is_externalized, is_round_live, outs, after_pass, with_slices, settle, with_settled_votes, step, with_timeout, when, most_passes}
-use Rattle.protocol.specs.Networks.{HostedNode, Net, Instance, Slot, Step, act, act_in, act_known, effect, emission, emissions, first_that, node_where_open, after_event, net_step, nodes_of_new_slot, outs_at, node_named, instances_at, state_and_reply, tests}
+use Rattle.protocol.specs.Networks.{HostedNode, Net, Instance, Slot, Step, act, act_in, act_known, effect, emission, emissions, first_that, node_where_open, after_event, net_step, instances_of_new_slot, outs_at, node_named, instances_at, state_and_reply, tests}
 use Rattle.protocol.specs.Networks.Reading.{Read, Fault}
 use Rattle.protocol.specs.Networks.Step.{Opens, Closes, Proposes, Delivers, Hears, NominationTimerFires, BallotTimerFires, Reslices}
 use Rattle.protocol.specs.Hosts.{Entry}
@@ -163,10 +163,10 @@ AreAt i ps = AllByRecursion (λ p. p.node.slot ≡ i) ps
 abbrev pub AreInPlace : List Slot → Type 0
 AreInPlace ss = AllByRecursion (λ s. AreAt s.number s.instances) ss
 
-nodes_of_new_slot-in-place : (nodes : List HostedNode) (i : ℕ) → AreAt i (nodes_of_new_slot nodes i)
-unfolding nodes_of_new_slot fresh
-nodes_of_new_slot-in-place [] i = tt
-nodes_of_new_slot-in-place (h ∷ hs) i = (refl, nodes_of_new_slot-in-place hs i)
+instances_of_new_slot-in-place : (nodes : List HostedNode) (i : ℕ) → AreAt i (instances_of_new_slot nodes i)
+unfolding instances_of_new_slot fresh
+instances_of_new_slot-in-place [] i = tt
+instances_of_new_slot-in-place (h ∷ hs) i = (refl, instances_of_new_slot-in-place hs i)
 
 after_event-in-place : (i : ℕ) (e : NodeEvent) (p : Instance) → p.node.slot ≡ i → (after_event e p).node.slot ≡ i
 unfolding after_event
@@ -206,7 +206,7 @@ left-in-place p (s ∷ ss) h = go (p s) (left-in-place p ss h.1)
 
 pub effect-in-place : (net : Net) (e : Step) → AreInPlace net.slots → AreInPlace (effect net e).0.slots
 unfolding effect
-effect-in-place net (Opens i) h = pushed-in-place net.slots (record { number = i; instances = nodes_of_new_slot net.nodes i }) h (nodes_of_new_slot-in-place net.nodes i)
+effect-in-place net (Opens i) h = pushed-in-place net.slots (record { number = i; instances = instances_of_new_slot net.nodes i }) h (instances_of_new_slot-in-place net.nodes i)
 effect-in-place net (Closes i) h = left-in-place (λ s. not (s.number == i)) net.slots h
 effect-in-place net (Proposes i u x) h = act-in-place net i u (Propose x) h
 effect-in-place net (Delivers u size (Read e)) h = act-in-place net e.slot u (Take e) h

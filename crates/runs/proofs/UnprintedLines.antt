@@ -10,16 +10,18 @@ use Rattle.hoststep.specs.Worlds.{items_of}
 use Rattle.scripts.specs.Script.{Bytes}
 use Rattle.scripts.specs.Words.{word_counter}
 use Rattle.runs.specs.declared.requests.Request.{Request}
-use Rattle.runs.specs.declared.requests.Request.TheVariants.{Apply}
+use Rattle.runs.specs.declared.requests.Request.TheVariants.{Apply, Settle}
 use Rattle.runs.specs.declared.verbs.Verb.{Verb}
 use Rattle.runs.specs.Lines.{verb_in}
+use Rattle.runs.specs.Followed.{open_slot}
 use Rattle.runs.specs.Hosting.{Hosting}
 use Rattle.runs.specs.Replies.{IsReply, behind_space, refusal_text}
 use Rattle.runs.specs.Requests.{IsRequested, IsRequestOf}
 use Rattle.runs.specs.Running.{Tells}
-use Rattle.runs.specs.Running.Tells.{answered}
-use Rattle.runs.specs.Telling.{AsksOf, NamesNet}
-use Rattle.runs.specs.Unprinted.{IsPutUnprinted, IsRunBy}
+use Rattle.runs.specs.Running.Tells.{answered, settled}
+use Rattle.runs.specs.Settling.{line_of}
+use Rattle.runs.specs.Telling.{AsksOf, NamesNet, Settles}
+use Rattle.runs.specs.Unprinted.{HadMemory, IsPutUnprinted, IsRunBy, IsSettledUnprinted}
 
 -- whatever is asked for, it is of this number
 abbrev IsOf : Option ℕ → Option (ℕ × Request) → Type 0
@@ -37,16 +39,21 @@ names-net : (fields : List Bytes) (asked : Option (ℕ × Request)) → IsReques
 names-net (word ∷ number ∷ fields) asked h = number-of (verb_in word) (word_counter number) fields asked h
 names-net fields asked h = subst (λ o. IfSome o (λ r. NamesNet fields r.0)) (sym h) tt
 
-pub line-run : (old new : Hosting) (fields : List Bytes) (g : ℕ) (r : Request) → IsRequested fields (Some (g, r)) → (printed : Option Bytes) → Tells old fields printed new
-    → IsRunBy g fields old new
-line-run old new fields g r asked printed told = (names-net fields (Some (g, r)) asked, printed, told)
+pub line-run : (old new : Hosting) (fields : List Bytes) (g : ℕ) (r : Request) → IsRequested fields (Some (g, r)) → (printed : Option Bytes) (told : Tells old fields printed new)
+    → HadMemory told → IsRunBy g fields old new
+line-run old new fields g r asked printed told had = record { names = names-net fields (Some (g, r)) asked; printed = printed; told = told; had_memory = had }
 
 -- each answer has a line
-line_of : (r : Result (Vec Out Global) Refusal) → (text : Bytes) × IsReply (items_of r) text
-line_of (Ok outs) = (codes "ok" ++ flat_map behind_space outs.items, refl)
-line_of (Err refusal) = (refusal_text refusal, refl)
+line-for : (r : Result (Vec Out Global) Refusal) → (text : Bytes) × IsReply (items_of r) text
+line-for (Ok outs) = (codes "ok" ++ flat_map behind_space outs.items, refl)
+line-for (Err refusal) = (refusal_text refusal, refl)
 
 pub event-run : (old new : Hosting) (fields : List Bytes) (g : ℕ) (e : Event) → AsksOf fields g e → IsPutUnprinted g e old new → IsRunBy g fields old new
 event-run old new fields g e asked put =
-    let line = line_of put.1 in
-    line-run old new fields g (Apply e) asked (Some line.0) (answered g e asked (put.0, put.1, put.2, put.3, line.1))
+    let line = line-for put.1 in
+    line-run old new fields g (Apply e) asked (Some line.0) (answered g e asked (put.0, put.1, put.2, put.3, line.1)) put.4
+
+pub settling-run : (old new : Hosting) (fields : List Bytes) (g slot : ℕ) → Settles fields g slot → IsSettledUnprinted g slot old new → IsRunBy g fields old new
+settling-run old new fields g slot asked done =
+    line-run old new fields g (Settle slot) asked (Some (line_of done.1 (open_slot new.followed g slot)))
+    (settled g slot asked (done.0, done.1, done.2, done.3, refl)) done.4

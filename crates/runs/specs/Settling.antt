@@ -82,17 +82,17 @@ line_of (Some r) o = refusal_text r
 
 -- by the names of the nodes of the network, if it is there, and the slot, if it is open: where either is wanting, that
 -- is the refusal, and nobody hears anything; else what waits is handed on
-abbrev pub HasSettledAt : ℕ → ℕ → Option (List ℕ) → Option OpenSlot → Hosting → Bytes → Hosting → Type 0
-HasSettledAt g slot None o old text new = (new ≡ old) × (text ≡ refusal_text NoSuchNetwork)
-HasSettledAt g slot (Some names) None old text new = (new ≡ old) × (text ≡ refusal_text SlotNotOpen)
-HasSettledAt g slot (Some names) (Some o) old text new =
-    (ended : Option Refusal) × AreHandedOn g slot names old ended new
-    × (text ≡ line_of ended (open_slot new.followed g slot))
+abbrev pub HasSettledAt : ℕ → ℕ → Option (List ℕ) → Option OpenSlot → Hosting → Option Refusal → Hosting → Type 0
+HasSettledAt g slot None o old ended new = (new ≡ old) × (ended ≡ Some NoSuchNetwork)
+HasSettledAt g slot (Some names) None old ended new = (new ≡ old) × (ended ≡ Some SlotNotOpen)
+HasSettledAt g slot (Some names) (Some o) old ended new = AreHandedOn g slot names old ended new
 
-abbrev pub HasSettled : ℕ → ℕ → Hosting → Bytes → Hosting → Type 0
-HasSettled g slot old text new =
-    HasSettledAt g slot (names_at old.followed g) (open_slot old.followed g slot) old text new
+abbrev pub HasSettled : ℕ → ℕ → Hosting → Option Refusal → Hosting → Type 0
+HasSettled g slot old ended new =
+    HasSettledAt g slot (names_at old.followed g) (open_slot old.followed g slot) old ended new
 
--- the same where the line may be the first that names the network
+-- the same where the line may be the first that names the network, and what came of it is printed
 abbrev pub IsSettled : ℕ → ℕ → Hosting → Bytes → Hosting → Type 0
-IsSettled g slot old text new = (begun : Hosting) × IsBegun g old begun × HasSettled g slot begun text new
+IsSettled g slot old text new =
+    (begun : Hosting) × (ended : Option Refusal) × IsBegun g old begun × HasSettled g slot begun ended new
+    × (text ≡ line_of ended (open_slot new.followed g slot))

@@ -1,14 +1,17 @@
 -- Lines of scripts that are run for what becomes of the networks, and print nothing.
-use Rattle.std.specs.Prelude.{◌≡◌, ◌==◌, ◌&&◌, ◌++◌, ℕ, nat_lt, length, position, List, [], ◌∷◌, Option, Some, None, Result, Vec}
+use Rattle.std.specs.Prelude.{◌≡◌, ◌≢◌, ◌==◌, ◌&&◌, ◌++◌, ℕ, nat_lt, length, position, List, [], ◌∷◌, Option, Some, None, Result, Err, Vec}
 use Rattle.std.specs.Global.{Global}
 use Rattle.scripts.specs.Script.{Bytes}
 use Rattle.types.specs.declared.event.Event.{Event}
 use Rattle.types.specs.declared.event.Out.{Out}
 use Rattle.types.specs.declared.event.Refusal.{Refusal}
+use Rattle.types.specs.declared.event.Refusal.TheVariants.{NoMemory}
 use Rattle.hoststep.specs.Logs.{Log}
 use Rattle.hoststep.specs.Worlds.{log_at}
 use Rattle.runs.specs.Hosting.{Hosting, IsApplied, IsBegun, IsFinished}
 use Rattle.runs.specs.Running.{RefusesLine, Tells}
+use Rattle.runs.specs.Running.Tells.{declared, answered, settled}
+use Rattle.runs.specs.Settling.{HasSettled}
 use Rattle.runs.specs.Telling.{NamesNet}
 
 -- for each line that was run, in order, the network that it names, and how many entries the journal of that one has
@@ -21,15 +24,33 @@ pub record Unprinted : Type 0 where
   pub hosting : Hosting
   pub trace : Option Trace
 
--- the line names the network of a number, and the networks after it are those after it in a script whose answers are
--- printed
-abbrev pub IsRunBy : ℕ → List Bytes → Hosting → Hosting → Type 0
-IsRunBy g fields old new = NamesNet fields g × (printed : Option Bytes) × Tells old fields printed new
+-- no event of a line that is told was refused for want of memory: not the one that it asks for, and no hearing where it
+-- settles
+abbrev pub HadMemory : {old new : Hosting} {fields : List Bytes} {printed : Option Bytes}
+    → Tells old fields printed new → Type 0
+HadMemory (declared taken named followed logs) = Unit {0}
+HadMemory (answered g e asked put) = put.1 ≢ Err NoMemory
+HadMemory (settled g slot asked done) = done.1 ≢ Some NoMemory
 
--- an event is put to the network of a number, whatever it answers
+-- the line names the network of a number, and the networks after it are those after it in a script whose answers are
+-- printed, where no event of the line was refused for want of memory
+pub record IsRunBy (g : ℕ) (fields : List Bytes) (old new : Hosting) : Type 0 where
+  pub names : NamesNet fields g
+  pub printed : Option Bytes
+  pub told : Tells old fields printed new
+  pub had_memory : HadMemory told
+
+-- an event is put to the network of a number, whatever it answers but that memory is short
 abbrev pub IsPutUnprinted : ℕ → Event → Hosting → Hosting → Type 0
 IsPutUnprinted g e old new =
     (begun : Hosting) × (r : Result (Vec Out Global) Refusal) × IsBegun g old begun × IsApplied g e r begun new
+    × (r ≢ Err NoMemory)
+
+-- a slot of the network of a number is to settle, whatever ends it but that memory is short
+abbrev pub IsSettledUnprinted : ℕ → ℕ → Hosting → Hosting → Type 0
+IsSettledUnprinted g slot old new =
+    (begun : Hosting) × (ended : Option Refusal) × IsBegun g old begun × HasSettled g slot begun ended new
+    × (ended ≢ Some NoMemory)
 
 -- how many entries a journal has
 abbrev pub entries_in : Option Log → ℕ

@@ -1,11 +1,12 @@
 //! What runs the lines of a script of networks.
 
-ghost use Rattle.std.specs.Prelude.{◌≡◌, ◌<◌, ◌^◌, ◌∷◌, [], Err, IfOk, IfSome, OnOk, is_some, map, option_map, string_bytes};
+ghost use Rattle.std.specs.Prelude.{◌≡◌, ◌≢◌, ◌<◌, ◌^◌, ◌∷◌, [], Err, IfOk, IfSome, OnOk, Some, is_some, map, option_map, string_bytes};
 ghost use Rattle.types.specs.declared.event.Event.TheVariants.{Hear};
+ghost use Rattle.types.specs.declared.event.Refusal.TheVariants.{NoMemory};
 ghost use Rattle.runs.specs.ByJournals.{KeptAreFound, LinesFollowJournals, RunsFollowJournals};
 ghost use Rattle.runs.specs.Followed.{handed_at, names_at, open_slot, waiting};
 ghost use Rattle.runs.specs.Hosting.{IsApplied, IsBegun, IsFinished, IsPut, new_hosting};
-ghost use Rattle.runs.specs.Unprinted.{IsPutUnprinted, IsRunBy};
+ghost use Rattle.runs.specs.Unprinted.{IsPutUnprinted, IsRunBy, IsSettledUnprinted};
 ghost use Rattle.runs.specs.Running.{BadLinesTellNothing, RefusesLine};
 ghost use Rattle.runs.specs.Settling.{AreHandedOn, HandedOnIsCounted, HasSettled, HeardWaitsOn, IsHanded, IsHeardBy, IsSettled, line_of, others};
 ghost use Rattle.runs.specs.Telling.{HasNoNode};
@@ -70,7 +71,8 @@ impl HostRun {
         self.nets.finish(&mut self.world)
     }
 
-    /// Runs a line without saying what it answers, and gives the number of the network that it names.
+    /// Runs a line without saying what it answers, and gives the number of the network that it names. Where
+    /// the line's event, or a hearing where it settles, is refused for want of memory, memory is short.
     pub(crate) fn run_unprinted(
         &mut self,
         alloc: Global,
@@ -86,7 +88,7 @@ impl HostRun {
                 Ok(number)
             }
             Request::Settle(slot) => {
-                let _text = self.settle_line(alloc, number, slot)?;
+                self.settle_unprinted(alloc, number, slot)?;
                 Ok(number)
             }
             Request::Declare(declaration) => {
@@ -96,13 +98,26 @@ impl HostRun {
         }
     }
 
-    /// Puts an event to the network of a number, whatever it answers.
+    /// Puts an event to the network of a number, whatever it answers but that memory is short.
     fn put(&mut self, number: u32, event: Event) -> Result<(), LineError>
         ensures told { OnOk result (IsPutUnprinted number event self.old self.new) }
         ensures bad { result ≡ Err LineError.Bad → HasNoNode self.old.waiting number }
     {
         self.begin(number)?;
-        let _answer = self.apply(number, event)?;
+        let answer = self.apply(number, event)?;
+        but_for_memory(answer.err())?;
+        Ok(())
+    }
+
+    /// Hands on what was emitted at a slot of the network of a number, whatever ends it but that memory is
+    /// short.
+    fn settle_unprinted(&mut self, alloc: Global, number: u32, slot: u64) -> Result<(), LineError>
+        ensures told { OnOk result (IsSettledUnprinted number slot self.old self.new) }
+        ensures bad { result ≡ Err LineError.Bad → HasNoNode self.old.waiting number }
+    {
+        self.begin(number)?;
+        let ended = self.settle(alloc, number, slot)?;
+        but_for_memory(ended)?;
         Ok(())
     }
 
@@ -143,28 +158,27 @@ impl HostRun {
         ensures bad { result ≡ Err LineError.Bad → HasNoNode self.old.waiting number }
     {
         self.begin(number)?;
-        Ok(self.settle_line_begun(alloc, number, slot)?)
+        let ended = self.settle(alloc, number, slot)?;
+        Ok(self.line_of(alloc, number, slot, ended)?)
     }
 
-    /// Hands on what was emitted at a slot, and answers the line that is printed: what each node has
-    /// externalized, or the first refusal.
-    fn settle_line_begun(
+    /// Hands on what was emitted at a slot; answers the first refusal.
+    fn settle(
         &mut self,
         alloc: Global,
         number: u32,
         slot: u64,
-    ) -> Result<String, AllocError>
-        ensures { IfOk result (λ text. HasSettled number slot self.old (string_bytes text) self.new) }
+    ) -> Result<Option<Refusal>, AllocError>
+        ensures { IfOk result (λ ended. HasSettled number slot self.old ended self.new) }
     {
         let names = match self.names(number) {
             Some(names) => Vec::from_slice(alloc, names)?,
-            None => return line_of_refusal(alloc, Refusal::NoSuchNetwork),
+            None => return Ok(Some(Refusal::NoSuchNetwork)),
         };
         if !self.is_open(number, slot) {
-            return line_of_refusal(alloc, Refusal::SlotNotOpen);
+            return Ok(Some(Refusal::SlotNotOpen));
         }
-        let ended = self.hand_on_all(number, slot, &names)?;
-        self.line_of(alloc, number, slot, ended)
+        self.hand_on_all(number, slot, &names)
     }
 
     /// The hosted nodes of a network, ascending, where an event has named it after it was declared.
@@ -236,7 +250,7 @@ impl HostRun {
     ) -> Result<Option<Refusal>, AllocError>
         ensures { IfOk result (λ ended. IsHanded number slot emission.now names.now self.old ended self.new) }
     {
-        match self.tell(number, slot, names, emission)? {
+        match self.let_others_hear(number, slot, names, emission)? {
             Some(refusal) => Ok(Some(refusal)),
             None => {
                 self.nets.followed.hand_on(number, slot);
@@ -246,7 +260,7 @@ impl HostRun {
     }
 
     /// Has each other node hear an emission, ascending; answers the first refusal.
-    fn tell(
+    fn let_others_hear(
         &mut self,
         number: u32,
         slot: u64,
@@ -330,6 +344,17 @@ pub fn emission_handed_on_was_heard()
 pub fn kept_emissions_are_found()
     ensures { KeptAreFound }
 {}
+
+/// Lets no refusal and any refusal pass, but for want of memory, which is an error.
+fn but_for_memory(refusal: Option<Refusal>) -> Result<(), AllocError>
+    ensures { OnOk result (refusal ≢ Some NoMemory) }
+{
+    match refusal {
+        // Memory: an event wanted it.
+        Some(Refusal::NoMemory) => Err(AllocError),
+        _ => Ok(()),
+    }
+}
 
 /// The event by which a node hears an emission.
 fn hearing(slot: u64, node: NodeId, emission: &Emission) -> Event

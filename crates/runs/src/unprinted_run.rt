@@ -12,7 +12,8 @@ use scripts::{LineError, LineRunner};
 use std::alloc::{AllocError, Global};
 use std::marker::Model;
 
-/// The networks of one script, whose lines are run as a [`HostRun`] runs them and print nothing.
+/// The networks of one script, whose lines are run as a [`HostRun`] runs them and print nothing. Where one of
+/// their events is refused for want of memory, that is no answer of a line: memory is short, and the run ends.
 #[derive(Drop)]
 pub struct UnprintedRun {
     run: HostRun,

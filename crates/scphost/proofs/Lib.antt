@@ -1,5 +1,2 @@
-mod CrowdLines
-mod LineLaws
 mod PrintingLaws
-mod PlanningLaws
 mod CommandLaws

@@ -4,15 +4,15 @@ use Rattle.std.specs.Prelude.{IfSome}
 use Rattle.scripts.specs.Script.{Bytes}
 use Rattle.protocol.specs.Hosts.{History}
 use Rattle.runs.specs.Submitting.{Submitting}
-use Rattle.scphost.specs.Comparisons.{IsComparison}
-use Rattle.scphost.specs.Crowding.{TellsCrowd}
+use Rattle.answers.specs.Comparisons.{IsComparison}
+use Rattle.answers.specs.Crowding.{TellsCrowd}
 use Rattle.runs.specs.Hosting.{new_hosting}
 use Rattle.runs.specs.Running
 use Rattle.scphost.specs.Printing.{HasAnswered, HasRunLines, IsCompared, IsCrowd, IsPerformed, IsPooled, IsPrinted, IsReported}
 use Rattle.scphost.specs.Reporting.{IsReport}
-use Rattle.scphost.specs.Scripts.{IsSubmittedBy, IsStoryOf, StopsPlan, StopsStories, StopsStory, StopsSubmissions, Story}
+use Rattle.answers.specs.Scripts.{IsSubmittedBy, IsStoryOf, StopsPlan, StopsStories, StopsStory, StopsSubmissions, Story}
 use Rattle.scphost.specs.Stops.{End}
-use Rattle.scphost.specs.declared.answer.Answer.{Answer}
+use Rattle.answers.specs.declared.answer.Answer.{Answer}
 use Rattle.command_line.specs.declared.call.Call.{Call}
 use Rattle.command_line.specs.declared.call.Call.TheVariants.{Run}
 use Rattle.command_line.specs.declared.subject.Format.{Format}

@@ -12,13 +12,13 @@ use Rattle.runs.specs.Running
 use Rattle.runs.specs.Plans.{Plan}
 use Rattle.runs.specs.Submitting.{Submitting}
 use Rattle.pooled.specs.Pooling.{IsPoolText}
-use Rattle.scphost.specs.Comparisons.{IsComparison}
-use Rattle.scphost.specs.Crowding.{TellsCrowd}
+use Rattle.answers.specs.Comparisons.{IsComparison}
+use Rattle.answers.specs.Crowding.{TellsCrowd}
 use Rattle.scphost.specs.Reporting.{IsReport}
-use Rattle.scphost.specs.Scripts.{IsPlannedBy, IsSubmittedBy, IsStoryOf, Story, longest_script}
-use Rattle.scphost.specs.Scripts.{StopsPlan, StopsStories, StopsStory, StopsSubmissions}
+use Rattle.answers.specs.Scripts.{IsPlannedBy, IsSubmittedBy, IsStoryOf, Story, longest_script}
+use Rattle.answers.specs.Scripts.{StopsPlan, StopsStories, StopsStory, StopsSubmissions}
 use Rattle.scphost.specs.Stops.{End, IsEndOf}
-use Rattle.scphost.specs.declared.answer.Answer.{Answer}
+use Rattle.answers.specs.declared.answer.Answer.{Answer}
 use Rattle.command_line.specs.declared.call.Call.{Call}
 use Rattle.command_line.specs.declared.call.Call.TheVariants.{Table, Run, Closure, Compare, Crowd}
 use Rattle.command_line.specs.declared.call.Usage.{Usage}
@@ -68,7 +68,7 @@ abbrev pub HasRunLines : {S : Type 0} → Telling S → Refusing S → S → Opt
     → Type 0
 HasRunLines {S = S} tells refuses start script old new end =
     (ran : Result (Unit {0}) Stop) × (last : S) × IsEndOf ran end
-    × HasRunScript tells refuses start script old new ran last
+    × HasRunScript longest_script tells refuses start script old new ran last
 
 -- what a call does with its files: it runs the lines of one, or prints the answer
 abbrev pub IsPerformed : Call → Option Bytes → Option Bytes → Option Bytes → Option Bytes → End → Type 0

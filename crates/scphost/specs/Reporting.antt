@@ -7,7 +7,7 @@ use Rattle.hoststep.specs.Worlds.{log_at}
 use Rattle.twoworlds.specs.Meanings.{entries_in, nodes_in}
 use Rattle.explorer.specs.Reports.{AreHosted, Shown}
 use Rattle.explorer.specs.Texts.{text_of_report}
-use Rattle.scphost.specs.declared.answer.Answer.{Answer}
+use Rattle.answers.specs.declared.answer.Answer.{Answer}
 use Rattle.command_line.specs.declared.subject.Format.{Format}
 use Rattle.command_line.specs.declared.subject.Format.TheVariants as format
 use Rattle.types.specs.declared.subject.Subject.{Subject}

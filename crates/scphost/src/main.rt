@@ -1,18 +1,12 @@
 //! The command line of a host of validators of the Stellar Consensus Protocol.
 #![tactic(auto)]
 
-mod answer;
 mod command;
-mod comparing;
-mod crowding;
-mod explaining;
 mod outputs;
 mod perform;
 mod pooling;
-mod quiet;
+mod printing;
 mod reporting;
-#[cfg(test)]
-mod tests;
 
 use command::answer_words;
 use command_line::Usage;

@@ -4,16 +4,14 @@ ghost use Rattle.std.specs.Prelude.{◌≡◌, Err, IfSome, None, false};
 ghost use Rattle.runs.specs.Hosting.{new_hosting};
 ghost use Rattle.runs.specs.Running.{RefusesLine, Tells};
 ghost use Rattle.scphost.specs.Printing.{HasAnswered, HasAnsweredUsage, HasRunLines, IsCompared, IsCrowd, IsPerformed, IsPerformedAsItComes, IsPooled, IsReported};
-ghost use Rattle.scphost.specs.Scripts.{StopsPlan, StopsStories, StopsStory, StopsSubmissions};
+ghost use Rattle.answers.specs.Scripts.{StopsPlan, StopsStories, StopsStory, StopsSubmissions};
 ghost use Rattle.scphost.specs.Stops.{IsEndOf, status_of_end};
 
-use crate::answer::write_text;
-use crate::comparing::{Side, Sides, answer_compare};
-use crate::crowding::{answer_crowd, read_submission};
 use crate::outputs::Outputs;
 use crate::pooling::answer_pool;
-use crate::quiet::FinishedScript;
+use crate::printing::{print_answer, write_text};
 use crate::reporting::answer_closure;
+use answers::{FinishedScript, Side, Sides, answer_compare, answer_crowd, read_submission};
 use command_line::{Call, Format, PoolSize, Usage, Word};
 use runs::HostRun;
 use scripts::{Stop, run_script, run_stream};
@@ -180,7 +178,7 @@ fn perform_pool<
         (W.contents outputs.old.out) (W.contents outputs.new.out) result }
 {
     match answer_pool(rt, script, workers) {
-        Ok(answer) => answer.print(outputs),
+        Ok(answer) => print_answer(&answer, outputs),
         Err(stop) => print_stop(stop, file.as_str(), &mut outputs.err),
     }
 }
@@ -200,7 +198,7 @@ fn perform_closure<R: Read, W: Write, E: Write>(
         Err(stop) => return print_stop(stop, request.file.as_str(), &mut outputs.err),
     };
     match answer_closure(alloc, &finished, request.subject, request.format) {
-        Ok(answer) => answer.print(outputs),
+        Ok(answer) => print_answer(&answer, outputs),
         Err(_) => print_stop(Stop::NoMemory, "", &mut outputs.err),
     }
 }
@@ -236,7 +234,7 @@ fn perform_compare<R: Read, T: Read, W: Write, E: Write>(
         },
     };
     match answer_compare(alloc, &sides, request.subject, request.explain) {
-        Ok(answer) => answer.print(outputs),
+        Ok(answer) => print_answer(&answer, outputs),
         Err(_) => print_stop(Stop::NoMemory, "", &mut outputs.err),
     }
 }
@@ -267,7 +265,7 @@ fn perform_crowd<R: Read, T: Read, W: Write, E: Write>(
         second.submission(),
         request.subject,
     ) {
-        Ok(answer) => answer.print(outputs),
+        Ok(answer) => print_answer(&answer, outputs),
         Err(_) => print_stop(Stop::NoMemory, "", &mut outputs.err),
     }
 }

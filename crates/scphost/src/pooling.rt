@@ -2,15 +2,12 @@
 
 ghost use Rattle.std.specs.Prelude.{IfErr, IfOk};
 ghost use Rattle.scphost.specs.Printing.{IsPooled};
-ghost use Rattle.scphost.specs.Scripts.{IsPlannedBy, StopsPlan};
+ghost use Rattle.answers.specs.Scripts.{StopsPlan};
 
-use crate::answer::Answer;
+use answers::{Answer, read_jobs};
 use command_line::PoolSize;
 use pooled::run_pool;
-use runs::JobRun;
-use scripts::{Stop, run_script};
-use std::alloc::Global;
-use std::io;
+use scripts::Stop;
 use std::io::Read;
 use std::sync::Wait;
 use std::thread::Threads;
@@ -34,21 +31,6 @@ pub fn answer_pool<A: AllocGlobal + Threads + Wait + Sync + Send + Copy + Drop, 
             text,
         }),
         // Memory: the pool has none.
-        Err(_) => Err(Stop::NoMemory),
-    }
-}
-
-/// Reads a script whole for the jobs of its lines. After the last one the networks that are declared with nodes
-/// and that no event has named are declared too. A line that is bad ends it.
-fn read_jobs<R: Read>(alloc: Global, script: &mut R) -> Result<JobRun, Stop>
-    ensures planned { IfOk result (IsPlannedBy (R.remaining script.old)) }
-    ensures stopped { IfErr result (StopsPlan (R.remaining script.old)) }
-{
-    let mut run = JobRun::new(alloc);
-    run_script(alloc, &mut run, script, &mut io::sink())?;
-    match run.finish() {
-        Ok(()) => Ok(run),
-        // Memory: finishing has none.
         Err(_) => Err(Stop::NoMemory),
     }
 }

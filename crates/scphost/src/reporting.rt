@@ -5,8 +5,7 @@ ghost use Rattle.hoststep.specs.Worlds.{log_at};
 ghost use Rattle.explorer.specs.Texts.{text_of_report};
 ghost use Rattle.scphost.specs.Reporting.{IsReport, IsReportOf};
 
-use crate::answer::Answer;
-use crate::quiet::FinishedScript;
+use answers::{Answer, FinishedScript};
 use command_line::Format;
 use explorer::{ClosureReport, NoNetwork, push_dot, push_svg, push_text, report_of};
 use std::alloc::{AllocError, Global};

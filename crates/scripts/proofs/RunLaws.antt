@@ -1,9 +1,9 @@
 -- A run goes on line by line.
-use Rattle.std.proofs.Common.{◌≡◌, ◌∙◌, ℕ, List, [], ◌∷◌, ◌++◌, refl, sym, ap, subst, append_assoc}
-use Rattle.std.specs.Prelude.{Option, Some, None, Result, Ok, Err, IfOk}
+use Rattle.std.proofs.Common.{◌≡◌, ◌∙◌, ◌<◌, ℕ, List, [], ◌∷◌, ◌++◌, length, refl, sym, ap, subst, append_assoc}
+use Rattle.std.specs.Prelude.{Option, Some, None, Result, Ok, Err, IfOk, IfSome}
 use Rattle.std.specs.List.{enumerate_from}
 use Rattle.std.specs.Io.KnownBytes.{Appends, Keeps}
-use Rattle.scripts.specs.Script.{Bytes, AreLines, AreFields, lines_of}
+use Rattle.scripts.specs.Script.{Bytes, AreLines, AreFields, IsSkipped, lines_of}
 use Rattle.scripts.specs.Runs.{Telling, Refusing, Passes, Fails, Runs, HasRun, HasRunLine, HasRunText, HasRunScript, on_a_line}
 use Rattle.scripts.specs.Stops.{stop_of_read}
 use Rattle.scripts.proofs.ScriptLemmas.{lines_are_lines}
@@ -99,13 +99,13 @@ ended_by tells refuses s text old mid new t u n line rest more stop.CannotRead c
 ended_by tells refuses s text old mid new t u n line rest more stop.TooLong c e ran = absurd ran
 
 pub told_line : {S P E : Type 0} (tells : Telling S) (s t : S) (line : Bytes) (fields told : List Bytes) (view : P → Option Bytes) (r : Result P E)
-    → AreFields line fields → told ≡ fields → IfOk r (λ printed. tells s told (view printed) t) → IfOk r (λ printed. Passes tells s line (on_a_line (view printed)) t)
-told_line tells s t line fields told view (Ok p) are e h = Passes.told are (subst (λ fs. tells s fs (view p) t) e h)
-told_line tells s t line fields told view (Err x) are e h = tt
+    → ¬ IsSkipped line → AreFields line fields → told ≡ fields → IfOk r (λ printed. tells s told (view printed) t) → IfOk r (λ printed. Passes tells s line (on_a_line (view printed)) t)
+told_line tells s t line fields told view (Ok p) runs are e h = Passes.told runs are (subst (λ fs. tells s fs (view p) t) e h)
+told_line tells s t line fields told view (Err x) runs are e h = tt
 
 pub refused_line : {S : Type 0} (refuses : Refusing S) (s : S) (line : Bytes) (fields told : List Bytes)
-    → AreFields line fields → told ≡ fields → refuses s told → Fails refuses s line
-refused_line refuses s line fields told are e h = Fails.refused are (subst (λ fs. refuses s fs) e h)
+    → ¬ IsSkipped line → AreFields line fields → told ≡ fields → refuses s told → Fails refuses s line
+refused_line refuses s line fields told runs are e h = Fails.refused runs are (subst (λ fs. refuses s fs) e h)
 
 -- ---- whole scripts
 
@@ -119,13 +119,13 @@ nothing_ran tells refuses s text out = record {
 }
 
 -- a script that was not read ran no line
-read_short : {S : Type 0} (tells : Telling S) (refuses : Refusing S) (s : S) (script out : Option Bytes)
-    → HasRunScript tells refuses s script out out (Err stop.NoMemory) s
-read_short tells refuses s None out = ([], tt, nothing_ran tells refuses s [] out)
-read_short tells refuses s (Some text) out = (text, refl, nothing_ran tells refuses s text out)
+read_short : {S : Type 0} (limit : ℕ) (tells : Telling S) (refuses : Refusing S) (s : S) (script out : Option Bytes)
+    → HasRunScript limit tells refuses s script out out (Err stop.NoMemory) s
+read_short limit tells refuses s None out = ([], tt, nothing_ran tells refuses s [] out)
+read_short limit tells refuses s (Some text) out = (text, refl, nothing_ran tells refuses s text out)
 
-pub unread : {S : Type 0} (tells : Telling S) (refuses : Refusing S) (s : S) (script out : Option Bytes) (error : ReadError)
-    → HasRunScript tells refuses s script out out (Err (stop_of_read error)) s
-unread tells refuses s script out read.CannotRead = (kept out, refl)
-unread tells refuses s script out read.TooLong = (kept out, refl)
-unread tells refuses s script out read.NoMemory = read_short tells refuses s script out
+pub unread : {S : Type 0} (limit : ℕ) (tells : Telling S) (refuses : Refusing S) (s : S) (script out : Option Bytes) (error : ReadError)
+    → (error ≡ read.TooLong → IfSome script (λ left. limit < length left)) → HasRunScript limit tells refuses s script out out (Err (stop_of_read error)) s
+unread limit tells refuses s script out read.CannotRead long = (kept out, refl)
+unread limit tells refuses s script out read.TooLong long = (long refl, kept out, refl)
+unread limit tells refuses s script out read.NoMemory long = read_short limit tells refuses s script out

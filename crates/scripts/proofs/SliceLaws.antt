@@ -8,7 +8,7 @@ use Rattle.types.specs.declared.nested.Member.{Member}
 use Rattle.types.specs.declared.nested.Member.TheVariants.{Node, Set}
 use Rattle.scripts.specs.Script.{Bytes}
 use Rattle.scripts.specs.Names.{text_of_name}
-use Rattle.scripts.specs.Printed.{behind_commas, with_brackets, comma, text_of_slices, without_first}
+use Rattle.scripts.specs.Printed.{behind_commas, text_of_set, comma, text_of_slices, without_first}
 use Rattle.scripts.proofs.RunLaws.{append_nothing}
 
 node_next : (ms : List Member) (i u : ℕ) (m : Member) → i < length ms → m ≡ get_or ms i m → m ≡ Node u → members_of (drop i ms) ≡ node u (members_of (drop (suc i) ms))
@@ -50,7 +50,7 @@ nothing_left false = refl
 -- the bracket behind the last member
 pub set_ended : (old text new : Bytes) (first : Bool) (ms : List Member) (i k : ℕ) (own : Members) → length ms ≤ i
     → text ++ without_first first (behind_commas (members_of (drop i ms))) ≡ old ++ (decimal k ++ 91 ∷ drop 1 (behind_commas own))
-    → new ≡ text ++ 93 ∷ [] → new ≡ old ++ with_brackets k (drop 1 (behind_commas own))
+    → new ≡ text ++ 93 ∷ [] → new ≡ old ++ text_of_set k (drop 1 (behind_commas own))
 set_ended old text new first ms i k own end h e =
     let none_left : without_first first (behind_commas (members_of (drop i ms))) ≡ [] =
     ap (λ (rest : List Member). without_first first (behind_commas (members_of rest))) (drop_of_length-le ms end) ∙ nothing_left first in

@@ -9,7 +9,7 @@ use Rattle.scripts.specs.Script.{Bytes}
 use Rattle.scripts.specs.Numbers.{IsDigit, decimal, decimal_from}
 use Rattle.scripts.specs.Words.{word_number}
 use Rattle.scripts.specs.Names.{text_of_name}
-use Rattle.scripts.specs.Printed.{behind_commas, with_brackets, text_of_slices}
+use Rattle.scripts.specs.Printed.{behind_commas, text_of_set, text_of_slices}
 use Rattle.scripts.specs.Slices.{SpellsMembers, SpellsSlices, SlicesReadBack}
 use Rattle.scripts.specs.Slices.SpellsMembers.{nobody, name, set}
 use Rattle.scripts.proofs.NumberLaws.{read_number}
@@ -81,7 +81,7 @@ members_printed (node u rest) h fit = name (text_of_name u) (behind_commas rest)
 members_printed (inner k own rest) h fit =
     let names = names_of_both (names_in own) (names_in rest) fit in
     let inside = drop 1 (behind_commas own) in
-    let parts : 44 ∷ (with_brackets k inside ++ behind_commas rest) ≡ 44 ∷ (digits_of k ++ 91 ∷ (inside ++ 93 ∷ behind_commas rest)) =
+    let parts : 44 ∷ (text_of_set k inside ++ behind_commas rest) ≡ 44 ∷ (digits_of k ++ 91 ∷ (inside ++ 93 ∷ behind_commas rest)) =
     ap (λ bs. 44 ∷ bs) (append_assoc (digits_of k) (91 ∷ (inside ++ 93 ∷ [])) (behind_commas rest) ∙ ap (λ bs. digits_of k ++ 91 ∷ bs) (append_assoc inside (93 ∷ []) (behind_commas rest))) in
     set (digits_of k) inside (behind_commas rest) parts (number_read_back k (2 ^ 8) (omega (arith, h.0)) (omega (arith, h.0)))
     (subst (SpellsMembers own) (comma_first own (omega (arith, h.0))) (members_printed own h.1 names.0)) (members_printed rest h.2 names.1)

@@ -93,6 +93,13 @@ at_end (Some xs) (Some ys) bytes c e stops unended =
     let through : bytes ≡ bytes ++ take_through 10 ys = e ∙ ap (take_through 10) c ∙ take_through-append 10 bytes ys (unfed_line bytes unended stops) in
     take_through-nil 10 ys (omega (arith, ap length through, length-append bytes (take_through 10 ys)))
 
+-- what was read is more than there is room for, so what was left is too
+pub too_much : (old new : Option Bytes) (start bytes : Bytes) (room : ℕ) → start ≡ [] → Consumes old new (drop (length start) bytes) → room < length bytes → IfSome old (λ left. room < length left)
+too_much None new start bytes room empty c over = tt
+too_much (Some xs) None start bytes room empty c over = absurd c
+too_much (Some xs) (Some ys) [] bytes room empty c over = omega (arith, over, ap length c, length-append bytes ys)
+too_much (Some xs) (Some ys) (x ∷ start) bytes room empty c over = cc
+
 pub next_read : (old new : Option Bytes) (start bytes : Bytes) → start ≡ [] → Consumes old new (drop (length start) bytes) → StopsAt (drop (length start) bytes) 10
     → IfSome old (λ xs. bytes ≡ start ++ take_through 10 xs) → IsNext old new bytes
 next_read old new [] bytes empty c stops e = record { consumed = c; one = stops; last = λ unended. at_end old new bytes c e stops unended }
@@ -212,12 +219,22 @@ read_short limit tells refuses s script mid old kept t number room h = (
       (ran_to limit tells refuses s script mid old kept kept t t number room [] [] (Err stop.NoMemory) h Runs.short (appends_nothing kept)),
 )
 
+-- more is left than there is room for, so the whole is longer than the limit
+past_limit : (limit room : ℕ) (script mid : Option Bytes) (front : Bytes) → room + length front ≡ limit → Consumes script mid front → IfSome mid (λ left. room < length left)
+    → IfSome script (λ left. limit < length left)
+past_limit limit room None mid front fits c long = tt
+past_limit limit room (Some s) None front fits c long = absurd c
+past_limit limit room (Some s) (Some rest) front fits c long = omega (arith, fits, long, ap length c, length-append front rest)
+
 -- the next line could not be read
 pub not_read : {S : Type 0} (limit : ℕ) (tells : Telling S) (refuses : Refusing S) (s : S) (script mid old kept : Option Bytes) (t : S) (number room : ℕ) (error : ReadError)
-    → Streams limit tells refuses s script mid old kept t number room → HasRunStream limit tells refuses s script old kept (Err (stop_of_read error)) t
-not_read limit tells refuses s script mid old kept t number room read.CannotRead h = front_ran limit tells refuses s script mid old kept t number room h
-not_read limit tells refuses s script mid old kept t number room read.TooLong h = front_ran limit tells refuses s script mid old kept t number room h
-not_read limit tells refuses s script mid old kept t number room read.NoMemory h = read_short limit tells refuses s script mid old kept t number room h
+    → (error ≡ read.TooLong → IfSome mid (λ left. room < length left)) → Streams limit tells refuses s script mid old kept t number room → HasRunStream limit tells refuses s script old kept (Err (stop_of_read error)) t
+not_read limit tells refuses s script mid old kept t number room read.CannotRead long h = front_ran limit tells refuses s script mid old kept t number room h
+not_read limit tells refuses s script mid old kept t number room read.TooLong long h = (
+  past_limit limit room script mid h.front h.fits h.consumed (long refl),
+  front_ran limit tells refuses s script mid old kept t number room h,
+)
+not_read limit tells refuses s script mid old kept t number room read.NoMemory long h = read_short limit tells refuses s script mid old kept t number room h
 
 lines_next : (bytes : Bytes) (ends : Bool) → ends_with_byte 10 bytes ≡ ends → 0 < length bytes → StopsAt bytes 10 → lines_of bytes ≡ strip_last 10 bytes ∷ []
 lines_next bytes true e some stops = ap lines_of (fed bytes e) ∙ lines_feed (strip_last 10 bytes) [] (fed_line bytes e stops)
@@ -330,6 +347,10 @@ all_limited : (n : ℕ) (script : Option Bytes) (text : Bytes) → length text �
 all_limited n None text short h = tt
 all_limited n (Some left) text short h = all_taken n text left h short
 
+past_limited : (n : ℕ) (script : Option Bytes) → IfSome (option_map (take (n + 1)) script) (λ left. n < length left) → IfSome script (λ left. n < length left)
+past_limited n None h = tt
+past_limited n (Some left) h = omega (arith, h, length-take (n + 1) left)
+
 -- what is said of a reader that gives one byte more than the limit at most holds of the reader that it limits
 pub limited_ran : {S : Type 0} (limit : ℕ) (tells : Telling S) (refuses : Refusing S) (s t : S) (script old new : Option Bytes) (end : Result (Unit {0}) Stop)
     → HasRunStream limit tells refuses s (option_map (take (limit + 1)) script) old new end t → HasRunStream limit tells refuses s script old new end t
@@ -338,4 +359,5 @@ limited_ran limit tells refuses s t script old new (Err (stop.BadLine n)) h = (h
 limited_ran limit tells refuses s t script old new (Err stop.NoMemory) h = (h.0, front_limited limit script h.0 h.2 h.1, h.2, h.3)
 limited_ran limit tells refuses s t script old new (Err stop.CannotWrite) h = tt
 limited_ran limit tells refuses s t script old new (Err stop.CannotRead) h = (h.0, front_limited limit script h.0 h.2 h.1, h.2, h.3, h.4)
-limited_ran limit tells refuses s t script old new (Err stop.TooLong) h = (h.0, front_limited limit script h.0 h.2 h.1, h.2, h.3, h.4)
+limited_ran limit tells refuses s t script old new (Err stop.TooLong) h =
+    let ran = h.1 in (past_limited limit script h.0, (ran.0, front_limited limit script ran.0 ran.2 ran.1, ran.2, ran.3, ran.4))

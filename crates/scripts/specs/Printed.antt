@@ -14,18 +14,18 @@ use Rattle.scripts.specs.Words.{text_of_ballot}
 -- ---- slices
 
 -- a threshold, and in brackets (91 and 93) what stands in them
-abbrev pub with_brackets : ℕ → Bytes → Bytes
-with_brackets k inside = decimal k ++ 91 ∷ (inside ++ 93 ∷ [])
+abbrev pub text_of_set : ℕ → Bytes → Bytes
+text_of_set k inside = decimal k ++ 91 ∷ (inside ++ 93 ∷ [])
 
 -- each member with a comma (44) before it: a name, or again a set
 abbrev pub behind_commas : Members → Bytes
 behind_commas none = []
 behind_commas (node u rest) = 44 ∷ (text_of_name u ++ behind_commas rest)
-behind_commas (inner k own rest) = 44 ∷ (with_brackets k (drop 1 (behind_commas own)) ++ behind_commas rest)
+behind_commas (inner k own rest) = 44 ∷ (text_of_set k (drop 1 (behind_commas own)) ++ behind_commas rest)
 
 -- the word that slices are printed as: a threshold, and in brackets the members with a comma between each and the next
 abbrev pub text_of_slices : Slices → Bytes
-text_of_slices q = with_brackets q.threshold (drop 1 (behind_commas q.members))
+text_of_slices q = text_of_set q.threshold (drop 1 (behind_commas q.members))
 
 -- a comma, but not before the first
 abbrev pub comma : Bool → Bytes

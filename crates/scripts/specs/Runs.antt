@@ -1,5 +1,5 @@
 -- What a run of lines prints, and how it ends.
-use Rattle.std.specs.Prelude.{◌≡◌, ◌++◌, ℕ, List, [], ◌∷◌, Option, Some, None, Result, Ok, Err, IfSome}
+use Rattle.std.specs.Prelude.{◌≡◌, ◌<◌, ◌++◌, ℕ, List, [], ◌∷◌, length, Option, Some, None, Result, Ok, Err, IfSome}
 use Rattle.std.specs.List.{enumerate_from}
 use Rattle.std.specs.Io.KnownBytes.{Appends, Keeps}
 use Rattle.scripts.specs.Script.{Bytes, AreFields, AreLines, IsBad, IsSkipped}
@@ -19,17 +19,18 @@ abbrev pub on_a_line : Option Bytes → Bytes
 on_a_line None = []
 on_a_line (Some text) = text ++ 10 ∷ []
 
--- a line is run: it writes this, and leaves that state
+-- a line is run: it writes this, and leaves that state. One that is skipped writes and changes nothing.
 pub data Passes {S : Type 0} (tells : Telling S) : S → Bytes → Bytes → S → Type 0 where
   skipped : {s : S} {line : Bytes} → IsSkipped line → Passes tells s line [] s
-  told : {s t : S} {line : Bytes} {fields : List Bytes} {printed : Option Bytes} → AreFields line fields
-      → tells s fields printed t
+  told : {s t : S} {line : Bytes} {fields : List Bytes} {printed : Option Bytes} → ¬ IsSkipped line
+      → AreFields line fields → tells s fields printed t
       → Passes tells s line (on_a_line printed) t
 
--- a line is bad
+-- a line is bad, as one that is skipped never is
 pub data Fails {S : Type 0} (refuses : Refusing S) : S → Bytes → Type 0 where
   no_fields : {s : S} {line : Bytes} → IsBad line → Fails refuses s line
-  refused : {s : S} {line : Bytes} {fields : List Bytes} → AreFields line fields → refuses s fields
+  refused : {s : S} {line : Bytes} {fields : List Bytes} → ¬ IsSkipped line → AreFields line fields
+      → refuses s fields
       → Fails refuses s line
 
 -- a run of numbered lines: what it writes, how it ends and the state that it leaves. It goes on to the first bad line,
@@ -76,10 +77,12 @@ HasRunText tells refuses s text old new (Err stop.CannotWrite) t = Unit {0}
 HasRunText tells refuses s text old new (Err stop.CannotRead) t = ⊥
 HasRunText tells refuses s text old new (Err stop.TooLong) t = ⊥
 
--- a script was run so, which is this text where it is known; one that could not be read, or is too long, ran no line
-abbrev pub HasRunScript : {S : Type 0} → Telling S → Refusing S → S → Option Bytes → Option Bytes → Option Bytes
+-- a script of so many bytes at most was run so, which is this text where it is known; one that could not be read, or
+-- that is longer, ran no line
+abbrev pub HasRunScript : {S : Type 0} → ℕ → Telling S → Refusing S → S → Option Bytes → Option Bytes → Option Bytes
     → Result (Unit {0}) Stop → S → Type 0
-HasRunScript tells refuses s script old new (Err stop.CannotRead) t = Keeps old new × (t ≡ s)
-HasRunScript tells refuses s script old new (Err stop.TooLong) t = Keeps old new × (t ≡ s)
-HasRunScript tells refuses s script old new end t =
+HasRunScript limit tells refuses s script old new (Err stop.CannotRead) t = Keeps old new × (t ≡ s)
+HasRunScript limit tells refuses s script old new (Err stop.TooLong) t =
+    IfSome script (λ left. limit < length left) × Keeps old new × (t ≡ s)
+HasRunScript limit tells refuses s script old new end t =
     (text : Bytes) × IfSome script (λ left. text ≡ left) × HasRunText tells refuses s text old new end t

@@ -1,5 +1,5 @@
 -- What a run of a script does that is read as it comes.
-use Rattle.std.specs.Prelude.{◌≡◌, ◌++◌, ◌⊎◌, ◌≤◌, ℕ, false, [], length, Option, Result, Ok, Err, IfSome}
+use Rattle.std.specs.Prelude.{◌≡◌, ◌++◌, ◌⊎◌, ◌<◌, ◌≤◌, ℕ, false, [], length, Option, Result, Ok, Err, IfSome}
 use Rattle.std.specs.Io.{StopsAt}
 use Rattle.std.specs.Io.BufRead.{ends_with_byte}
 use Rattle.std.specs.Io.KnownBytes.{Consumes, IsAtEnd}
@@ -38,8 +38,8 @@ HasRunRead limit tells refuses s script old new why t =
     (text : Bytes) × IfSome script (λ left. IsFrontOf text left) × (length text ≤ limit)
     × HasRun tells refuses s text old new (Err why) t
 
--- a script of so many bytes at most was run line by line as it was read. Where a read failed, or the script is too
--- long, the lines before were run; where a write failed, nothing is said.
+-- a script of so many bytes at most was run line by line as it was read. Where a read failed, or the script is longer,
+-- the lines before were run; where a write failed, nothing is said.
 abbrev pub HasRunStream : {S : Type 0} → ℕ → Telling S → Refusing S → S → Option Bytes → Option Bytes → Option Bytes
     → Result (Unit {0}) Stop → S → Type 0
 HasRunStream limit tells refuses s script old new (Ok r) t =
@@ -53,4 +53,4 @@ HasRunStream limit tells refuses s script old new (Err stop.CannotWrite) t = Uni
 HasRunStream limit tells refuses s script old new (Err stop.CannotRead) t =
     HasRunFront limit tells refuses s script old new t
 HasRunStream limit tells refuses s script old new (Err stop.TooLong) t =
-    HasRunFront limit tells refuses s script old new t
+    IfSome script (λ left. limit < length left) × HasRunFront limit tells refuses s script old new t

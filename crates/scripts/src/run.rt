@@ -72,7 +72,7 @@ pub fn run_script<S: LineRunner, R: Read, W: Write>(
         (IfSome (R.remaining script.old) (λ left. length left ≤ LONGEST_SCRIPT)) }
     ensures too_long { result ≡ Err Stop.TooLong
         → IfSome (R.remaining script.old) (λ left. LONGEST_SCRIPT < length left) }
-    ensures ran { HasRunScript S.tells S.refuses runner.old
+    ensures ran { HasRunScript LONGEST_SCRIPT S.tells S.refuses runner.old
         (R.remaining script.old) (W.contents out.old) (W.contents out.new) result runner.new }
 {
     match read_whole(alloc, script) {

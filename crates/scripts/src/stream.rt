@@ -1,6 +1,6 @@
 //! Running a script as it comes: each line is answered before the next one is waited for.
 
-ghost use Rattle.std.specs.Prelude.{◌≡◌, ◌≤◌, vec_len, IfOk};
+ghost use Rattle.std.specs.Prelude.{◌≡◌, ◌<◌, ◌≤◌, length, vec_len, Err, IfOk, IfSome};
 ghost use Rattle.std.specs.Io.BufRead.{ends_with_byte, strip_last};
 ghost use Rattle.scripts.specs.Runs.{HasRunLine};
 ghost use Rattle.scripts.specs.Streams.{HasRunStream, IsNext};
@@ -73,6 +73,7 @@ fn run_limited<S: LineRunner, R: BufRead, W: Write>(
 fn next_bytes<R: BufRead>(alloc: Global, reader: &mut R, room: usize) -> Result<Vec<u8>, ReadError>
     ensures next { IfOk result (λ bytes. IsNext (R.remaining reader.old) (R.remaining reader.new) bytes.items) }
     ensures fits { IfOk result (λ bytes. vec_len bytes ≤ room) }
+    ensures too_long { result ≡ Err ReadError.TooLong → IfSome (R.remaining reader.old) (λ left. room < length left) }
 {
     let mut bytes = Vec::new(alloc);
     match reader.read_until(b'\n', &mut bytes) {

@@ -21,7 +21,7 @@ use Rattle.listening.proofs.Offers.{table_with_offer-stale, table_with_offer-tak
 use Rattle.listening.specs.Listening.{ListenerState, IsStranger}
 use Rattle.slot.specs.Listening.{AddsRowAlone, node_of}
 use Rattle.envstore.specs.Archives.{sents_of}
-use Rattle.slot.specs.Wholes.{node_from_parts}
+use Rattle.slot.specs.NodeParts.{node_from_parts}
 
 -- what is not so is false
 pub untrue : (b : Bool) → IsTrue (not b) → b ≡ false

@@ -35,7 +35,7 @@ use Rattle.slot.specs.Listening.{Held, node_of}
 use Rattle.slot.specs.declared.filed.GivenOut.{GivenOut}
 use Rattle.slot.specs.Filings.{outs_of}
 use Rattle.slot.specs.declared.changes.Changed.{Changed}
-use Rattle.slot.specs.Wholes.{ChangesTo, IsChange, SendWellFormed, inputs_in_round, node_from_parts, with_changed}
+use Rattle.slot.specs.NodeParts.{ChangesTo, IsChange, SendWellFormed, inputs_in_round, node_from_parts, with_changed}
 
 -- the node that is held
 abbrev pub node_in : Held → Node
@@ -186,8 +186,8 @@ outs-after k inputs votes d h a v w os settled is given =
 -- an envelope from outside of a set that holds the node's reach, and not from a leader
 pub quiet-after : {E : Type 0} (n new : Node) (event : NodeEvent) (r : Result GivenOut E) → ComesOfEvents n → OnOk r (new ≡ (step n event).0) → IfOk r (λ v. outs_of v.outs.items ≡ (step n event).1)
     → (R : Names) (x : Sent) → event ≡ Take x → HoldsReach n.name n.slices n.table R → IsFalse (R x.sender) → IsFalse (among n.inputs.leaders x.sender) → IfOk r (λ v. IsQuiet R n new (outs_of v.outs.items))
-quiet-after n new event (Ok v) h node outs R x is held out inputs_in_round =
-    let q = outsiders_are_quiet R n x h held out inputs_in_round in
+quiet-after n new event (Ok v) h node outs R x is held out no_leader =
+    let q = outsiders_are_quiet R n x h held out no_leader in
     let same : new ≡ (step n (Take x)).0 = node ∙ ap (λ (e : NodeEvent). (step n e).0) is in
     let items : outs_of v.outs.items ≡ (step n (Take x)).1 = outs ∙ ap (λ (e : NodeEvent). (step n e).1) is in
     record {
@@ -196,4 +196,4 @@ quiet-after n new event (Ok v) h node outs R x is held out inputs_in_round =
       votes = ap (λ (m : Node). m.votes) same ∙ q.votes;
       rows = λ u k i. ap (λ (m : Node). row m.table u k) same ∙ q.rows u k i;
     }
-quiet-after n new event (Err e) h node outs R x is held out inputs_in_round = tt
+quiet-after n new event (Err e) h node outs R x is held out no_leader = tt

@@ -10,7 +10,7 @@ use Rattle.protocol.specs.Sameness.{same_sent}
 use Rattle.protocol.specs.States.{sent_nomination}
 use Rattle.protocol.proofs.Equality.Sameness.{same_sent-refl, same_sent-true}
 use Rattle.listening.specs.declared.configured.Configured.{Configured}
-use Rattle.slot.specs.Wholes.{sent_by, emitted_by}
+use Rattle.slot.specs.NodeParts.{sent_by, emitted_by}
 
 -- the same statement is not sent again
 pub emitted-same : (c : Configured) (old new : Option Statement) → old ≡ new → emitted_by c old new ≡ []

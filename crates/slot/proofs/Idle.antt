@@ -9,7 +9,7 @@ use Rattle.types.specs.declared.state.Votes.{Votes}
 use Rattle.protocol.specs.Nodes.{Node, change, is_counter_live, is_round_live}
 use Rattle.protocol.specs.Rows.{is_taken}
 use Rattle.listening.specs.declared.configured.Configured.{Configured}
-use Rattle.slot.specs.Wholes.{node_from_parts}
+use Rattle.slot.specs.NodeParts.{node_from_parts}
 
 -- what is done on a condition alone changes nothing only without it
 guarded : (b : Bool) (m : Node) → (if b then Some m else None) ≡ None → b ≡ false

@@ -18,7 +18,7 @@ use Rattle.slot.specs.declared.filed.FiledOut.{FiledOut}
 use Rattle.slot.specs.declared.filed.GivenOut.{GivenOut}
 use Rattle.slot.specs.declared.filed.FiledOut.TheVariants.{ArmNomination as FiledRound, ArmBallot as FiledCounter, Emit as FiledEmit, Externalized as FiledValue}
 use Rattle.slot.specs.Filings.{AreFiledOuts, IsFiledOut, out_of, outs_of}
-use Rattle.slot.specs.Wholes.{IsSentBy}
+use Rattle.slot.specs.NodeParts.{IsSentBy}
 
 -- ---- lists of outs
 -- who sends it, at which slot, with which slices

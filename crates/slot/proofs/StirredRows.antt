@@ -14,7 +14,7 @@ use Rattle.slot.specs.declared.stirring.Stirred.TheVariants.{All, Ballots, Nomin
 use Rattle.listening.specs.Listening.{ListenerState}
 use Rattle.slot.specs.Listening.{node_of}
 use Rattle.slot.specs.Stirrings.{IsStart, IsStirred, StirsIn}
-use Rattle.slot.specs.Wholes.{IsChange, node_from_parts}
+use Rattle.slot.specs.NodeParts.{IsChange, node_from_parts}
 use Rattle.slot.proofs.Answered.{sends_of, settles_of}
 
 -- ---- what is stirred

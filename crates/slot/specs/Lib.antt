@@ -1,5 +1,5 @@
 pub mod Differences
-pub mod Wholes
+pub mod NodeParts
 pub mod Listening
 pub mod Filings
 pub mod Stirrings

@@ -9,7 +9,7 @@ use Rattle.protocol.specs.Rows.{table_with_offer}
 use Rattle.envstore.specs.declared.filed.Filed.{Filed}
 use Rattle.envstore.specs.Archives.{sents_of}
 use Rattle.listening.specs.Listening.{ListenerState}
-use Rattle.slot.specs.Wholes.{node_from_parts}
+use Rattle.slot.specs.NodeParts.{node_from_parts}
 
 -- the node of the definitions, and the rows of its table as they were filed
 pub record Held : Type 0 where

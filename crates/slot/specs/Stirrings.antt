@@ -11,7 +11,7 @@ use Rattle.protocol.specs.Stirring.{ReachesSame, seen_by, settle_all, settle_bal
 use Rattle.protocol.specs.Views.{Seen}
 use Rattle.listening.specs.declared.configured.Configured.{Configured}
 use Rattle.view.specs.declared.known_reach.KnownReach.{KnownReach}
-use Rattle.slot.specs.Wholes.{SendWellFormed}
+use Rattle.slot.specs.NodeParts.{SendWellFormed}
 use Rattle.slot.specs.declared.stirring.Stirred.{Stirred}
 use Rattle.slot.specs.declared.stirring.Stirred.TheVariants.{All, Ballots, Nominations}
 

@@ -6,7 +6,7 @@ ghost use Rattle.listening.specs.Listening.{IsKnownOf};
 ghost use Rattle.protocol.specs.Nodes.{most_passes, outs, after_pass, settle};
 ghost use Rattle.slot.specs.Listening.{node_of};
 ghost use Rattle.slot.specs.Stirrings.{IsStart, is_listed};
-ghost use Rattle.slot.specs.Wholes.{node_from_parts};
+ghost use Rattle.slot.specs.NodeParts.{node_from_parts};
 ghost use Rattle.types.specs.Statements.{Sent};
 ghost use Rattle.view.specs.Knowing.{IsKnown};
 

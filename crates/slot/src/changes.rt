@@ -4,7 +4,7 @@ ghost use Rattle.std.specs.Prelude.{◌≡◌, ◌<◌, ◌+◌, IfOk, Some, is_
 ghost use Rattle.protocol.specs.Nodes.{at_next_counter, is_externalized};
 ghost use Rattle.protocol.specs.Timers.{is_ballot_timer_live, is_nomination_timer_live};
 ghost use Rattle.protocol.specs.States.{counter_of};
-ghost use Rattle.slot.specs.Wholes.{inputs_in_round};
+ghost use Rattle.slot.specs.NodeParts.{inputs_in_round};
 
 use crate::outs::is_externalized;
 use ballot::ballot_at_counter;

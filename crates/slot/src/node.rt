@@ -11,7 +11,7 @@ ghost use Rattle.envstore.specs.Archives.{AreFiled, IsFiled, Keeps, sent_of};
 ghost use Rattle.slot.specs.Filings.{AreFiledOuts, HasCopies, IsFiledEvent, event_of, outs_of};
 ghost use Rattle.slot.specs.Listening.{AddsRowAlone, node_of};
 ghost use Rattle.slot.specs.Stirrings.{IsStart};
-ghost use Rattle.slot.specs.Wholes.{ChangesTo, IsSentBy, node_from_parts};
+ghost use Rattle.slot.specs.NodeParts.{ChangesTo, IsSentBy, node_from_parts};
 ghost use Rattle.types.specs.Statements.{Sent};
 ghost use Rattle.types.specs.declared.event.NodeEvent.{NodeEvent};
 ghost use Rattle.types.specs.declared.event.Out.TheVariants.{Emit};

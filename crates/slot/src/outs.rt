@@ -5,7 +5,7 @@
 ghost use Rattle.std.specs.Prelude.{◌≡◌, ◌++◌, [], List, Option, IfOk, IfSome, OnOk, not, ◌&&◌, if◌then◌else◌};
 ghost use Rattle.protocol.specs.Nodes.{externalization, is_externalized, outs, when};
 ghost use Rattle.protocol.specs.States.{sent_nomination, sent_vote};
-ghost use Rattle.slot.specs.Wholes.{emitted_by, node_from_parts, SendWellFormed};
+ghost use Rattle.slot.specs.NodeParts.{emitted_by, node_from_parts, SendWellFormed};
 ghost use Rattle.types.specs.Statements.{IsWellFormed, Sent};
 ghost use Rattle.types.specs.declared.statement.Statement.{Statement};
 

@@ -2,7 +2,7 @@
 
 ghost use Rattle.std.specs.Prelude.{◌≡◌, ◌↔◌, IfOk, IsTrue};
 ghost use Rattle.protocol.specs.States.{sent_nomination};
-ghost use Rattle.slot.specs.Wholes.{sent_by};
+ghost use Rattle.slot.specs.NodeParts.{sent_by};
 ghost use Rattle.types.specs.Statements.{IsWellFormed};
 
 use listening::Configured;

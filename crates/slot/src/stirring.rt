@@ -2,7 +2,7 @@
 
 ghost use Rattle.std.specs.Prelude.{◌≡◌};
 ghost use Rattle.envstore.specs.Archives.{AreFiled, IsFiled, sent_of, sents_of};
-ghost use Rattle.latest.specs.Puts.{IsFiledPut, IsPut, undone};
+ghost use Rattle.latest.specs.Puts.{IsFiledPut, IsPut, before_put};
 ghost use Rattle.slot.specs.Stirrings.{IsStirred, stirred_by};
 
 use envstore::{Archive, Filed, Places};
@@ -32,7 +32,7 @@ pub(crate) fn put_row<S: Places>(
     requires rows { AreFiled archive.now listener.old.table }
     requires envelope { IsFiled archive.now envelope }
     ensures put { IsPut listener.old.table (sent_of envelope) result.0 listener.new.table }
-    ensures back { undone result.0 listener.new.table ≡ listener.old.table }
+    ensures back { before_put result.0 listener.new.table ≡ listener.old.table }
     ensures stirs { IsStirred result.1 listener.old.configured (sents_of listener.old.table) (sent_of envelope) (sents_of listener.new.table) }
     ensures same { listener.new.configured ≡ listener.old.configured }
     ensures filed { AreFiled archive.now listener.new.table }

@@ -1,2 +1,4 @@
 mod Backed
+pub mod BadLines
 pub mod RunLaws
+pub mod TellsOnce

@@ -1,11 +1,14 @@
 -- What one line does to a listener.
 use Rattle.std.proofs.Common.{◌≡◌, ℕ, List, [], ◌∷◌, refl, sym, subst, length, inl, inr}
 use Rattle.std.proofs.lemmas.Bool.{cases_eq}
-use Rattle.std.specs.Prelude.{◌≢◌, Option, Some, Result, Ok, Err, IfOk, map}
+use Rattle.std.specs.Prelude.{◌≢◌, Option, Some, None, Result, Ok, Err, IfOk, map}
 use Rattle.scripts.specs.Script.{Bytes}
+use Rattle.types.specs.Statements.{Sent}
 use Rattle.types.specs.declared.ballot.Ballot.{Ballot}
+use Rattle.codec.specs.Spelling.{Spells}
+use Rattle.listening.specs.declared.configured.Configured.{Configured}
 use Rattle.tables.specs.Listeners.{HeardRows}
-use Rattle.tables.specs.TableLines.{Asks, AsksNone, Backs, Tells}
+use Rattle.tables.specs.TableLines.{AreOwn, ArePut, Asks, AsksNone, Backs, Begins, Decodes, Hands, Prints, Puts, Takes, Tells}
 
 -- what holds of a word holds of what prints that word
 pub said : {P E : Type 0} (view : P → Option Bytes) (word : Option Bytes) (holds : Option Bytes → Type 0) (r : Result P E)
@@ -21,13 +24,45 @@ pub told : {P E : Type 0} (view : P → Option Bytes) (r : Result P E) (fields :
 told view (Ok p) fields h k b asks same backs = subst (λ n. Tells (Some h) fields (view p) (Some n)) (sym same) (Tells.ask asks backs)
 told view (Err x) fields h k b asks same backs = tt
 
-pub another : {P E : Type 0} (view : P → Option Bytes) (r : Result P E) (fields : List Bytes) (h k : HeardRows)
-    → AsksNone fields → IfOk r (λ p. Tells (Some h) fields (view p) (Some k))
-another view (Ok p) fields h k none = Tells.others none
-another view (Err x) fields h k none = tt
+pub began : (fields : List Bytes) (c : Configured) (h : HeardRows) → h ≡ record { configured = c; rows = [] } → Begins fields c → Tells None fields None (Some h)
+began fields c h new begins = subst (λ k. Tells None fields None (Some k)) (sym new) (Tells.itself begins)
+
+pub was_put : {P E : Type 0} (view : P → Option Bytes) (r : Result P E) (fields : List Bytes) (h k : HeardRows) (slot : ℕ) (e : Sent)
+    → slot ≡ h.configured.slot → Puts slot fields e → IfOk r (λ p. Takes h e (view p) k) → IfOk r (λ p. Tells (Some h) fields (view p) (Some k))
+was_put view (Ok p) fields h k slot e at puts takes = Tells.put (subst (λ i. Puts i fields e) at puts) takes
+was_put view (Err x) fields h k slot e at puts takes = tt
+
+pub was_decoded : {P E : Type 0} (view : P → Option Bytes) (r : Result P E) (bytes : Bytes) (h k : HeardRows) (e : Sent)
+    → Spells bytes e → IfOk r (λ p. Takes h e (view p) k) → IfOk r (λ p. Decodes h bytes (view p) k)
+was_decoded view (Ok p) bytes h k e spells takes = Decodes.envelope e spells takes
+was_decoded view (Err x) bytes h k e spells takes = tt
+
+pub was_handed : {P E : Type 0} (view : P → Option Bytes) (r : Result P E) (fields : List Bytes) (h k : HeardRows) (items bytes : Bytes)
+    → items ≡ bytes → Hands fields items → IfOk r (λ p. Decodes h bytes (view p) k) → IfOk r (λ p. Tells (Some h) fields (view p) (Some k))
+was_handed view (Ok p) fields h k items bytes same hands decodes = Tells.env (subst (Hands fields) same hands) decodes
+was_handed view (Err x) fields h k items bytes same hands decodes = tt
+
+pub was_shown : {P E : Type 0} (view : P → Option Bytes) (r : Result P E) (fields : List Bytes) (h : HeardRows)
+    → IfOk r (λ p. Prints h fields (view p)) → IfOk r (λ p. Tells (Some h) fields (view p) (Some h))
+was_shown view (Ok p) fields h prints = Tells.shown prints
+was_shown view (Err x) fields h prints = tt
 
 pub asks_two : {A : Type 0} (view : A → Bytes) (fields : List A) → (length fields ≡ 2 → ⊥) → AsksNone (map view fields)
 asks_two view [] other b asks = let e = asks.1 in cc
 asks_two view (a ∷ []) other b asks = let e = asks.1 in cc
 asks_two view (a ∷ c ∷ []) other b asks = other refl
 asks_two view (a ∷ c ∷ d ∷ more) other b asks = let e = asks.1 in cc
+
+pub own_three : {A : Type 0} (view : A → Bytes) (fields : List A) → (length fields ≡ 3 → ⊥) → (c : Configured) → AreOwn (map view fields) c → ⊥
+own_three view [] other c own = own
+own_three view (x ∷ []) other c own = own
+own_three view (x ∷ y ∷ []) other c own = own
+own_three view (x ∷ y ∷ z ∷ []) other c own = other refl
+own_three view (x ∷ y ∷ z ∷ w ∷ more) other c own = own
+
+pub put_three : {A : Type 0} (view : A → Bytes) (slot : ℕ) (fields : List A) → (length fields ≡ 3 → ⊥) → (e : Sent) → ArePut slot (map view fields) e → ⊥
+put_three view slot [] other e put = put
+put_three view slot (x ∷ []) other e put = put
+put_three view slot (x ∷ y ∷ []) other e put = put
+put_three view slot (x ∷ y ∷ z ∷ []) other e put = other refl
+put_three view slot (x ∷ y ∷ z ∷ w ∷ more) other e put = put

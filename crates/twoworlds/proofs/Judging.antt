@@ -20,7 +20,7 @@ use Rattle.protocol.specs.Runs.{IsRun}
 use Rattle.protocol.proofs.Runs.KeptWithin.{closure-start}
 use Rattle.protocol.proofs.Verdicts.IsolatedRuns.{isolated_runs}
 use Rattle.twoworlds.specs.declared.verdict.Verdict.{Verdict}
-use Rattle.twoworlds.specs.Meanings.{AreIsolated, IsVerdictOn, nodes_in, meant}
+use Rattle.twoworlds.specs.Meanings.{AreIsolated, IsVerdictOn, nodes_in, defined_verdict}
 use Rattle.twoworlds.specs.OutLists.{hosted_in, outs_of_each}
 
 -- ---- what passes a test
@@ -88,7 +88,7 @@ module _ (R : Names) (nodes : List HostedNode) (i : ℕ) (run : List Entry) wher
 -- ---- verdicts
 -- a verdict is right
 abbrev IsVerdictOf : List HostedNode → List HostedNode → List Entry → List Entry → ℕ → ℕ → Verdict → Type 0
-IsVerdictOf one other run others i v verdict = IsVerdict one other run others i v (meant verdict)
+IsVerdictOf one other run others i v verdict = IsVerdict one other run others i v (defined_verdict verdict)
 
 -- the same cast and the same kept steps, and so the same outs
 abbrev AreIsolatedRuns : List HostedNode → List HostedNode → List Entry → List Entry → ℕ → ℕ → Type 0

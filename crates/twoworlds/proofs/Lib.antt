@@ -1,6 +1,6 @@
 pub mod KeptSteps
 pub mod OutLaws
 pub mod Judging
-pub mod ToldLaws
+pub mod HistoryVerdicts
 pub mod ManyLaws
 pub mod Crossing

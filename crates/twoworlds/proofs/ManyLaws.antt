@@ -5,7 +5,7 @@ use Rattle.types.specs.declared.subject.Subject.{Subject}
 use Rattle.protocol.specs.Hosts.{History}
 use Rattle.hoststep.specs.Logs.{Log}
 use Rattle.hoststep.specs.Worlds.{AreJournalsOf}
-use Rattle.twoworlds.proofs.ToldLaws.{told_verdict}
+use Rattle.twoworlds.proofs.HistoryVerdicts.{verdict_of_histories}
 use Rattle.twoworlds.specs.Questions.{AreVerdictsBetween, AreVerdictsOn}
 use Rattle.twoworlds.specs.declared.verdict.Verdict.{Verdict}
 
@@ -23,9 +23,9 @@ all_ok {X} {Y} {E} Q R xs rs (Ok v) h z =
 all_ok Q R xs rs (Err e) h z = tt
 
 -- verdicts on the journals are verdicts on the histories
-pub told_verdicts : (h k : History) (ls ms : List Log) → AreJournalsOf h ls → AreJournalsOf k ms → (subjects : List Subject) (verdicts : List Verdict)
+pub verdicts_of_histories : (h k : History) (ls ms : List Log) → AreJournalsOf h ls → AreJournalsOf k ms → (subjects : List Subject) (verdicts : List Verdict)
     → AreVerdictsOn ls ms subjects verdicts → AreVerdictsBetween h k subjects verdicts
-told_verdicts h k ls ms one other [] [] x = tt
-told_verdicts h k ls ms one other [] (r ∷ rs) x = absurd x
-told_verdicts h k ls ms one other (s ∷ ss) [] x = absurd x
-told_verdicts h k ls ms one other (s ∷ ss) (r ∷ rs) x = (told_verdict h k ls ms s.net s.slot s.node r one other x.0, told_verdicts h k ls ms one other ss rs x.1)
+verdicts_of_histories h k ls ms one other [] [] x = tt
+verdicts_of_histories h k ls ms one other [] (r ∷ rs) x = absurd x
+verdicts_of_histories h k ls ms one other (s ∷ ss) [] x = absurd x
+verdicts_of_histories h k ls ms one other (s ∷ ss) (r ∷ rs) x = (verdict_of_histories h k ls ms s.net s.slot s.node r one other x.0, verdicts_of_histories h k ls ms one other ss rs x.1)

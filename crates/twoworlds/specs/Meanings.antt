@@ -10,10 +10,10 @@ use Rattle.twoworlds.specs.declared.verdict.Verdict.{Verdict}
 use Rattle.twoworlds.specs.declared.verdict.Verdict.TheVariants.{CastDiffers, InputsDiffer, Same}
 
 -- the verdict of the definitions
-abbrev pub meant : Verdict → verdicts.Verdict
-meant (CastDiffers u) = verdicts.Verdict.CastDiffers u
-meant (InputsDiffer place) = verdicts.Verdict.InputsDiffer place
-meant (Same list) = verdicts.Verdict.Same list
+abbrev pub defined_verdict : Verdict → verdicts.Verdict
+defined_verdict (CastDiffers u) = verdicts.Verdict.CastDiffers u
+defined_verdict (InputsDiffer place) = verdicts.Verdict.InputsDiffer place
+defined_verdict (Same list) = verdicts.Verdict.Same list
 
 -- the hosted nodes of a network; nobody where a world lacks it
 abbrev pub nodes_in : Option Log → List HostedNode
@@ -28,12 +28,12 @@ entries_in (Some l) = l.entries
 -- A verdict is right of what two worlds have of a network, for the closure of v at slot i in the first.
 abbrev pub IsVerdictOn : Option Log → Option Log → ℕ → ℕ → Verdict → Type 0
 IsVerdictOn one other i v verdict =
-    verdicts.IsVerdict (nodes_in one) (nodes_in other) (entries_in one) (entries_in other) i v (meant verdict)
+    verdicts.IsVerdict (nodes_in one) (nodes_in other) (entries_in one) (entries_in other) i v (defined_verdict verdict)
 
 -- It is right of a network in two histories, whose bytes are read as the codec reads them.
 abbrev pub IsVerdictBetween : History → History → ℕ → ℕ → ℕ → Verdict → Type 0
 IsVerdictBetween h k g i v verdict =
-    verdicts.IsVerdict (nodes_of h.configs g) (nodes_of k.configs g) (entries reading h g) (entries reading k g) i v (meant verdict)
+    verdicts.IsVerdict (nodes_of h.configs g) (nodes_of k.configs g) (entries reading h g) (entries reading k g) i v (defined_verdict verdict)
 
 -- Where both worlds have the same cast for the closure of v in the first, and the same kept steps, each member gave out
 -- the same in both.

@@ -34,7 +34,7 @@ pub fn compare<S: Shelf, T: Shelf>(
 ) -> Result<Verdict, AllocError>
     ensures verdict { IfOk result (λ r. IsVerdictOn (log_at one.now subject.now.net) (log_at other.now subject.now.net) subject.now.slot subject.now.node r) }
     ensures isolated { AreIsolated (log_at one.now subject.now.net) (log_at other.now subject.now.net) subject.now.slot subject.now.node }
-    ensures told { (h k : History) → AreJournalsOf h one.now → AreJournalsOf k other.now → IfOk result (IsVerdictBetween h k subject.now.net subject.now.slot subject.now.node) }
+    ensures histories { (h k : History) → AreJournalsOf h one.now → AreJournalsOf k other.now → IfOk result (IsVerdictBetween h k subject.now.net subject.now.slot subject.now.node) }
 {
     let Some(journal) = one.journal(subject.net) else {
         return Ok(Verdict::CastDiffers(subject.node));

@@ -30,7 +30,7 @@ use types::Subject;
 ///
 /// An error says that memory was short, for one of the questions or for the list of verdicts; then no
 /// question has an answer.
-#[tactic(auto, using(crate::proofs::ManyLaws::told_verdicts))]
+#[tactic(auto, using(crate::proofs::ManyLaws::verdicts_of_histories))]
 pub fn compare_all<S: Shelf + Sync, T: Shelf + Sync>(
     rt: &(impl Threads + Sync),
     alloc: Global,
@@ -43,7 +43,7 @@ where
     T::Place: Sync,
     ensures verdicts { IfOk result (λ all. AreVerdictsOn one.now other.now subjects.now all.items) }
     ensures isolated { AreAllIsolated one.now other.now subjects.now }
-    ensures told { (h k : History) → AreJournalsOf h one.now → AreJournalsOf k other.now → IfOk result (λ all. AreVerdictsBetween h k subjects.now all.items) }
+    ensures histories { (h k : History) → AreJournalsOf h one.now → AreJournalsOf k other.now → IfOk result (λ all. AreVerdictsBetween h k subjects.now all.items) }
 {
     are_all_isolated(one, other, subjects);
     let verdicts = verdicts_of(rt, alloc, one, other, subjects)?;

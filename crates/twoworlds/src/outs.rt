@@ -7,7 +7,7 @@ ghost use Rattle.protocol.specs.Sets.{IsAscending, among};
 ghost use Rattle.closure.specs.Announcing.{names_of};
 ghost use Rattle.twoworlds.specs.OutLists.{IsNotedAt, hosted_in, outs_of_each};
 
-use crate::steps::node_at;
+use crate::steps::node_of_entry;
 use crate::verdict::{MemberOuts, OutsOfMembers};
 use closure::ClosureList;
 use configuration::HostedNode;
@@ -70,7 +70,7 @@ fn note<S: Shelf>(
     requires same { length list.old.items ≡ length names.now }
     ensures { OnOk result (IsNotedAt slot entry.now.journal.now.entries entry.now.number names.now list.old.items list.new.items) }
 {
-    let Some(node) = node_at(entry.journal, entry.number, slot) else {
+    let Some(node) = node_of_entry(entry.journal, entry.number, slot) else {
         return Ok(());
     };
     let Ok(place) = names.binary_search(&node) else {

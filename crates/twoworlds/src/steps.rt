@@ -52,7 +52,7 @@ fn is_kept(step: &LentEvent<'_>, members: &ClosureList, slot: u64) -> bool
 
 /// The node to which an entry happened, where there is an entry of this number, it is of the slot and has
 /// a node.
-pub fn node_at<S: Shelf>(journal: &Journal<S>, number: usize, slot: u64) -> Option<NodeId>
+pub fn node_of_entry<S: Shelf>(journal: &Journal<S>, number: usize, slot: u64) -> Option<NodeId>
     ensures { result ≡ node_in slot (event_at journal.now.entries number) }
 {
     match journal.event(number) {

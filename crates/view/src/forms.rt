@@ -9,7 +9,7 @@ ghost use Rattle.view.specs.Forms.{AreAllForms, ArePart, IsFormOf, IsFormerOf, I
 
 use crate::own::Own;
 use crate::reached::ReachedRows;
-use compiled::{Form, compile, has_places, node_place, relocate};
+use compiled::{Form, compile, has_places, place_in_nodes, relocate};
 use envstore::Places;
 use std::alloc::{AllocError, Global};
 use types::{Nested, NodeId};
@@ -40,7 +40,7 @@ impl<'a> Former<'a> {
         if *node == *self.sender {
             return None;
         }
-        match node_place(self.nodes, node) {
+        match place_in_nodes(self.nodes, node) {
             None => None,
             Some(place) => form_in(self.forms, place),
         }

@@ -18,7 +18,7 @@ use crate::forms::{Candidates, Former, SlicesInReach};
 use crate::own::Own;
 use crate::reached::ReachedRows;
 use closure::{drops_none, keeps_reach, reach};
-use compiled::{CompiledSet, Form, compile, node_place};
+use compiled::{CompiledSet, Form, compile, place_in_nodes};
 use envstore::Places;
 use latest::{RowPlace, RowPlaces, Rows};
 use std::alloc::{AllocError, Global};
@@ -157,7 +157,7 @@ impl Region {
         requires { IsAscending self.now.nodes.items }
         ensures { IfOk result (IsChange own.entry.name.now own.entry.slices.now table.now envelope.now self.now) }
     {
-        let Some(place) = node_place(&self.nodes, envelope.sender()) else {
+        let Some(place) = place_in_nodes(&self.nodes, envelope.sender()) else {
             return Ok(Change::Reach(Extent::Other));
         };
         if place == self.place {
@@ -314,7 +314,7 @@ fn place_in(nodes: &[NodeId], node: &NodeId) -> usize
     ensures within { result < length nodes.now }
     ensures is { get_or nodes.now result 0 ≡ node.now }
 {
-    let Some(place) = node_place(nodes, node) else {
+    let Some(place) = place_in_nodes(nodes, node) else {
         unreachable!()
     };
     place

@@ -12,7 +12,7 @@ use Rattle.work.specs.Queues.{put_by, taken_by, parts_by, parts, AllPasses, IsOf
 use Rattle.work.proofs.Balances.{weigh-append}
 use Rattle.cells.specs.Sights.{CellSight}
 use Rattle.workers.specs.declared.worker.Worker.{Worker}
-use Rattle.workers.specs.Sums.{AllLaterWorkers, AllPassing, AllReady, IsClosed, KeepsSums, IsPassing, IsReady, IsSummed, weight_told, at_rest, denials_of, weight_done, hand_of, applied_by, refused_by, parts_of, passes_of, weight_put, receipts_of, weight_taken}
+use Rattle.workers.specs.Sums.{AllLaterWorkers, AllPassing, AllReady, IsClosed, KeepsSums, IsPassing, IsReady, IsSummed, weight_followed, at_rest, denials_of, weight_done, hand_of, applied_by, refused_by, parts_of, passes_of, weight_put, receipts_of, weight_taken}
 use Rattle.workers.specs.Numbers.{IsElsewhere}
 use Rattle.workers.proofs.Pairs.{zip-then}
 use Rattle.workers.proofs.Sums.{all_later_both, all_later_none}
@@ -109,7 +109,7 @@ closed cs (x ∷ xs) zs ps qs a c left lt at after all close nc kept =
       sum = λ h.
           let s = k.sum h in
           let d = w (weight_done h) in
-          let e = w (weight_told h) in
+          let e = w (weight_followed h) in
           let p : put_by h qs ≡ put_by h ps + weigh (weight_put h) (x ∷ xs) = ap (put_by h) all ∙ weigh-append (λ (p : Pass Job Hand). weigh h (view p).put) ps (passes_of (x ∷ xs)) ∙ (let r = all_put h (x ∷ xs) in omega arith) in
           let t : taken_by h qs ≡ taken_by h ps + weigh (weight_taken h) (x ∷ xs) = ap (taken_by h) all ∙ weigh-append (λ (p : Pass Job Hand). weigh h (view p).taken) ps (passes_of (x ∷ xs)) ∙ (let r = all_taken h (x ∷ xs) in omega arith) in
           let n = no_put h c.pass nc in

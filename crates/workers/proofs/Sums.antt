@@ -25,7 +25,7 @@ use Rattle.workers.specs.declared.walk.Walk.{Walk}
 use Rattle.workers.specs.declared.worker.Worker.{Worker}
 use Rattle.workers.specs.Numbers.{IsElsewhere, Lacks, IsNumberAt}
 use Rattle.workers.proofs.Pairs.{zip-at, zip-same, zip-set, zip-then}
-use Rattle.workers.specs.Sums.{job, hears, applied_of, refused_of, heard_of, done_by, told_by, applied_many, refused_many, seat_done, hand_of, IsWalk, AllSeated, IsLater, AllLater, IsDone, weight_done, weight_told, weight_put, weight_taken, KeepsSums, with_put, with_taken, AllPast, AllPastBut, IsPast, hear_by, hears_of, hears_from, emission_in, IsNext, IsShort, SamePlaces, IsThrough, IsSummed, IsReady, IsBusy}
+use Rattle.workers.specs.Sums.{job, hears, applied_of, refused_of, heard_of, done_by, followed_by, applied_many, refused_many, seat_done, hand_of, IsWalk, AllSeated, IsLater, AllLater, IsDone, weight_done, weight_followed, weight_put, weight_taken, KeepsSums, with_put, with_taken, AllPast, AllPastBut, IsPast, hear_by, hears_of, hears_from, emission_in, IsNext, IsShort, SamePlaces, IsThrough, IsSummed, IsReady, IsBusy}
 use Rattle.work.specs.declared.line.Queue.{Queue}
 use Rattle.std.proofs.Common.{Option, Some, None, ⊎_elim}
 use Rattle.workers.specs.Sums.{IsPassing}
@@ -40,7 +40,7 @@ weigh_set f (x ∷ xs) (suc k) old w lt is = let s = weigh_set f xs k old w (ome
 -- the same seat later
 
 pub later_none : (a : SeatSight) → IsLater a a
-later_none a = record { cell = refl; number = refl; config = refl; seats = refl; closed = refl; receipts = []; denials = []; gained = sym (append-nil _); refused = sym (append-nil _) }
+later_none a = record { cell = refl; number = refl; config = refl; seats = refl; closed = refl; stops = refl; receipts = []; denials = []; gained = sym (append-nil _); refused = sym (append-nil _) }
 
 pub later_both : (a b c : SeatSight) → IsLater a b → IsLater b c → IsLater a c
 later_both a b c x y = record {
@@ -49,6 +49,7 @@ later_both a b c x y = record {
   config = y.config ∙ x.config;
   seats = y.seats ∙ x.seats;
   closed = y.closed ∙ x.closed;
+  stops = y.stops ∙ x.stops;
   receipts = x.receipts ++ y.receipts;
   denials = x.denials ++ y.denials;
   gained = y.gained ∙ ap (λ l. l ++ y.receipts) x.gained ∙ append_assoc a.me.receipts x.receipts y.receipts;
@@ -182,46 +183,46 @@ past_all ws k w all is one i d lt =
 
 -- one job by one seat
 
-told_same : {S H P : Type 0} → (h : Job → ℕ) (a b : (Walk S H P)) (more : List AppliedEvent) → b.seat.me.config ≡ a.seat.me.config → b.place ≡ a.place → b.seat.me.receipts ≡ a.seat.me.receipts ++ more → a.place ≤ length a.seat.me.receipts → told_by h b ≡ told_by h a
-told_same h a b more config place gained le =
+followed_same : {S H P : Type 0} → (h : Job → ℕ) (a b : (Walk S H P)) (more : List AppliedEvent) → b.seat.me.config ≡ a.seat.me.config → b.place ≡ a.place → b.seat.me.receipts ≡ a.seat.me.receipts ++ more → a.place ≤ length a.seat.me.receipts → followed_by h b ≡ followed_by h a
+followed_same h a b more config place gained le =
     (λ i. heard_of h (config i) (take (place i) (gained i)))
     ∙ ap (heard_of h a.seat.me.config) (take-append-le a.place a.seat.me.receipts more le)
 
 pub done_well : {S H P : Type 0} (a b : Walk S H P) (c : CellSight) (j : Job) (x : AppliedEvent) → c.config.number ≡ j.network → IsWalk c a → IsSeatOf c b.seat → b.place ≡ a.place → b.seat.me.number ≡ a.seat.me.number
-    → x.event ≡ j.event → b.seat.me.receipts ≡ a.seat.me.receipts ++ x ∷ [] → b.seat.me.denials ≡ a.seat.me.denials
+    → x.event ≡ j.event → b.seat.me.receipts ≡ a.seat.me.receipts ++ x ∷ [] → b.seat.me.denials ≡ a.seat.me.denials → b.seat.me.stops ≡ a.seat.me.stops
     → IsDone a b j true
-done_well a b c j x here walk seat place number event more same =
+done_well a b c j x here walk seat place number event more same stops =
     let config : b.seat.me.config ≡ a.seat.me.config = seat.config ∙ sym walk.0.config in
     let n : ℕ = a.seat.me.config.number in
     record {
-      later = record { cell = seat.cell ∙ sym walk.0.cell; number = number; config = config; seats = seat.seats ∙ sym walk.0.seats; closed = seat.open_yet ∙ sym walk.0.open_yet; receipts = x ∷ []; denials = []; gained = more; refused = same ∙ sym (append-nil _) };
+      later = record { cell = seat.cell ∙ sym walk.0.cell; number = number; config = config; seats = seat.seats ∙ sym walk.0.seats; closed = seat.open_yet ∙ sym walk.0.open_yet; stops = stops; receipts = x ∷ []; denials = []; gained = more; refused = same ∙ sym (append-nil _) };
       place = place;
       sum = λ h.
           let p : applied_of h b.seat.me.config b.seat.me.receipts ≡ applied_of h a.seat.me.config a.seat.me.receipts + h (job n x.event) = (λ i. applied_of h (config i) (more i)) ∙ weigh-append (λ (r : AppliedEvent). h (job n r.event)) a.seat.me.receipts (x ∷ []) ∙ omega arith in
           let q : h (job n x.event) ≡ h j = λ i. h (job ((ap (λ (k : Config). k.number) walk.0.config ∙ here) i) (event i)) in
           let d : refused_of h b.seat.me.config b.seat.me.denials ≡ refused_of h a.seat.me.config a.seat.me.denials = λ i. refused_of h (config i) (same i) in
           omega arith;
-      told = λ h. told_same h a b (x ∷ []) config place more walk.1;
+      followed = λ h. followed_same h a b (x ∷ []) config place more walk.1;
       applied = ap (λ (l : List AppliedEvent). length l) more ∙ length-append a.seat.me.receipts (x ∷ []);
       refused = ap (λ (l : List Denial). length l) same ∙ omega arith;
     }
 
 pub done_ill : {S H P : Type 0} (a b : Walk S H P) (c : CellSight) (j : Job) (x : Denial) → c.config.number ≡ j.network → IsWalk c a → IsSeatOf c b.seat → b.place ≡ a.place → b.seat.me.number ≡ a.seat.me.number
-    → x.event ≡ j.event → b.seat.me.receipts ≡ a.seat.me.receipts → b.seat.me.denials ≡ a.seat.me.denials ++ x ∷ []
+    → x.event ≡ j.event → b.seat.me.receipts ≡ a.seat.me.receipts → b.seat.me.denials ≡ a.seat.me.denials ++ x ∷ [] → b.seat.me.stops ≡ a.seat.me.stops
     → IsDone a b j false
-done_ill a b c j x here walk seat place number event unchanged more =
+done_ill a b c j x here walk seat place number event unchanged more stops =
     let config : b.seat.me.config ≡ a.seat.me.config = seat.config ∙ sym walk.0.config in
     let same : b.seat.me.receipts ≡ a.seat.me.receipts ++ [] = unchanged ∙ sym (append-nil _) in
     let n : ℕ = a.seat.me.config.number in
     record {
-      later = record { cell = seat.cell ∙ sym walk.0.cell; number = number; config = config; seats = seat.seats ∙ sym walk.0.seats; closed = seat.open_yet ∙ sym walk.0.open_yet; receipts = []; denials = x ∷ []; gained = same; refused = more };
+      later = record { cell = seat.cell ∙ sym walk.0.cell; number = number; config = config; seats = seat.seats ∙ sym walk.0.seats; closed = seat.open_yet ∙ sym walk.0.open_yet; stops = stops; receipts = []; denials = x ∷ []; gained = same; refused = more };
       place = place;
       sum = λ h.
           let p : applied_of h b.seat.me.config b.seat.me.receipts ≡ applied_of h a.seat.me.config a.seat.me.receipts = λ i. applied_of h (config i) (unchanged i) in
           let d : refused_of h b.seat.me.config b.seat.me.denials ≡ refused_of h a.seat.me.config a.seat.me.denials + h (job n x.event) = (λ i. refused_of h (config i) (more i)) ∙ weigh-append (λ (x : Denial). h (job n x.event)) a.seat.me.denials (x ∷ []) ∙ omega arith in
           let q : h (job n x.event) ≡ h j = λ i. h (job ((ap (λ (k : Config). k.number) walk.0.config ∙ here) i) (event i)) in
           omega arith;
-      told = λ h. told_same h a b [] config place same walk.1;
+      followed = λ h. followed_same h a b [] config place same walk.1;
       applied = ap (λ (l : List AppliedEvent). length l) unchanged ∙ omega arith;
       refused = ap (λ (l : List Denial). length l) more ∙ length-append a.seat.me.denials (x ∷ []);
     }
@@ -249,7 +250,7 @@ kept_lacking cs a b j lacks walks pass applied refused = record {
   elsewhere = All-cons (IsElsewhere cs) j [] lacks (All-nil (IsElsewhere cs));
   sum = λ h.
       let d : weight_done h b ≡ weight_done h a = ap (weigh (done_by h)) walks in
-      let k : weight_told h b ≡ weight_told h a = ap (weigh (told_by h)) walks in
+      let k : weight_followed h b ≡ weight_followed h a = ap (weigh (followed_by h)) walks in
       let p : weight_put h b ≡ weight_put h a = ap (λ p. weigh h (hand_of p).put) pass in
       let t : weight_taken h b ≡ weight_taken h a = ap (λ p. weigh h (hand_of p).taken) pass in
       omega arith;
@@ -271,9 +272,9 @@ kept_done cs a b j k old new well lt at one walks pass applied refused = record 
       let d : weight_done h b ≡ weigh (done_by h) (slice_set a.walks.items k new) = ap (weigh (done_by h)) walks in
       let s = weigh_set (done_by h) a.walks.items k old new lt at in
       let x = one.sum h in
-      let e : weight_told h b ≡ weigh (told_by h) (slice_set a.walks.items k new) = ap (weigh (told_by h)) walks in
-      let f = weigh_set (told_by h) a.walks.items k old new lt at in
-      let y = one.told h in
+      let e : weight_followed h b ≡ weigh (followed_by h) (slice_set a.walks.items k new) = ap (weigh (followed_by h)) walks in
+      let f = weigh_set (followed_by h) a.walks.items k old new lt at in
+      let y = one.followed h in
       let p : weight_put h b ≡ weight_put h a = ap (λ p. weigh h (hand_of p).put) pass in
       let t : weight_taken h b ≡ weight_taken h a = ap (λ p. weigh h (hand_of p).taken) pass in
       omega arith;
@@ -298,7 +299,7 @@ kept_put cs a b j walks applied refused pass =
       elsewhere = All-nil (IsElsewhere cs);
       sum = λ h.
           let d : weight_done h b ≡ weight_done h a = ap (weigh (done_by h)) items in
-          let k : weight_told h b ≡ weight_told h a = ap (weigh (told_by h)) items in
+          let k : weight_followed h b ≡ weight_followed h a = ap (weigh (followed_by h)) items in
           let p : weight_put h b ≡ weight_put h a + h j = ap (λ (v : Hand). weigh h v.put) pass ∙ weigh-append h (hand_of a.pass).put (j ∷ []) ∙ omega arith in
           let t : weight_taken h b ≡ weight_taken h a = ap (λ (v : Hand). weigh h v.taken) pass in
           omega arith;
@@ -317,7 +318,7 @@ kept_taken cs a b c j walks applied refused pass kept =
       elsewhere = kept.elsewhere;
       sum = λ h.
           let d : weight_done h b ≡ weight_done h a = ap (weigh (done_by h)) items in
-          let k : weight_told h b ≡ weight_told h a = ap (weigh (told_by h)) items in
+          let k : weight_followed h b ≡ weight_followed h a = ap (weigh (followed_by h)) items in
           let p : weight_put h b ≡ weight_put h a = ap (λ (v : Hand). weigh h v.put) pass in
           let t : weight_taken h b ≡ weight_taken h a + h j = ap (λ (v : Hand). weigh h v.taken) pass ∙ weigh-append h (hand_of a.pass).taken (j ∷ []) ∙ omega arith in
           let s = kept.sum h in omega arith;
@@ -339,6 +340,7 @@ kept_moved cs a b c k w v r xs lt at next short is seat place walks pass applied
       config = ap (λ (s : SeatSight). s.me.config) seat;
       seats = ap (λ (s : SeatSight). s.me.seats) seat;
       closed = ap (λ (s : SeatSight). s.me.closed) seat;
+      stops = ap (λ (s : SeatSight). s.me.stops) seat;
       receipts = [];
       denials = [];
       gained = ap (λ (s : SeatSight). s.me.receipts) seat ∙ sym (append-nil _);
@@ -352,14 +354,14 @@ kept_moved cs a b c k w v r xs lt at next short is seat place walks pass applied
           let d : weight_done h c ≡ weigh (done_by h) (slice_set b.walks.items k v) = ap (weigh (done_by h)) walks in
           let d' = weigh_set (done_by h) b.walks.items k w v lt at in
           let same : done_by h v ≡ done_by h w = ap (seat_done h) seat in
-          let e : weight_told h c ≡ weigh (told_by h) (slice_set b.walks.items k v) = ap (weigh (told_by h)) walks in
-          let e' = weigh_set (told_by h) b.walks.items k w v lt at in
-          let more : told_by h v ≡ told_by h w + weigh h xs =
+          let e : weight_followed h c ≡ weigh (followed_by h) (slice_set b.walks.items k v) = ap (weigh (followed_by h)) walks in
+          let e' = weigh_set (followed_by h) b.walks.items k w v lt at in
+          let more : followed_by h v ≡ followed_by h w + weigh h xs =
           (λ i. heard_of h (seat i).me.config (take (place i) (seat i).me.receipts))
           ∙ ap (heard_of h w.seat.me.config) (take_more w.seat.me.receipts w.place r short ∙ ap (λ (x : AppliedEvent). take w.place w.seat.me.receipts ++ x ∷ []) (sym next))
           ∙ weigh-append (λ (x : AppliedEvent). weigh h (hears w.seat.me.config x)) (take w.place w.seat.me.receipts) (r ∷ [])
           ∙ omega arith
-          ∙ ap (λ (l : List Job). told_by h w + weigh h l) (sym is) in
+          ∙ ap (λ (l : List Job). followed_by h w + weigh h l) (sym is) in
           let p : weight_put h c ≡ weight_put h b = ap (λ p. weigh h (hand_of p).put) pass in
           let t : weight_taken h c ≡ weight_taken h b = ap (λ p. weigh h (hand_of p).taken) pass in
           omega arith;

@@ -21,7 +21,7 @@ use Rattle.workers.specs.declared.deal.SpareSeats.{SpareSeats}
 use Rattle.workers.specs.declared.running.Report.{Report}
 use Rattle.workers.specs.declared.walk.Walk.{Walk}
 use Rattle.workers.specs.declared.worker.Worker.{Worker}
-use Rattle.workers.specs.Sums.{AllLater, AllLaterWorkers, AllPassing, AllPast, AllReady, AllSeated, IsClosed, IsPast, IsLater, IsReady, applied_by, weight_told, told_by, denials_of, weight_done, heard_of, parts_of, weight_put, receipts_of, refused_by, seat_applied, seat_done, seat_heard, seat_refused, weight_taken}
+use Rattle.workers.specs.Sums.{AllLater, AllLaterWorkers, AllPassing, AllPast, AllReady, AllSeated, IsClosed, IsPast, IsLater, IsReady, applied_by, weight_followed, followed_by, denials_of, weight_done, heard_of, parts_of, weight_put, receipts_of, refused_by, seat_applied, seat_done, seat_heard, seat_refused, weight_taken}
 use Rattle.workers.specs.Spares.{AllFresh, AllGrown, AllGrownSpares, AllHave, AllHold, AllHosted, AllRoomy, IsCounted, IsHosted, IsDealt, IsDealtAll, IsGiven, IsSplit, IsWorked, at_work, on_spares}
 use Rattle.workers.proofs.Pairs.{zip-same, zip-then}
 use Rattle.workers.proofs.Sums.{later_none}
@@ -133,17 +133,17 @@ fresh_sums (w ∷ ws) all =
     let one = all 0 w (omega arith) in
     (omega (arith, r.0, one.0), omega (arith, r.1, one.1))
 
-told_past : {S H P : Type 0} → (h : Job → ℕ) (ws : List (Walk S H P)) → AllPast ws → weigh (told_by h) ws ≡ weigh (λ (v : (Walk S H P)). seat_heard h v.seat) ws
-told_past h [] all = refl
-told_past h (w ∷ ws) all =
-    let r = told_past h ws (All-tail IsPast w ws all) in
-    let e : told_by h w ≡ seat_heard h w.seat = ap (heard_of h w.seat.me.config) (take_all w.place w.seat.me.receipts (All-head IsPast w ws all)) in omega arith
+followed_past : {S H P : Type 0} → (h : Job → ℕ) (ws : List (Walk S H P)) → AllPast ws → weigh (followed_by h) ws ≡ weigh (λ (v : (Walk S H P)). seat_heard h v.seat) ws
+followed_past h [] all = refl
+followed_past h (w ∷ ws) all =
+    let r = followed_past h ws (All-tail IsPast w ws all) in
+    let e : followed_by h w ≡ seat_heard h w.seat = ap (heard_of h w.seat.me.config) (take_all w.place w.seat.me.receipts (All-head IsPast w ws all)) in omega arith
 
-told_all : {S H P : Type 0} → (cs : List CellSight) (q : Option Queue) (h : Job → ℕ) (ws : List (Worker S H P)) → AllReady cs q ws → weigh (weight_told h) ws ≡ at_work (seat_heard h) ws
-told_all cs q h [] all = refl
-told_all cs q h (w ∷ ws) all =
-    let r = told_all cs q h ws (All-tail (IsReady cs q) w ws all) in
-    let e = told_past h w.walks.items (All-head (IsReady cs q) w ws all).past in omega arith
+followed_all : {S H P : Type 0} → (cs : List CellSight) (q : Option Queue) (h : Job → ℕ) (ws : List (Worker S H P)) → AllReady cs q ws → weigh (weight_followed h) ws ≡ at_work (seat_heard h) ws
+followed_all cs q h [] all = refl
+followed_all cs q h (w ∷ ws) all =
+    let r = followed_all cs q h ws (All-tail (IsReady cs q) w ws all) in
+    let e = followed_past h w.walks.items (All-head (IsReady cs q) w ws all).past in omega arith
 
 pub worked : {S H P : Type 0} → (cs : List CellSight) (q : Option Queue) (xs mid ys : List (SpareSeats S H P)) (ws zs : List (Worker S H P)) (ps qs : List (Pass Job Hand)) (r : Report)
     → IsDealtAll xs ws mid → ((f : SeatSight → ℕ) → on_spares f ys ≡ on_spares f mid + at_work f zs) → AllFresh ws → IsSplit ps ws qs → AllReady cs q ws → AllReady cs None zs
@@ -159,8 +159,8 @@ worked cs q xs mid ys ws zs ps qs r dealt given fresh split ready rest closed co
           let c = closed.sum h in
           let p = split.put_all h in
           let t = split.taken_all h in
-          let a = told_all cs q h ws ready in
-          let b = told_all cs None h zs rest in
+          let a = followed_all cs q h ws ready in
+          let b = followed_all cs None h zs rest in
           let d : weigh (weight_done h) ws ≡ at_work (seat_done h) ws = refl in
           let e : weigh (weight_done h) zs ≡ at_work (seat_done h) zs = refl in
           let d0 = s (seat_done h) in
@@ -254,8 +254,8 @@ offered cs q xs mid ys a b ps qs rs jobs r dealt given a0 a1 before after k pop 
       let p1 : put_by h rs ≡ put_by h qs + weight_put h b = ap (put_by h) push ∙ weigh-append (λ (p : Pass Job Hand). weigh h (view p).put) qs (option_to_list b.pass) ∙ ap (λ n. put_by h qs + n) (put_weighs h b.pass) in
       let t0 : taken_by h ps ≡ taken_by h qs + weight_taken h a = ap (taken_by h) pop ∙ weigh-append (λ (p : Pass Job Hand). weigh h (view p).taken) qs (option_to_list a.pass) ∙ ap (λ n. taken_by h qs + n) (taken_weighs h a.pass) in
       let t1 : taken_by h rs ≡ taken_by h qs + weight_taken h b = ap (taken_by h) push ∙ weigh-append (λ (p : Pass Job Hand). weigh h (view p).taken) qs (option_to_list b.pass) ∙ ap (λ n. taken_by h qs + n) (taken_weighs h b.pass) in
-      let e0 = told_past h a.walks.items before.past in
-      let e1 = told_past h b.walks.items after.past in
+      let e0 = followed_past h a.walks.items before.past in
+      let e1 = followed_past h b.walks.items after.past in
       let d0 = dealt_sum (seat_done h) xs a.walks.items mid dealt in
       let d1 = given_sum (seat_done h) mid b.walks.items ys given in
       let h0 = dealt_sum (seat_heard h) xs a.walks.items mid dealt in

@@ -98,12 +98,15 @@ pub record IsDone (xs ys : List Net) (came went : (Job → ℕ) → ℕ) (r : Re
   pub refused : r.refused ≡ over_nets (λ a b. length (denials_gained a b)) xs ys + length lacking
   pub unrun : r.unrun ≡ 0
 
--- nothing was done, and the jobs that are left are counted
+-- Nothing was done. However jobs are weighed: those that came in are those that went out and those that are left; and
+-- the report has the number of these.
 pub record IsUndone (xs ys : List Net) (came went : (Job → ℕ) → ℕ) (r : Report) : Type 0 where
   pub same : ys ≡ xs
   pub applied : r.applied ≡ 0
   pub refused : r.refused ≡ 0
-  pub left : went (λ _. 1) + r.unrun ≡ came (λ _. 1)
+  pub left : List Job
+  pub sum : (h : Job → ℕ) → went h + weigh h left ≡ came h
+  pub unrun : r.unrun ≡ length left
 
 -- all was done, or nothing
 abbrev pub IsAllOrNothing : List Net → List Net → ((Job → ℕ) → ℕ) → ((Job → ℕ) → ℕ) → Report → Type 0

@@ -90,8 +90,8 @@ abbrev pub done_by : {S H P : Type 0} → (Job → ℕ) → (Walk S H P) → ℕ
 done_by h w = seat_done h w.seat
 
 -- what the receipts up to the place make heard
-abbrev pub told_by : {S H P : Type 0} → (Job → ℕ) → (Walk S H P) → ℕ
-told_by h w = heard_of h w.seat.me.config (take w.place w.seat.me.receipts)
+abbrev pub followed_by : {S H P : Type 0} → (Job → ℕ) → (Walk S H P) → ℕ
+followed_by h w = heard_of h w.seat.me.config (take w.place w.seat.me.receipts)
 
 abbrev pub applied_many : {S H P : Type 0} → (Walk S H P) → ℕ
 applied_many w = seat_applied w.seat
@@ -117,13 +117,14 @@ IsWalk c w = IsSeatOf c w.seat × (w.place ≤ length w.seat.me.receipts)
 abbrev pub AllSeated : {S H P : Type 0} → List CellSight → List (Walk S H P) → Type 0
 AllSeated cs ws = AllZip IsWalk cs ws
 
--- the same seat later: it has gained receipts and denials
+-- the same seat later: it has gained receipts and denials, and set no stop mark
 pub record IsLater (a b : SeatSight) : Type 0 where
   pub cell : b.cell ≡ a.cell
   pub number : b.me.number ≡ a.me.number
   pub config : b.me.config ≡ a.me.config
   pub seats : b.me.seats ≡ a.me.seats
   pub closed : b.me.closed ≡ a.me.closed
+  pub stops : b.me.stops ≡ a.me.stops
   pub receipts : List AppliedEvent
   pub denials : List Denial
   pub gained : b.me.receipts ≡ a.me.receipts ++ receipts
@@ -148,15 +149,15 @@ pub record IsDone {S H P : Type 0} (a b : (Walk S H P)) (j : Job) (well : Bool) 
   pub later : IsLater a.seat b.seat
   pub place : b.place ≡ a.place
   pub sum : (h : Job → ℕ) → done_by h b ≡ done_by h a + h j
-  pub told : (h : Job → ℕ) → told_by h b ≡ told_by h a
+  pub followed : (h : Job → ℕ) → followed_by h b ≡ followed_by h a
   pub applied : applied_many b ≡ applied_many a + (if well then 1 else 0)
   pub refused : refused_many b ≡ refused_many a + (if well then 0 else 1)
 
 abbrev pub weight_done : {S H P : Type 0} → (Job → ℕ) → (Worker S H P) → ℕ
 weight_done h w = weigh (done_by h) w.walks.items
 
-abbrev pub weight_told : {S H P : Type 0} → (Job → ℕ) → (Worker S H P) → ℕ
-weight_told h w = weigh (told_by h) w.walks.items
+abbrev pub weight_followed : {S H P : Type 0} → (Job → ℕ) → (Worker S H P) → ℕ
+weight_followed h w = weigh (followed_by h) w.walks.items
 
 abbrev pub weight_put : {S H P : Type 0} → (Job → ℕ) → (Worker S H P) → ℕ
 weight_put h w = weigh h (hand_of w.pass).put
@@ -177,8 +178,8 @@ pub record KeepsSums {S H P : Type 0} (cells : List CellSight) (handed : List Jo
   pub lacking : List Job
   pub elsewhere : AllLack cells lacking
   pub sum : (h : Job → ℕ)
-      → weight_done h b + weight_put h b + weigh h lacking + weight_told h a + weight_taken h a
-      ≡ weight_done h a + weight_put h a + weight_told h b + weight_taken h b + weigh h handed
+      → weight_done h b + weight_put h b + weigh h lacking + weight_followed h a + weight_taken h a
+      ≡ weight_done h a + weight_put h a + weight_followed h b + weight_taken h b + weigh h handed
   pub applied : b.applied + receipts_of a ≡ a.applied + receipts_of b
   pub refused : b.refused + denials_of a ≡ a.refused + denials_of b + length lacking
   pub later : AllLater a.walks.items b.walks.items
@@ -243,9 +244,9 @@ pub record IsSummed {S H P : Type 0} (cells : List CellSight) (xs ys : List (Wor
   pub lacking : List Job
   pub elsewhere : AllLack cells lacking
   pub sum : (h : Job → ℕ)
-      → weigh (weight_done h) ys + weigh (weight_put h) ys + weigh h lacking + weigh (weight_told h) xs
+      → weigh (weight_done h) ys + weigh (weight_put h) ys + weigh h lacking + weigh (weight_followed h) xs
       + weigh (weight_taken h) xs
-      ≡ weigh (weight_done h) xs + weigh (weight_put h) xs + weigh (weight_told h) ys + weigh (weight_taken h) ys
+      ≡ weigh (weight_done h) xs + weigh (weight_put h) xs + weigh (weight_followed h) ys + weigh (weight_taken h) ys
   pub applied : weigh applied_by ys + weigh receipts_of xs ≡ weigh applied_by xs + weigh receipts_of ys
   pub refused : weigh refused_by ys + weigh denials_of xs ≡ weigh refused_by xs + weigh denials_of ys + length lacking
   pub later : AllLaterWorkers xs ys
@@ -269,9 +270,9 @@ pub record IsClosed {S H P : Type 0} (cells : List CellSight) (ps : List (Pass J
   pub lacking : List Job
   pub elsewhere : AllLack cells lacking
   pub sum : (h : Job → ℕ)
-      → weigh (weight_done h) zs + weigh h lacking + weigh (weight_told h) xs + weigh (weight_taken h) xs
+      → weigh (weight_done h) zs + weigh h lacking + weigh (weight_followed h) xs + weigh (weight_taken h) xs
       + taken_by h ps
-      ≡ weigh (weight_done h) xs + weigh (weight_put h) xs + weigh (weight_told h) zs + put_by h ps
+      ≡ weigh (weight_done h) xs + weigh (weight_put h) xs + weigh (weight_followed h) zs + put_by h ps
   pub applied : weigh applied_by zs + weigh receipts_of xs ≡ weigh applied_by xs + weigh receipts_of zs
   pub refused : weigh refused_by zs + weigh denials_of xs ≡ weigh refused_by xs + weigh denials_of zs + length lacking
   pub later : AllLaterWorkers xs zs

@@ -124,7 +124,7 @@ impl<S: Shelf + Drop, H: Wait + Drop> Worker<S, H> {
     }
 
     /// Each other node of a cell's network hears an emission.
-    fn tell_others<R: Wait, G: Gate>(
+    fn let_others_hear<R: Wait, G: Gate>(
         &mut self,
         workplace: &Workplace<'_, S, H, R, G>,
         k: usize,
@@ -146,7 +146,7 @@ impl<S: Shelf + Drop, H: Wait + Drop> Worker<S, H> {
     }
 
     /// The others hear each emission of the receipt at a walk's place, and the place moves on.
-    fn tell_one<R: Wait, G: Gate>(&mut self, workplace: &Workplace<'_, S, H, R, G>, k: usize)
+    fn follow_receipt<R: Wait, G: Gate>(&mut self, workplace: &Workplace<'_, S, H, R, G>, k: usize)
         requires busy { IsBusy workplace.now.shared.now.cells.items workplace.now.shared.now.queue k self.old }
         requires place { IsShort self.old.walks.items k }
         ensures busy { IsBusy workplace.now.shared.now.cells.items workplace.now.shared.now.queue k self.new }
@@ -158,7 +158,7 @@ impl<S: Shelf + Drop, H: Wait + Drop> Worker<S, H> {
         for index in 0..many {
             match emission_at(&self.walks[k], &receipt, config.number(), index, mark) {
                 Some(emission) => {
-                    self.tell_others(workplace, k, emission);
+                    self.let_others_hear(workplace, k, emission);
                     mark += 1;
                 }
                 None => {}
@@ -177,7 +177,7 @@ impl<S: Shelf + Drop, H: Wait + Drop> Worker<S, H> {
     {
         for _ in workplace.rt.forever() {
             if is_short(&self.walks[k]) {
-                self.tell_one(workplace, k);
+                self.follow_receipt(workplace, k);
             } else {
                 break;
             }

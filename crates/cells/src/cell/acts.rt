@@ -91,7 +91,7 @@ fn end_seat<S: Shelf, H: Wait + Drop>(
     ensures sound { IsSound seat.new.me }
     ensures queue { IsSamePass keeper.old keeper.new }
     ensures keeper { view keeper.new ≡ with_note (view keeper.old) (note_of seat.old.me) }
-    ensures told { IsKnownAtEnd (view keeper.old).config (view keeper.old).all (view keeper.old).owners (view keeper.old).over (view keeper.old).stopper seat.new.me }
+    ensures end_known { IsKnownAtEnd (view keeper.old).config (view keeper.old).all (view keeper.old).owners (view keeper.old).over (view keeper.old).stopper seat.new.me }
 {
     let note = end(lock, &mut seat.pass);
     compare(lock, keeper, note);
@@ -223,6 +223,7 @@ impl<S: Shelf + Drop, H: Wait + Drop> Cell<S, H> {
         ensures seat { IsSeatOf self.now seat.new }
         ensures number { seat.new.me.number ≡ seat.old.me.number }
         ensures seen { IsPrefix seat.old.me.seen seat.new.me.seen }
+        ensures lasting { seat.old.me.stopped ≡ true → seat.new.me.stopped ≡ true }
         ensures ok { IfOk result (λ outs. IsApplied self.now event outs.items seat.old seat.new) }
         ensures err { IfErr result (λ r. IsDenial event r seat.old seat.new) }
         ensures refusal { IfErr result (IsWhy self.now.config seat.new.me.seen seat.new.me.stopped event) }
@@ -265,6 +266,7 @@ impl<S: Shelf + Drop, H: Wait + Drop> Cell<S, H> {
         ensures seat { IsSeatOf self.now seat.new }
         ensures number { seat.new.me.number ≡ seat.old.me.number }
         ensures seen { IsPrefix seat.old.me.seen seat.new.me.seen }
+        ensures lasting { seat.old.me.stopped ≡ true → seat.new.me.stopped ≡ true }
         ensures same { IsSameButSeen seat.old seat.new }
         ensures told { IsToldBut seat.new.me.seen result watch.new }
         ensures grows { IsPrefix watch.old watch.new }

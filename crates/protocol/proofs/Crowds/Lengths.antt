@@ -11,7 +11,7 @@ use Rattle.protocol.specs.Networks.{Reading, Step, Reply, step_of_event, size_of
 use Rattle.protocol.specs.Networks.Reading.{Read, Fault}
 use Rattle.protocol.specs.Networks.Step.{Delivers}
 use Rattle.protocol.specs.Hosts.{nets, host_run, steps_of}
-use Rattle.protocol.specs.Submissions.{Answer, answers_of, concerns, concerning, answers, HasOneLength, without_size, LengthsFollow}
+use Rattle.protocol.specs.Submissions.{Answer, answers_of, concerns, concerning_answers, answers, HasOneLength, without_size, LengthsFollow}
 
 -- a delivery that concerns the set is what some bytes are read as
 abbrev IsRead : (List ℕ → Reading) → Step → Type 0
@@ -25,7 +25,7 @@ is_read decode _ = tt
 -- so it is for all that concerns it
 abbrev AreRead : (List ℕ → Reading) → Names → ℕ → List Answer → Type 0
 AreRead decode R i xs =
-    AllByRecursion (λ (x : Answer). IsRead decode x.step × (concerns R i x.step ≡ true)) (concerning R i xs)
+    AllByRecursion (λ (x : Answer). IsRead decode x.step × (concerns R i x.step ≡ true)) (concerning_answers R i xs)
 
 are_read : (decode : List ℕ → Reading) (R : Names) (i g : ℕ) (calls : List (ℕ × Event)) (rs : List Reply)
     → AreRead decode R i (answers_of g (steps_of decode calls) rs)
@@ -39,7 +39,7 @@ are_read decode R i g (c ∷ cs) (r ∷ rs) = go (c.0 == g) (are_read decode R i
 
     more : (b : Bool) → concerns R i (step_of_event decode c.1) ≡ b → AreRead decode R i rest
         → AllByRecursion (λ (x : Answer). IsRead decode x.step × (concerns R i x.step ≡ true))
-        (cond b (record { step = step_of_event decode c.1; reply = r } ∷ concerning R i rest) (concerning R i rest))
+        (cond b (record { step = step_of_event decode c.1; reply = r } ∷ concerning_answers R i rest) (concerning_answers R i rest))
     more true e h = ((is_read decode c.1, e), h)
     more false e h = h
 
@@ -114,6 +114,6 @@ module _ (decode : List ℕ → Reading) (R : Names) (i : ℕ) where
 
 pub lengths_follow : LengthsFollow
 lengths_follow decode lengths one other g i R h =
-    one_list decode R i lengths (concerning R i (answers decode one g)) (concerning R i (answers decode other g))
+    one_list decode R i lengths (concerning_answers R i (answers decode one g)) (concerning_answers R i (answers decode other g))
     (are_read decode R i g one.calls (host_run (nets one.configs) (steps_of decode one.calls)))
     (are_read decode R i g other.calls (host_run (nets other.configs) (steps_of decode other.calls))) h

@@ -9,8 +9,8 @@ use Rattle.protocol.specs.Networks.{HostedNode, Net, Step, Reply, slices_of, tes
 use Rattle.protocol.specs.Networks.Reply.{Done, Refused}
 use Rattle.protocol.specs.Hosts.{Config, Entry, journal_with, journal, new_net, nets, nodes_of, steps_of, entries}
 use Rattle.protocol.specs.Isolation.{KeptStep, kept_step, kept_of, closure, outs_of, SameCast}
-use Rattle.protocol.specs.Submissions.{Answer, net_run, answers, concerns, concerning, concerning_steps, replied_to, config_of, SameRoster, SameReserves, names_on, roster_names, MembersAreNeverCrowdedOut, MembersOfRunsAreNeverCrowdedOut}
-use Rattle.protocol.proofs.Runs.Openings.{NodesIn}
+use Rattle.protocol.specs.Submissions.{Answer, net_run, answers, concerns, concerning_answers, concerning_steps, replied_to, config_of, SameRoster, SameReserves, names_on, roster_names, MembersAreNeverCrowdedOut, MembersOfRunsAreNeverCrowdedOut}
+use Rattle.protocol.proofs.Runs.Openings.{HaveSlicesWithin}
 use Rattle.protocol.proofs.Runs.KeptWithin.{nodes-closed, events-closed, closure-start}
 use Rattle.protocol.proofs.Runs.SameSteps.{casts-same, nodes-other, no-instances, journals-agree}
 use Rattle.protocol.proofs.Runs.Hosts.{steps_to, applied-journal, answers-run, HasNet, find_net, nobody}
@@ -27,17 +27,17 @@ abbrev kept_answer : Names → ℕ → Answer → Option KeptStep
 kept_answer R i x = if_done x.reply (kept_step R i x.step)
 
 kept_step-answers : (R : Names) (i : ℕ) (es : List Step) (net : Net)
-    → kept_of R i (journal net es) ≡ filter_map (kept_answer R i) (concerning R i (net_run net es))
+    → kept_of R i (journal net es) ≡ filter_map (kept_answer R i) (concerning_answers R i (net_run net es))
 unfolding kept_of journal net_run net_step
 kept_step-answers R i [] net = refl
 kept_step-answers R i (e ∷ es) net =
     go (concerns R i e) refl (first_that (tests net e)) (λ n. kept_step-answers R i es n)
   where
     rest : Option Refusal → List Answer
-    rest o = concerning R i (net_run (state_and_reply net e o).0 es)
+    rest o = concerning_answers R i (net_run (state_and_reply net e o).0 es)
 
     go : (b : Bool) → concerns R i e ≡ b → (o : Option Refusal)
-        → ((n : Net) → kept_of R i (journal n es) ≡ filter_map (kept_answer R i) (concerning R i (net_run n es)))
+        → ((n : Net) → kept_of R i (journal n es) ≡ filter_map (kept_answer R i) (concerning_answers R i (net_run n es)))
         → kept_of R i (journal_with e (state_and_reply net e o).1 (journal (state_and_reply net e o).0 es))
         ≡ filter_map (kept_answer R i)
         (cond b (record { step = e; reply = (state_and_reply net e o).1 } ∷ rest o) (rest o))
@@ -75,9 +75,9 @@ pub replies-agree : (config config' : Config) (r r' : Roster) (i v : ℕ) (es es
 replies-agree config config' r r' i v es es' h h' cast names shares slots on same =
     let run = journal (new_net config) es in
     let R : Names = closure config.nodes i v run in
-    let closed : NodesIn R config.nodes = nodes-closed config.nodes i v run in
+    let closed : HaveSlicesWithin R config.nodes = nodes-closed config.nodes i v run in
     let on' : (u : ℕ) → R u ≡ true → among r'.names u ≡ true = λ u m. sym (names u) ∙ on u m in
-    let one : Shows R i r on (new_net config) (concerning R i (net_run (new_net config) es)) run =
+    let one : Shows R i r on (new_net config) (concerning_answers R i (net_run (new_net config) es)) run =
     shows R i r on es (new_net config) (record { instances = no-instances R i config; nodes = closed; roster = h })
     (inl (events-closed config.nodes i v run)) in
     let frames : frame R r (new_net config) ≡ frame R r' (new_net config') =
@@ -86,7 +86,7 @@ replies-agree config config' r r' i v es es' h h' cast names shares slots on sam
     (concerning_steps R i (net_run (new_net config') es')) =
     subst (λ (z : Frame × List Step). AllGood R i z.0 (view R i (new_net config)) z.1)
     (λ j. (frames j, same j)) one.good in
-    let other : Shows R i r' on' (new_net config') (concerning R i (net_run (new_net config') es'))
+    let other : Shows R i r' on' (new_net config') (concerning_answers R i (net_run (new_net config') es'))
     (journal (new_net config') es') =
     shows R i r' on' es' (new_net config')
     (record {
@@ -110,8 +110,8 @@ outs-agree config config' i v es es' cast steps replies =
     journals-agree config config' i v es es' cast
     (kept_step-answers R i es (new_net config)
     ∙ (ap (filter_map (kept_answer R i))
-    (one-list (concerning R i (net_run (new_net config) es))
-    (concerning R i (net_run (new_net config') es')) steps replies)
+    (one-list (concerning_answers R i (net_run (new_net config) es))
+    (concerning_answers R i (net_run (new_net config') es')) steps replies)
     ∙ sym (kept_step-answers R i es' (new_net config'))))
 
 -- ---- two host histories

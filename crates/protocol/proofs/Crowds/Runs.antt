@@ -13,12 +13,12 @@ use Rattle.protocol.specs.Networks.Reply.{Done, Refused}
 use Rattle.protocol.specs.Hosts.{Entry, journal_with, journal}
 use Rattle.protocol.specs.Isolation.{KeptStep, when_kept, kept_step, is_of}
 use Rattle.protocol.specs.Isolation.KeptStep.{Opening, Closing}
-use Rattle.protocol.specs.Submissions.{Answer, net_run, concerns, concerning}
+use Rattle.protocol.specs.Submissions.{Answer, net_run, concerns, concerning_answers}
 use Rattle.protocol.proofs.Equality.Sameness.{eqb-refl}
 use Rattle.protocol.proofs.Runs.Sights.{Sight, sight, AllInstances, play, reply}
 use Rattle.protocol.proofs.Runs.Follows.{Follows}
 use Rattle.protocol.proofs.Runs.Events.{IsWithin, follows}
-use Rattle.protocol.proofs.Runs.Openings.{NodesIn, cast_of}
+use Rattle.protocol.proofs.Runs.Openings.{HaveSlicesWithin, cast_of}
 use Rattle.protocol.proofs.Networks.Effects.{next, effect-keeps, left}
 use Rattle.protocol.proofs.Runs.KeptSteps.{AllIn, is_new}
 use Rattle.protocol.proofs.Runs.KeptWithin.{kept_step-to, if_kept}
@@ -80,7 +80,7 @@ module _ (R : Names) (i : ℕ) (r : Roster) (on : (u : ℕ) → R u ≡ true →
   -- a network of which R is known to see enough
   pub record Stands (net : Net) : Type 0 where
     pub instances : AllInstances R i net
-    pub nodes : NodesIn R net.nodes
+    pub nodes : HaveSlicesWithin R net.nodes
     pub roster : net.roster ≡ Some r
 
   follows-here : (net : Net) (e : Step) → Stands net → first_that (tests net e) ≡ None → IsWithin R i e
@@ -93,7 +93,7 @@ module _ (R : Names) (i : ℕ) (r : Roster) (on : (u : ℕ) → R u ≡ true →
       let k = effect-keeps net e in
       record {
         instances = (follows-here net e s q f).instances;
-        nodes = subst (NodesIn R) (sym k.nodes) s.nodes;
+        nodes = subst (HaveSlicesWithin R) (sym k.nodes) s.nodes;
         roster = k.roster ∙ s.roster;
       }
 
@@ -170,8 +170,8 @@ module _ (R : Names) (i : ℕ) (r : Roster) (on : (u : ℕ) → R u ≡ true →
       ≡ replies_in R i (frame R r net') w (map (λ x. x.step) xs)
   replies-as net net' w xs f v = ap₂ (λ (a : Frame) (b : View). replies_in R i a b (map (λ x. x.step) xs)) f v
 
-  pub shows : (es : List Step) (net : Net) → Stands net → IsGood net (concerning R i (net_run net es)) (journal net es)
-      → Shows net (concerning R i (net_run net es)) (journal net es)
+  pub shows : (es : List Step) (net : Net) → Stands net → IsGood net (concerning_answers R i (net_run net es)) (journal net es)
+      → Shows net (concerning_answers R i (net_run net es)) (journal net es)
   unfolding net_run journal net_step
   shows [] net s g = record { replies = refl; good = tt; within = tt }
   shows (e ∷ es) net s g = go (concerns R i e) refl (first_that (tests net e)) refl g (λ n. shows es n)
@@ -180,14 +180,14 @@ module _ (R : Names) (i : ℕ) (r : Roster) (on : (u : ℕ) → R u ≡ true →
       answer o = record { step = e; reply = (state_and_reply net e o).1 }
 
       rest : Option Refusal → List Answer
-      rest o = concerning R i (net_run (state_and_reply net e o).0 es)
+      rest o = concerning_answers R i (net_run (state_and_reply net e o).0 es)
 
       entries : Option Refusal → List Entry
       entries o = journal_with e (state_and_reply net e o).1 (journal (state_and_reply net e o).0 es)
 
       Hypothesis : Type 0
-      Hypothesis = (n : Net) → Stands n → IsGood n (concerning R i (net_run n es)) (journal n es)
-          → Shows n (concerning R i (net_run n es)) (journal n es)
+      Hypothesis = (n : Net) → Stands n → IsGood n (concerning_answers R i (net_run n es)) (journal n es)
+          → Shows n (concerning_answers R i (net_run n es)) (journal n es)
 
       go : (b : Bool) → concerns R i e ≡ b → (o : Option Refusal) → first_that (tests net e) ≡ o
           → IsGood net (with_one b (answer o) (rest o)) (entries o) → Hypothesis

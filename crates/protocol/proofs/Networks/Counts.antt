@@ -11,7 +11,7 @@ use Rattle.protocol.specs.Networks.{Net, Step, source, size_of, on_budgets, on_o
 use Rattle.protocol.specs.Networks.Step.{Opens}
 use Rattle.protocol.specs.Hosts.{Config, Entry, new_net}
 use Rattle.protocol.specs.Runs.{net_after}
-use Rattle.protocol.specs.Counts.{is_of_budgets, is_of_opens, is_of_share, drawing, bytes_in, is_opening, since_opened, IsCountOf, RunsAreCounted}
+use Rattle.protocol.specs.Counts.{is_of_budgets, is_of_opens, is_of_share, drawing_entries, bytes_in, is_opening, since_opened, IsCountOf, RunsAreCounted}
 use Rattle.protocol.proofs.Sets.Lists.{filter_filter}
 use Rattle.protocol.proofs.Sets.Numbers.{turned}
 use Rattle.protocol.proofs.Networks.Effects.{effect-keeps, left}
@@ -144,23 +144,23 @@ module _ (config : Config) (before : List Entry) (net : Net) (x : Entry) (h : ne
   since-next i o = since-more i before x ∙ ap (λ b. if b then [] else since_opened i before ++ x ∷ []) o
 
   -- a sum over the entries that draw on something, with one more
-  sum-drawing : (sum : List Entry → ℕ) (each : Entry → ℕ) → IsSum sum each → (test : Source → Bool) (xs : List Entry)
-      → sum (drawing config test xs) + (if test (source net.roster x.event) then each x else 0)
-      ≡ sum (drawing config test (xs ++ x ∷ []))
-  sum-drawing sum each is test xs =
-      ap (λ s. sum (drawing config test xs) + (if test s then each x else 0)) there
+  sum-drawing_entries : (sum : List Entry → ℕ) (each : Entry → ℕ) → IsSum sum each → (test : Source → Bool) (xs : List Entry)
+      → sum (drawing_entries config test xs) + (if test (source net.roster x.event) then each x else 0)
+      ≡ sum (drawing_entries config test (xs ++ x ∷ []))
+  sum-drawing_entries sum each is test xs =
+      ap (λ s. sum (drawing_entries config test xs) + (if test s then each x else 0)) there
       ∙ sym (sum-more sum each is (λ y. test (source config.roster y.event)) xs x)
 
   -- over those on a share, where the draws on it have the same sum
   share-next : (f : ℕ → ℕ) (of_draws : List Draw → ℕ) (of_entries : List Entry → ℕ)
       → IsSum of_draws (λ d. f d.size) → IsSum of_entries (λ y. f (size_of y.event)) → (i : ℕ) (t : Share)
-      → of_draws (drawn_on i t net.draws) ≡ of_entries (drawing config (is_of_share i t) (since_opened i before))
+      → of_draws (drawn_on i t net.draws) ≡ of_entries (drawing_entries config (is_of_share i t) (since_opened i before))
       → of_draws (drawn_on i t (next net x.event).draws)
-      ≡ of_entries (drawing config (is_of_share i t) (since_opened i (before ++ x ∷ [])))
+      ≡ of_entries (drawing_entries config (is_of_share i t) (since_opened i (before ++ x ∷ [])))
   share-next f of_draws of_entries draws entries i t same = go (is_opening i x.event) refl
     where
       of_share : List Entry → ℕ
-      of_share xs = of_entries (drawing config (is_of_share i t) xs)
+      of_share xs = of_entries (drawing_entries config (is_of_share i t) xs)
 
       go : (b : Bool) → is_opening i x.event ≡ b
           → of_draws (drawn_on i t (next net x.event).draws) ≡ of_share (since_opened i (before ++ x ∷ []))
@@ -169,7 +169,7 @@ module _ (config : Config) (before : List Entry) (net : Net) (x : Entry) (h : ne
       go false o =
           drawn-next net x.event i t f of_draws draws o
           ∙ (ap (λ n. n + (if is_of_share i t (source net.roster x.event) then f (size_of x.event) else 0)) same
-          ∙ (sum-drawing of_entries (λ y. f (size_of y.event)) entries (is_of_share i t) (since_opened i before)
+          ∙ (sum-drawing_entries of_entries (λ y. f (size_of y.event)) entries (is_of_share i t) (since_opened i before)
           ∙ sym (ap of_share (since-next i o))))
 
   count-next : IsCountOf config (before ++ x ∷ []) (next net x.event)
@@ -179,11 +179,11 @@ module _ (config : Config) (before : List Entry) (net : Net) (x : Entry) (h : ne
       let bytes : IsSum bytes_in (λ y. size_of y.event) = sum-each (λ y. size_of y.event) in
       record {
         events = ap₂ (λ a b. a + b) (k.events ∙ c.events) (on_budgets-is s 1)
-            ∙ sum-drawing length (λ y. 1) sum-length is_of_budgets before;
+            ∙ sum-drawing_entries length (λ y. 1) sum-length is_of_budgets before;
         bytes = ap₂ (λ a b. a + b) (k.bytes ∙ c.bytes) (on_budgets-is s (size_of x.event))
-            ∙ sum-drawing bytes_in (λ y. size_of y.event) bytes is_of_budgets before;
+            ∙ sum-drawing_entries bytes_in (λ y. size_of y.event) bytes is_of_budgets before;
         opens = ap₂ (λ a b. a + b) (k.opens ∙ c.opens) (on_opens-is s)
-            ∙ sum-drawing length (λ y. 1) sum-length is_of_opens before;
+            ∙ sum-drawing_entries length (λ y. 1) sum-length is_of_opens before;
         share_events = λ i t. share-next (λ n. 1) length length sum-length sum-length i t (c.share_events i t);
         share_bytes = λ i t. share-next (λ n. n) (sum_by (λ d. d.size)) bytes_in (sum-each (λ d. d.size)) bytes i t
             (c.share_bytes i t);

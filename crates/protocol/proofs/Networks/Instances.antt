@@ -4,7 +4,7 @@ use Rattle.types.specs.declared.event.NodeEvent.{NodeEvent}
 use Rattle.std.proofs.Common.{ℕ, Bool, true, false, not, cond, ◌==◌, Option, Some, None, List, [], ◌∷◌, ◌++◌, filter, if◌then◌else◌}
 use Rattle.types.specs.Statements.{Sent}
 use Rattle.types.specs.declared.event.NodeEvent.TheVariants.{Propose, Take, NominationTimer, BallotTimer, Reslice}
-use Rattle.protocol.specs.Networks.{Net, Slot, Instance, HostedNode, Step, after_event, act_in, act, act_known, nodes_of_new_slot, effect, emission, node_where_open, instances_at}
+use Rattle.protocol.specs.Networks.{Net, Slot, Instance, HostedNode, Step, after_event, act_in, act, act_known, instances_of_new_slot, effect, emission, node_where_open, instances_at}
 use Rattle.protocol.specs.Networks.Step.{Opens, Closes, Proposes, Delivers, Hears, NominationTimerFires, BallotTimerFires, Reslices}
 use Rattle.protocol.specs.Networks.Reading.{Read, Fault}
 use Rattle.protocol.specs.Nodes.{fresh}
@@ -23,10 +23,10 @@ module _ (P : Instance → Type 0) (new : (i : ℕ) (h : HostedNode) → P (reco
   abbrev AllSlots : List Slot → Type 0
   AllSlots ss = AllByRecursion (λ s. AllByRecursion P s.instances) ss
 
-  nodes_of_new_slot-all : (nodes : List HostedNode) (i : ℕ) → AllAt (nodes_of_new_slot nodes i)
-  unfolding nodes_of_new_slot
-  nodes_of_new_slot-all [] i = tt
-  nodes_of_new_slot-all (h ∷ hs) i = (new i h, nodes_of_new_slot-all hs i)
+  instances_of_new_slot-all : (nodes : List HostedNode) (i : ℕ) → AllAt (instances_of_new_slot nodes i)
+  unfolding instances_of_new_slot
+  instances_of_new_slot-all [] i = tt
+  instances_of_new_slot-all (h ∷ hs) i = (new i h, instances_of_new_slot-all hs i)
 
   act_in-all : (u : ℕ) (e : NodeEvent) (ps : List Instance) → AllAt ps → AllAt (act_in u e ps)
   act_in-all u e [] h = tt
@@ -63,8 +63,8 @@ module _ (P : Instance → Type 0) (new : (i : ℕ) (h : HostedNode) → P (reco
   effect-all : (net : Net) (e : Step) → AllSlots net.slots → AllSlots (effect net e).0.slots
   unfolding effect
   effect-all net (Opens i) h =
-      push-all net.slots (record { number = i; instances = nodes_of_new_slot net.nodes i }) h
-      (nodes_of_new_slot-all net.nodes i)
+      push-all net.slots (record { number = i; instances = instances_of_new_slot net.nodes i }) h
+      (instances_of_new_slot-all net.nodes i)
   effect-all net (Closes i) h = filter-all (λ s. not (s.number == i)) net.slots h
   effect-all net (Proposes i u x) h = act-all net i u (Propose x) h
   effect-all net (Delivers u size (Read e)) h = act-all net e.slot u (Take e) h

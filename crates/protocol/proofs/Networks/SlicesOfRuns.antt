@@ -11,7 +11,7 @@ use Rattle.std.proofs.lemmas.Option.{none-some}
 use Rattle.protocol.specs.Nodes.{fresh}
 use Rattle.protocol.specs.Limits.{ComesOfEvents}
 use Rattle.protocol.specs.Limits.ComesOfEvents.{begin, next}
-use Rattle.protocol.specs.Networks.{Net, Step, Instance, Slot, slices_of, instances_at, node_where_open, emission, after_event, act, act_known, nodes_of_new_slot, draws_after_opening, effect, source, size_of, tests, first_that, with_draw, state_and_reply, net_step}
+use Rattle.protocol.specs.Networks.{Net, Step, Instance, Slot, slices_of, instances_at, node_where_open, emission, after_event, act, act_known, instances_of_new_slot, draws_after_opening, effect, source, size_of, tests, first_that, with_draw, state_and_reply, net_step}
 use Rattle.protocol.specs.Networks.Reading.{Read, Fault}
 use Rattle.protocol.specs.Networks.Step.{Opens, Closes, Proposes, Delivers, Hears, NominationTimerFires, BallotTimerFires, Reslices}
 use Rattle.protocol.specs.Hosts.{Entry, journal_with, journal, new_net}
@@ -85,14 +85,14 @@ module _ (i u : ℕ) (q : Slices) where
       → instances_at net.slots j ≡ None → Has now net
       → Has (if j == i then q else now)
       (record net {
-        slots = net.slots ++ record { number = j; instances = nodes_of_new_slot net.nodes j } ∷ [];
+        slots = net.slots ++ record { number = j; instances = instances_of_new_slot net.nodes j } ∷ [];
         draws = draws_after_opening j net.draws;
       })
   unfolding fresh
   has-opened now net j hosted n h = go (j == i) refl
     where
       slot : Slot
-      slot = record { number = j; instances = nodes_of_new_slot net.nodes j }
+      slot = record { number = j; instances = instances_of_new_slot net.nodes j }
 
       go : (b : Bool) → (j == i) ≡ b
           → Has (if b then q else now) (record net { slots = net.slots ++ slot ∷ []; draws = draws_after_opening j net.draws })

@@ -12,7 +12,7 @@ use Rattle.types.specs.Nominations.{Ascending, with_value}
 use Rattle.protocol.specs.Candidates.{as_set, all_with, with_up_to_sixteen, values_by}
 use Rattle.protocol.proofs.Nominating.Ascending.{ascends_on, ascends_from, first_least, with-has, with-kept, with-from, all-ascending, all-has, all-same, value-true}
 use Rattle.protocol.proofs.Nominating.Lengths.{with-new, all-longer}
-use Rattle.protocol.proofs.Nominating.Sets.{sources, echoes, new_voted, new_accepts, new_confirms, NominationRestsAt, quiet-from}
+use Rattle.protocol.proofs.Nominating.Sets.{sources, echoes, new_voted, new_accepts, new_confirms, NominationRestsAt, rests-from}
 use Rattle.protocol.proofs.Nominating.ValueSets.{filter_ascending, set_ascending}
 use Rattle.protocol.proofs.Ballots.Order.{less, less-self}
 use Rattle.protocol.proofs.Equality.Sameness.{same_value-refl}
@@ -243,7 +243,7 @@ sets-rest v s f g vo ac co h =
     let C = all_with F co in
     let up : Ascending C = all-ascending F co h in (
       up,
-      quiet-from v s g V A C (voted-stays C (all-longer F co).0 (echoes g C) refl) (accepts-still s f V ac)
+      rests-from v s g V A C (voted-stays C (all-longer F co).0 (echoes g C) refl) (accepts-still s f V ac)
           (all-same F C up (λ z m. all-has F co z m)),
     )
   where

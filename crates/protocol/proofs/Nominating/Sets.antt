@@ -68,9 +68,9 @@ nominate-not v s g w e = ap (λ b. if b then confirm_values s (accept_values s (
 abbrev pub NominationRestsAt : ℕ → Seen → Inputs → List (List ℕ) → List (List ℕ) → List (List ℕ) → Type 0
 NominationRestsAt v s g vo ac co = (u : Votes) → u.voted ≡ vo → u.accepts ≡ ac → u.confirms ≡ co → nominate v s g u ≡ u
 
-pub quiet-from : (v : ℕ) (s : Seen) (g : Inputs) (vo ac co : List (List ℕ)) → new_voted v s g vo co ≡ vo
+pub rests-from : (v : ℕ) (s : Seen) (g : Inputs) (vo ac co : List (List ℕ)) → new_voted v s g vo co ≡ vo
     → new_accepts s vo ac ≡ ac → new_confirms s vo ac co ≡ co → NominationRestsAt v s g vo ac co
-quiet-from v s g vo ac co a b c u i j k = elim (cases_Bool (is_none u.confirmed_prepared)) [
+rests-from v s g vo ac co a b c u i j k = elim (cases_Bool (is_none u.confirmed_prepared)) [
   | inr e ↦ nominate-not v s g u e
   | inl e ↦ nominate-is v s g u e
       ∙ (λ t. record u { voted = (x ∙ sym i) t; accepts = (y ∙ sym j) t; confirms = (z ∙ sym k) t })

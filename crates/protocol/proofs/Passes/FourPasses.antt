@@ -41,15 +41,15 @@ settle-more n f w h = elim (cases_Bool (same_votes (f w) w)) [
 abbrev pub NominationRests : ℕ → Seen → Inputs → Votes → Type 0
 NominationRests v s g w = NominationRestsAt v s g w.voted w.accepts w.confirms ⊎ (is_none w.confirmed_prepared ≡ false)
 
-pub quiet-same : (v : ℕ) (s : Seen) (g : Inputs) (w : Votes) → NominationRests v s g w → nominate v s g w ≡ w
-quiet-same v s g w (inl q) = q w refl refl refl
-quiet-same v s g w (inr h) = nominate-not v s g w h
+pub rests-same : (v : ℕ) (s : Seen) (g : Inputs) (w : Votes) → NominationRests v s g w → nominate v s g w ≡ w
+rests-same v s g w (inl q) = q w refl refl refl
+rests-same v s g w (inr h) = nominate-not v s g w h
 
-quiet-on : (v : ℕ) (s : Seen) (g : Inputs) (w y : Votes) → y.voted ≡ w.voted → y.accepts ≡ w.accepts
+rests-on : (v : ℕ) (s : Seen) (g : Inputs) (w y : Votes) → y.voted ≡ w.voted → y.accepts ≡ w.accepts
     → y.confirms ≡ w.confirms → (is_none w.confirmed_prepared ≡ false → is_none y.confirmed_prepared ≡ false)
     → NominationRests v s g w → NominationRests v s g y
-quiet-on v s g w y a b c d (inl q) = inl (λ u i j k. q u (i ∙ a) (j ∙ b) (k ∙ c))
-quiet-on v s g w y a b c d (inr h) = inr (d h)
+rests-on v s g w y a b c d (inl q) = inl (λ u i j k. q u (i ∙ a) (j ∙ b) (k ∙ c))
+rests-on v s g w y a b c d (inr h) = inr (d h)
 
 pub phases : (p : Phase) → (p ≡ Externalized) ⊎ ((p ≡ Preparing) ⊎ (p ≡ Committing))
 phases Preparing = inr (inl refl)
@@ -66,10 +66,10 @@ module _ (v : ℕ) (s : Seen) (f : Fair s) (g : Inputs) where
   one-left n w b sound q ph ball risen =
       let r = from-committing v s f g w b ph ball sound in
       let same : pass v s g w ≡ r.0 = pass-ruled v s g w (inr ph)
-      ∙ (ap (λ x. finish s g (ruled s x)) (begins v s g w b ball (quiet-same v s g w q)) ∙ r.1) in
-      let q1 : NominationRests v s g r.0 = quiet-on v s g w r.0 r.2.voted r.2.accepts r.2.confirms r.2.stays q in
+      ∙ (ap (λ x. finish s g (ruled s x)) (begins v s g w b ball (rests-same v s g w q)) ∙ r.1) in
+      let q1 : NominationRests v s g r.0 = rests-on v s g w r.0 r.2.voted r.2.accepts r.2.confirms r.2.stays q in
       settle-at (suc n) (pass v s g) w r.0 same (settle-ends n (pass v s g) r.0 (elim (r.3 risen) [
-        | inl k ↦ k (quiet-same v s g r.0 q1)
+        | inl k ↦ k (rests-same v s g r.0 q1)
         | inr k ↦ pass-externalized v s g r.0 k
       ]))
 
@@ -79,10 +79,10 @@ module _ (v : ℕ) (s : Seen) (f : Fair s) (g : Inputs) where
   two-left n w b sound q ph ball risen =
       let r = from-preparing v s f g w b ph ball sound in
       let same : pass v s g w ≡ r.0 = pass-ruled v s g w (inl ph)
-      ∙ (ap (λ x. finish s g (ruled s x)) (begins v s g w b ball (quiet-same v s g w q)) ∙ r.1) in
-      let q1 : NominationRests v s g r.0 = quiet-on v s g w r.0 r.2.voted r.2.accepts r.2.confirms r.2.stays q in
+      ∙ (ap (λ x. finish s g (ruled s x)) (begins v s g w b ball (rests-same v s g w q)) ∙ r.1) in
+      let q1 : NominationRests v s g r.0 = rests-on v s g w r.0 r.2.voted r.2.accepts r.2.confirms r.2.stays q in
       settle-at (suc (suc n)) (pass v s g) w r.0 same (elim (r.3 risen) [
-        | inl k ↦ settle-ends (suc n) (pass v s g) r.0 (k (quiet-same v s g r.0 q1))
+        | inl k ↦ settle-ends (suc n) (pass v s g) r.0 (k (rests-same v s g r.0 q1))
         | inr (inl k) ↦ settle-ends (suc n) (pass v s g) r.0 (pass-externalized v s g r.0 k)
         | inr (inr k) ↦ elim r.2.ends [
           | inl e ↦ settle-ends (suc n) (pass v s g) r.0 (pass-externalized v s g r.0 e)
@@ -98,7 +98,7 @@ pub record Fit (w : Votes) : Type 0 where
 -- one pass: it stays fit, and nomination is at rest
 pub record Once (v : ℕ) (s : Seen) (g : Inputs) (w y : Votes) : Type 0 where
   pub fit : Fit y
-  pub quiet : NominationRests v s g y
+  pub rests : NominationRests v s g y
   pub ends : Ends s g y ⊎ ((y.phase ≡ Preparing) × (y.ballot ≡ None) × (start s y ≡ y))
 
 module _ (v : ℕ) (s : Seen) (f : Fair s) (g : Inputs) where
@@ -113,7 +113,7 @@ module _ (v : ℕ) (s : Seen) (f : Fair s) (g : Inputs) where
                 subst Ascending
                 (sym (S.confirms ∙ ap (λ (x : Votes). x.confirms) (nominate-not v s g w h))) fit.ascending;
           };
-          quiet = inr (S.stays h);
+          rests = inr (S.stays h);
           ends = S.ends;
         }
         | inl h ↦
@@ -124,7 +124,7 @@ module _ (v : ℕ) (s : Seen) (f : Fair s) (g : Inputs) where
             let c = S.confirms ∙ ap (λ (x : Votes). x.confirms) p in
             record {
               fit = record { sound = S.sound; ascending = subst Ascending (sym c) m.0 };
-              quiet = inl (λ u i j k. m.1 u (i ∙ a) (j ∙ b) (k ∙ c));
+              rests = inl (λ u i j k. m.1 u (i ∙ a) (j ∙ b) (k ∙ c));
               ends = S.ends;
             }
       ]
@@ -145,14 +145,14 @@ module _ (v : ℕ) (s : Seen) (f : Fair s) (g : Inputs) where
         settle-more (suc (suc (suc n))) (pass v s g) w (elim O.ends [
           | inr k ↦ settle-ends (suc (suc n)) (pass v s g) y
               (pass-ruled v s g y (inl k.0)
-              ∙ (ap (λ x. finish s g (ruled s (start s x))) (quiet-same v s g y O.quiet)
+              ∙ (ap (λ x. finish s g (ruled s (start s x))) (rests-same v s g y O.rests)
               ∙ (ap (λ x. finish s g (ruled s x)) k.2
               ∙ (ap (finish s g) (ruled-none s y k.0 k.1) ∙ finish-none s g y k.1))))
           | inl (inl e) ↦ settle-ends (suc (suc n)) (pass v s g) y (pass-externalized v s g y e)
           | inl (inr e) ↦ elim (phases y.phase) [
             | inl k ↦ settle-ends (suc (suc n)) (pass v s g) y (pass-externalized v s g y k)
-            | inr (inl k) ↦ two-left v s f g n y e.0 O.fit.sound O.quiet k e.1 e.2
-            | inr (inr k) ↦ one-left v s f g (suc n) y e.0 O.fit.sound O.quiet k e.1 e.2
+            | inr (inl k) ↦ two-left v s f g n y e.0 O.fit.sound O.rests k e.1 e.2
+            | inr (inr k) ↦ one-left v s f g (suc n) y e.0 O.fit.sound O.rests k e.1 e.2
           ]
         ])
   ]

@@ -15,7 +15,7 @@ use Rattle.protocol.specs.Sameness.{same_values, same_votes}
 use Rattle.protocol.specs.Stirring.{settle_after, settle_all, settle_ballots, settle_nominations, seen_by, NominationRestsAfterAPass, BallotRowsStirBallots, NominationRowsStirNomination}
 use Rattle.protocol.proofs.Balloting.ConfirmedAlone.{with_sets, balloted-sets}
 use Rattle.protocol.proofs.Balloting.FairSight.{seen-fair}
-use Rattle.protocol.proofs.Nominating.Sets.{new_voted, new_accepts, new_confirms, nominate-is, quiet-from}
+use Rattle.protocol.proofs.Nominating.Sets.{new_voted, new_accepts, new_confirms, nominate-is, rests-from}
 use Rattle.protocol.proofs.Passes.RuleByRule.{IsOpen, open-runs, pass-externalized}
 use Rattle.protocol.proofs.Balloting.PreparedStays.{Sound}
 use Rattle.protocol.proofs.Nodes.Calm.{settle-still}
@@ -23,14 +23,14 @@ use Rattle.protocol.proofs.Nodes.Lawful.{calm-of-events}
 use Rattle.protocol.proofs.Passes.RowsOfKinds.{nominations-still, ballots-still}
 use Rattle.protocol.proofs.Passes.RulesOfKinds.{nominate-reads, balloted-reads}
 use Rattle.protocol.proofs.Equality.Sameness.{same_values-true, same_votes-refl, same_votes-true}
-use Rattle.protocol.proofs.Passes.FourPasses.{Fit, NominationRests, once, pass-fit, phases, quiet-same}
+use Rattle.protocol.proofs.Passes.FourPasses.{Fit, NominationRests, once, pass-fit, phases, rests-same}
 use Rattle.protocol.proofs.Passes.Settling.{changed-fit, reached-fit}
 use Rattle.protocol.proofs.Passes.OnePass.{framed, nominate-frame, stepped}
 use Rattle.protocol.proofs.Balloting.Tests.{Fair}
 
 -- where nomination changes nothing it is at rest
-quiet-of : (v : ℕ) (s : Seen) (g : Inputs) (w : Votes) → nominate v s g w ≡ w → NominationRests v s g w
-quiet-of v s g w same = elim (cases_Bool (is_none w.confirmed_prepared)) [
+rests-of : (v : ℕ) (s : Seen) (g : Inputs) (w : Votes) → nominate v s g w ≡ w → NominationRests v s g w
+rests-of v s g w same = elim (cases_Bool (is_none w.confirmed_prepared)) [
   | inr e ↦ inr e
   | inl e ↦
       let p = sym (nominate-is v s g w e) ∙ same in
@@ -45,7 +45,7 @@ quiet-of v s g w same = elim (cases_Bool (is_none w.confirmed_prepared)) [
       subst (λ m. new_confirms s m (new_accepts s m w.accepts) w.confirms ≡ w.confirms) a c in
       let c2 : new_confirms s w.voted w.accepts w.confirms ≡ w.confirms =
       subst (λ m. new_confirms s w.voted m w.confirms ≡ w.confirms) b2 c1 in
-      inl (quiet-from v s g w.voted w.accepts w.confirms a b2 c2)
+      inl (rests-from v s g w.voted w.accepts w.confirms a b2 c2)
 ]
 
 -- a pass is nomination and then balloting
@@ -102,10 +102,10 @@ pass-parts v s g w = elim (phases w.phase) [
 pass-rested : (v : ℕ) (s : Seen) (g : Inputs) (w : Votes) → nominated_in v s g w ≡ w → pass v s g w ≡ balloted_in s g w
 pass-rested v s g w same = pass-parts v s g w ∙ ap (balloted_in s g) same
 
-quiet-nominated : (v : ℕ) (s : Seen) (g : Inputs) (w : Votes) → NominationRests v s g w → nominated_in v s g w ≡ w
-quiet-nominated v s g w q = elim (phases w.phase) [
+rests-nominated : (v : ℕ) (s : Seen) (g : Inputs) (w : Votes) → NominationRests v s g w → nominated_in v s g w ≡ w
+rests-nominated v s g w q = elim (phases w.phase) [
   | inl e ↦ nominated-over v s g w e
-  | inr o ↦ nominated-open v s g w o ∙ quiet-same v s g w q
+  | inr o ↦ nominated-open v s g w o ∙ rests-same v s g w q
 ]
 
 module _ (v : ℕ) (s : Seen) (f : Fair s) (g : Inputs) where
@@ -130,11 +130,11 @@ module _ (v : ℕ) (s : Seen) (f : Fair s) (g : Inputs) where
   unfolding settle
   rested-settles zero w fit q = refl
   rested-settles (suc n) w fit q =
-      let e = pass-rested v s g w (quiet-nominated v s g w q) in
+      let e = pass-rested v s g w (rests-nominated v s g w q) in
       let next : settle n (pass v s g) (pass v s g w) ≡ settle n (balloted_in s g) (pass v s g w) =
       rested-settles n (pass v s g w) (pass-fit v s f g w fit) (elim (phases w.phase) [
         | inl x ↦ subst (λ (y : Votes). NominationRests v s g y) (sym (pass-externalized v s g w x)) q
-        | inr o ↦ (once v s f g w fit o).quiet
+        | inr o ↦ (once v s f g w fit o).rests
       ]) in
       ap (λ (o : Option Votes). if same_votes (pass v s g w) w then Some w else o) next
       ∙ ap (λ (y : Votes). if same_votes y w then Some w else settle n (balloted_in s g) y) e
@@ -168,7 +168,7 @@ module _ (v : ℕ) (s : Seen) (f : Fair s) (g : Inputs) where
     | inr o ↦
         same-or w (pass v s g w) (settle 63 (balloted_in s g) (pass v s g w))
         ∙ ap (λ (o : Option Votes). if same_votes (pass v s g w) w then Some w else o)
-        (sym (rested-settles 63 (pass v s g w) (pass-fit v s f g w fit) (once v s f g w fit o).quiet))
+        (sym (rested-settles 63 (pass v s g w) (pass-fit v s f g w fit) (once v s f g w fit o).rests))
   ]
 
   all-after : (w : Votes) → Fit w → settle_after s g w (pass v s g w) ≡ settle most_passes (pass v s g) w
@@ -209,7 +209,7 @@ module _ (v : ℕ) (s : Seen) (f : Fair s) (g : Inputs) where
         | inl e ↦ over-settles w e ∙ ap {B = Option Votes} Some (sym (nominated-over v s g w e))
         | inr o ↦ goes-to w x made
             (settle-still 62 (pass v s g) x (pass-rested v s g x
-            (quiet-nominated v s g x (subst (λ (y : Votes). NominationRests v s g y) made (once v s f g w fit o).quiet)) ∙ still))
+            (rests-nominated v s g x (subst (λ (y : Votes). NominationRests v s g y) made (once v s f g w fit o).rests)) ∙ still))
       ]
 
   nominations-settle : (w : Votes) → Fit w → balloted_in s g w ≡ w
@@ -250,7 +250,7 @@ ballot_rows_stir_ballots n r e kind reach =
           ∙ (sym (nominate-reads n.name (seen_by n) n.inputs n.votes)
           ∙ (sym (nominated-open n.name (seen_by n) n.inputs n.votes o) ∙ old))) in
           ballots-settle m.name (seen_by m) fair m.inputs m.votes fit
-          (quiet-of m.name (seen_by m) m.inputs m.votes still)
+          (rests-of m.name (seen_by m) m.inputs m.votes still)
     ]
 
 pub nomination_rows_stir_nomination : NominationRowsStirNomination

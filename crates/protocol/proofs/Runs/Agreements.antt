@@ -21,7 +21,7 @@ use Rattle.protocol.proofs.Runs.Prefixes.{closed_for, holds-after}
 use Rattle.protocol.proofs.Runs.Sights.{cut_instance, Sight, sight, play, reply, AllInstances}
 use Rattle.protocol.proofs.Runs.Follows.{Follows}
 use Rattle.protocol.proofs.Runs.Events.{IsNew, follows}
-use Rattle.protocol.proofs.Runs.Openings.{NodesIn, cast_of}
+use Rattle.protocol.proofs.Runs.Openings.{HaveSlicesWithin, cast_of}
 use Rattle.protocol.proofs.Runs.KeptSteps.{is_new}
 use Rattle.protocol.proofs.Runs.KeptWithin.{if_kept, IsKeptIn, kept_step-to}
 
@@ -48,7 +48,7 @@ module _ (R : Names) (i : ℕ) where
     emitted = c.emitted u p k;
   }
 
-  closed_in : (net : Net) → NodesIn R net.nodes → AllInstances R i net → IsClosedIn R i net
+  closed_in : (net : Net) → HaveSlicesWithin R net.nodes → AllInstances R i net → IsClosedIn R i net
   closed_in net nodes h = record {
     nodes = nodes;
     instances = λ u p k r. closed_for R p.node ((h u p k).good r);
@@ -142,7 +142,7 @@ module _ (R : Names) (i : ℕ) where
       → if_kept R (kept_step R i e) → Seen net e os
   seen_step net e os c d k =
       let a = applied net e os d in
-      let nodes : NodesIn R net.nodes = c.nodes in
+      let nodes : HaveSlicesWithin R net.nodes = c.nodes in
       let f : Follows R (cast_of R net.nodes) i net (effect net e) (λ w. is_of i w e) (kept_step R i e) =
       follows R i net e (all_instances net c) nodes a.fresh (kept_step-to R R i e (λ u r. r) k) in
       let slots = ap (λ (n : Net). n.slots) a.is ∙ a.slots in
@@ -152,7 +152,7 @@ module _ (R : Names) (i : ℕ) where
             (node_where_open (instances_at ss i) u) else None) slots) ∙ f.sights;
         replies = λ u r. ap (λ xs. given_by i u e xs) a.outs ∙ f.replies u r;
         nodes = same_nodes;
-        closed = closed_in (net_step net e).0 (subst (λ hs. NodesIn R hs) (sym same_nodes) nodes)
+        closed = closed_in (net_step net e).0 (subst (λ hs. HaveSlicesWithin R hs) (sym same_nodes) nodes)
             (λ u p h. f.instances u p (ap (λ ss. node_where_open (instances_at ss i) u) (sym slots) ∙ h));
       }
 

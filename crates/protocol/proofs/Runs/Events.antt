@@ -18,7 +18,7 @@ use Rattle.protocol.proofs.Nodes.Closed.{IsFit}
 use Rattle.protocol.proofs.Runs.Sights.{AllInstances}
 use Rattle.protocol.proofs.Runs.Follows.{Follows, unseen, member_kept, member_quiet}
 use Rattle.protocol.proofs.Runs.Hearings.{heard}
-use Rattle.protocol.proofs.Runs.Openings.{NodesIn, cast_of, closes, opens}
+use Rattle.protocol.proofs.Runs.Openings.{HaveSlicesWithin, cast_of, closes, opens}
 use Rattle.protocol.proofs.Runs.Unkept.{stays}
 
 -- an event of one node that hands over no envelope
@@ -80,7 +80,7 @@ IsNew net (Opens j) = instances_at net.slots j ≡ None
 IsNew net _ = Unit {0}
 
 -- Each applied event is followed.
-pub follows : (R : Names) (i : ℕ) (net : Net) (e : Step) → AllInstances R i net → NodesIn R net.nodes → IsNew net e
+pub follows : (R : Names) (i : ℕ) (net : Net) (e : Step) → AllInstances R i net → HaveSlicesWithin R net.nodes → IsNew net e
     → IsWithin R i e
     → Follows R (cast_of R net.nodes) i net (effect net e) (λ w. is_of i w e) (kept_step R i e)
 unfolding effect

@@ -104,7 +104,7 @@ find_net (c ∷ cs) g = go (c.number == g) refl (find_net cs g)
     go false y (inl e) = inl (rw y e)
     go false y (inr n) = inr (record { config = n.config; is = rw y n.is; of = rw y n.of; at = rw y n.at })
 
--- nobody is hosted where there are no hosts
+-- nobody is hosted where no nodes are
 pub nobody : (nodes : List HostedNode) (w : ℕ) → nodes ≡ [] → is_some (slices_of nodes w) ≡ true → ⊥
 nobody nodes w e h = false≢true (sym (ap (λ x. is_some (slices_of x w)) e) ∙ h)
 

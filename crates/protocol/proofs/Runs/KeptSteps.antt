@@ -14,7 +14,7 @@ use Rattle.protocol.proofs.Networks.Effects.{effect-keeps}
 use Rattle.protocol.proofs.Runs.Sights.{Sight, sight, play, reply, AllInstances}
 use Rattle.protocol.proofs.Runs.Follows.{Follows}
 use Rattle.protocol.proofs.Runs.Events.{IsWithin, IsNew, follows}
-use Rattle.protocol.proofs.Runs.Openings.{NodesIn, cast_of}
+use Rattle.protocol.proofs.Runs.Openings.{HaveSlicesWithin, cast_of}
 
 -- the outs that the kept steps give a node
 abbrev pub answers : (ℕ → Option Slices) → ℕ → Sight → ℕ → List KeptStep → List Out
@@ -42,14 +42,14 @@ AllIn R i entries = AllByRecursion (λ x. IsWithin R i x.event) entries
 
 -- one history, by its applied events
 pub run-sight : (R : Names) (i u : ℕ) → R u ≡ true → (es : List Step) (net : Net) → AllInstances R i net
-    → NodesIn R net.nodes → AllIn R i (journal net es)
+    → HaveSlicesWithin R net.nodes → AllIn R i (journal net es)
     → outs_of i u (journal net es) ≡ answers (cast_of R net.nodes) i (sight R i net) u (kept_of R i (journal net es))
 unfolding journal net_step outs_of kept_of
 run-sight R i u r [] net h nodes f = refl
 run-sight R i u r (e ∷ es) net h nodes f = go (first_that (tests net e)) refl f (λ n. run-sight R i u r es n)
   where
     Claim : Net → Type 0
-    Claim n = AllInstances R i n → NodesIn R n.nodes → AllIn R i (journal n es)
+    Claim n = AllInstances R i n → HaveSlicesWithin R n.nodes → AllIn R i (journal n es)
         → outs_of i u (journal n es) ≡ answers (cast_of R n.nodes) i (sight R i n) u (kept_of R i (journal n es))
 
     go : (o : Option Refusal) → first_that (tests net e) ≡ o
@@ -64,7 +64,7 @@ run-sight R i u r (e ∷ es) net h nodes f = go (first_that (tests net e)) refl 
         let step : Follows R (cast_of R net.nodes) i net (effect net e) (λ w. is_of i w e) (kept_step R i e) =
         follows R i net e h nodes (is_new net e q) f.0 in
         let same : next.nodes ≡ net.nodes = (effect-keeps net e).nodes in
-        let rest = ih next step.instances (subst (NodesIn R) (sym same) nodes) f.1 in
+        let rest = ih next step.instances (subst (HaveSlicesWithin R) (sym same) nodes) f.1 in
         ap₂ (λ (xs ys : List Out). xs ++ ys) (step.replies u r)
         (rest ∙ ap₂ (λ (hs : List HostedNode) (s : Sight). answers (cast_of R hs) i s u
         (kept_of R i (journal next es))) same step.sights)

@@ -17,13 +17,13 @@ use Rattle.protocol.specs.Isolation.KeptStep.{Opening, Closing, EventAt, Hearing
 use Rattle.protocol.proofs.Sets.Least.{keeps-at}
 use Rattle.protocol.proofs.Sets.RuleLists.{least-keeps, least-start}
 use Rattle.protocol.proofs.Runs.Events.{IsWithin}
-use Rattle.protocol.proofs.Runs.Openings.{NodesIn}
+use Rattle.protocol.proofs.Runs.Openings.{HaveSlicesWithin}
 use Rattle.protocol.proofs.Runs.KeptSteps.{AllIn}
 use Rattle.protocol.proofs.Sets.Lists.{all-left, all-right}
 
 -- What the closure says of a run
 
-nodes-in : (R : Names) (nodes : List HostedNode) → list_all (keeps R) (map node_rule nodes) ≡ true → NodesIn R nodes
+nodes-in : (R : Names) (nodes : List HostedNode) → list_all (keeps R) (map node_rule nodes) ≡ true → HaveSlicesWithin R nodes
 nodes-in R [] h u q e r = cc
 nodes-in R (x ∷ xs) h u q e r =
     let p = and_parts (keeps R (node_rule x)) (list_all (keeps R) (map node_rule xs)) h in
@@ -159,7 +159,7 @@ closure-keeps nodes i v entries =
 
 -- what the closure of a run says of its hosted members, and of what is delivered among them
 pub nodes-closed : (nodes : List HostedNode) (i v : ℕ) (entries : List Entry)
-    → NodesIn (closure nodes i v entries) nodes
+    → HaveSlicesWithin (closure nodes i v entries) nodes
 nodes-closed nodes i v entries =
     let R = closure nodes i v entries in
     nodes-in R nodes

@@ -7,7 +7,7 @@ use Rattle.std.proofs.lemmas.Option.{none-some}
 use Rattle.protocol.specs.Sets.{Names, within}
 use Rattle.protocol.specs.Satisfaction.{names}
 use Rattle.protocol.specs.Nodes.{fresh}
-use Rattle.protocol.specs.Networks.{HostedNode, Instance, Slot, Net, slices_of, instances_at, node_named, node_where_open, nodes_of_new_slot, draws_after_opening}
+use Rattle.protocol.specs.Networks.{HostedNode, Instance, Slot, Net, slices_of, instances_at, node_named, node_where_open, instances_of_new_slot, draws_after_opening}
 use Rattle.protocol.specs.Isolation.{when_kept}
 use Rattle.protocol.specs.Isolation.KeptStep.{Opening, Closing}
 use Rattle.protocol.proofs.Runs.Sights.{cut_instance, IsInstance, AllInstances}
@@ -18,25 +18,25 @@ use Rattle.protocol.proofs.Networks.OpenSlots.{instances_at-drop, instances_at-d
 -- Opening and closing
 
 pub node_named-opened : (nodes : List HostedNode) (i u : ℕ)
-    → node_named (nodes_of_new_slot nodes i) u
+    → node_named (instances_of_new_slot nodes i) u
     ≡ option_map (λ q. record { node = fresh i u q; emitted = [] }) (slices_of nodes u)
-unfolding nodes_of_new_slot fresh
+unfolding instances_of_new_slot fresh
 node_named-opened [] i u = refl
 node_named-opened (h ∷ hs) i u = go (h.name == u) refl (node_named-opened hs i u)
   where
     go : (b : Bool) → (h.name == u) ≡ b
-        → node_named (nodes_of_new_slot hs i) u
+        → node_named (instances_of_new_slot hs i) u
         ≡ option_map (λ q. record { node = fresh i u q; emitted = [] }) (slices_of hs u)
         → (if b then Some (record { node = fresh i h.name h.slices; emitted = [] }) else node_named
-        (nodes_of_new_slot hs i) u)
+        (instances_of_new_slot hs i) u)
         ≡ option_map (λ q. record { node = fresh i u q; emitted = [] }) (if b then Some h.slices else slices_of hs u)
     go true e ih =
         ap {B = Option Instance} (λ x. Some (record { node = fresh i x h.slices; emitted = [] })) (eqb-true h.name u e)
     go false e ih = ih
 
--- what the hosted members announce lies in R
-abbrev pub NodesIn : Names → List HostedNode → Type 0
-NodesIn R nodes = (u : ℕ) (q : Slices) → slices_of nodes u ≡ Some q → R u ≡ true → within (names q) R ≡ true
+-- the configured slices of hosted members lie in R
+abbrev pub HaveSlicesWithin : Names → List HostedNode → Type 0
+HaveSlicesWithin R nodes = (u : ℕ) (q : Slices) → slices_of nodes u ≡ Some q → R u ≡ true → within (names q) R ≡ true
 
 fresh-instance : (R : Names) (i u : ℕ) (q : Slices) → (R u ≡ true → within (names q) R ≡ true)
     → IsInstance R u (record { node = fresh i u q; emitted = [] })
@@ -67,11 +67,11 @@ other_slot R cast i net net' h e = record {
   instances = λ u p k. h u p (ap (λ o. node_where_open o u) (sym e) ∙ k);
 }
 
-pub opens : (R : Names) (i : ℕ) (net : Net) (j : ℕ) → AllInstances R i net → NodesIn R net.nodes
+pub opens : (R : Names) (i : ℕ) (net : Net) (j : ℕ) → AllInstances R i net → HaveSlicesWithin R net.nodes
     → instances_at net.slots j ≡ None
     → Follows R (cast_of R net.nodes) i net (
       record net {
-        slots = net.slots ++ record { number = j; instances = nodes_of_new_slot net.nodes j } ∷ [];
+        slots = net.slots ++ record { number = j; instances = instances_of_new_slot net.nodes j } ∷ [];
         draws = draws_after_opening j net.draws;
       },
       [],
@@ -79,7 +79,7 @@ pub opens : (R : Names) (i : ℕ) (net : Net) (j : ℕ) → AllInstances R i net
 opens R i net j h nodes n = go (j == i) refl
   where
     slot : ℕ → Slot
-    slot x = record { number = x; instances = nodes_of_new_slot net.nodes x }
+    slot x = record { number = x; instances = instances_of_new_slot net.nodes x }
 
     now : Net
     now = record net { slots = net.slots ++ slot j ∷ []; draws = draws_after_opening j net.draws }
@@ -100,7 +100,7 @@ opens R i net j h nodes n = go (j == i) refl
             ≡ option_map (λ q. record { node = fresh i u q; emitted = [] }) (slices_of net.nodes u)
         there u = ap (λ o. node_where_open o u)
             (instances_at-push net.slots (slot j) i y (ap (instances_at net.slots) (sym ji) ∙ n))
-            ∙ (ap (λ x. node_named (nodes_of_new_slot net.nodes x) u) ji ∙ node_named-opened net.nodes i u)
+            ∙ (ap (λ x. node_named (instances_of_new_slot net.nodes x) u) ji ∙ node_named-opened net.nodes i u)
 
         see : (u : ℕ) (b : Bool) → R u ≡ b
             → (if b then option_map (cut_instance R) (node_where_open (instances_at now.slots i) u) else None)

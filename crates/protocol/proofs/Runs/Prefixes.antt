@@ -13,7 +13,7 @@ use Rattle.protocol.proofs.Networks.Effects.{effect-keeps}
 use Rattle.protocol.proofs.Nodes.Views.{reached-in}
 use Rattle.protocol.proofs.Nodes.Closed.{Good}
 use Rattle.protocol.proofs.Runs.Sights.{AllInstances}
-use Rattle.protocol.proofs.Runs.Openings.{NodesIn}
+use Rattle.protocol.proofs.Runs.Openings.{HaveSlicesWithin}
 use Rattle.protocol.proofs.Runs.Events.{follows}
 use Rattle.protocol.proofs.Runs.KeptSteps.{AllIn, is_new}
 use Rattle.protocol.proofs.Runs.SameSteps.{no-instances}
@@ -23,9 +23,9 @@ use Rattle.protocol.proofs.Networks.Journals.{runs_are_journals}
 pub closed_for : (R : Names) (n : Node) → Good R n → IsClosedFor R n
 closed_for R n g = record { has = g.closed.has; own = g.closed.own; leaders = g.leaders; rows = g.closed.rows }
 
--- what holds of hosts and instances holds after each beginning of a journal
+-- what holds of hosted nodes and instances holds after each beginning of a journal
 abbrev pub Holds : Names → ℕ → Net → Type 0
-Holds R i net = AllInstances R i net × NodesIn R net.nodes
+Holds R i net = AllInstances R i net × HaveSlicesWithin R net.nodes
 
 instances-after : (R : Names) (i : ℕ) (es : List Step) (net : Net) → Holds R i net → AllIn R i (journal net es) → (n : ℕ)
     → Holds R i (net_after net (take n (journal net es)))
@@ -48,7 +48,7 @@ instances-after R i (e ∷ es) net h f n = go (first_that (tests net e)) refl f 
         subst (λ o. Holds R i (net_after (state_and_reply net e o).0 (take n (journal after es)))) (sym q)
         (ih after (
           (follows R i net e h.0 h.1 (is_new net e q) f.0).instances,
-          subst (NodesIn R) (sym (effect-keeps net e).nodes) h.1,
+          subst (HaveSlicesWithin R) (sym (effect-keeps net e).nodes) h.1,
         ) f.1 n)
 
 pub holds-after : (config : Config) (run : List Entry) (i v n : ℕ) → IsRun config run

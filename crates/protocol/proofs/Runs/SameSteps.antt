@@ -7,7 +7,7 @@ use Rattle.protocol.specs.Networks.{HostedNode, Step, slices_of}
 use Rattle.protocol.specs.Hosts.{Entry, Config, journal, new_net}
 use Rattle.protocol.specs.Isolation.{KeptStep, kept_of, outs_of, closure, SameCast}
 use Rattle.protocol.proofs.Runs.Sights.{sight, AllInstances}
-use Rattle.protocol.proofs.Runs.Openings.{NodesIn, cast_of}
+use Rattle.protocol.proofs.Runs.Openings.{HaveSlicesWithin, cast_of}
 use Rattle.protocol.proofs.Runs.KeptSteps.{AllIn, answers, run-sight}
 use Rattle.protocol.proofs.Runs.KeptWithin.{all_in-other, events-closed, nodes-closed}
 
@@ -21,8 +21,8 @@ casts-same R v nodes nodes' cast = fun_ext (λ w. go w (R w) refl)
     go w true s = cast.same w s
     go w false s = refl
 
-pub nodes-other : (R : Names) (v : ℕ) (nodes nodes' : List HostedNode) → SameCast R v nodes nodes' → NodesIn R nodes
-    → NodesIn R nodes'
+pub nodes-other : (R : Names) (v : ℕ) (nodes nodes' : List HostedNode) → SameCast R v nodes nodes' → HaveSlicesWithin R nodes
+    → HaveSlicesWithin R nodes'
 nodes-other R v nodes nodes' cast h w q e s = h w q (cast.same w s ∙ e) s
 
 pub no-instances : (R : Names) (i : ℕ) (config : Config) → AllInstances R i (new_net config)
@@ -54,7 +54,7 @@ journals-agree config config' i v es es' cast same u r =
     R : Names
     R = closure config.nodes i v one
 
-    in_one : NodesIn R config.nodes
+    in_one : HaveSlicesWithin R config.nodes
     in_one = nodes-closed config.nodes i v one
 
     all_one : AllIn R i one

@@ -7,7 +7,7 @@ use Rattle.std.proofs.lemmas.Bool.{cases_Bool, or_cases, and_parts, and_from, or
 use Rattle.types.specs.Trees.{Slices}
 use Rattle.protocol.specs.Sets.{Names, among, both, AreWithin}
 use Rattle.protocol.specs.Satisfaction.{sat, names}
-use Rattle.protocol.specs.Quorums.{is_satisfied, Quorum, HasQuorum, has_quorum, Lists, QuorumsAreFound, part_in, HoldsNamesOf, NamesWithin, IsMonotone, IsLocal, Cut, NestedCut}
+use Rattle.protocol.specs.Quorums.{is_satisfied, Quorum, HasQuorum, has_quorum, Lists, QuorumsAreFound, cut_to, HoldsNamesOf, NamesWithin, IsMonotone, IsLocal, LocalCutsAreQuorums, NestedCutsAreQuorums}
 use Rattle.protocol.proofs.Sets.Finite.{all_at, all_from, some_set-found, some_set-from}
 use Rattle.protocol.proofs.Slices.Satisfaction.{sat_monotone, sat_local}
 use Rattle.protocol.proofs.Sets.Tests.{and_is}
@@ -72,15 +72,15 @@ module _ {Q : Type 0} (sat : Q → Names → Bool) (slices_at : ℕ → Option Q
 module _ {Q : Type 0} (sat : Q → Names → Bool) (names : Q → List ℕ) (slices_at : ℕ → Option Q) where
   still_satisfied : IsLocal sat names → (set region : Names) (o : Option Q)
       → ((q : Q) → o ≡ Some q → AreWithin (among (names q)) region) → IsTrue (is_satisfied sat o set)
-      → IsTrue (is_satisfied sat o (part_in region set))
+      → IsTrue (is_satisfied sat o (cut_to region set))
   still_satisfied local set region None named s = s
   still_satisfied local set region (Some q) named s =
-      local q (part_in region set) set (λ u c. and_is (region u) (set u) (named q refl u c)) ∙ s
+      local q (cut_to region set) set (λ u c. and_is (region u) (set u) (named q refl u c)) ∙ s
 
   -- a quorum, cut to a set that contains the names of its members' slices, is a quorum as soon as one name is left
   pub cut_quorum : IsLocal sat names → (set region : Names) → Quorum sat slices_at set
-      → HoldsNamesOf names slices_at (part_in region set) region → (u : ℕ) → IsTrue (part_in region set u)
-      → Quorum sat slices_at (part_in region set)
+      → HoldsNamesOf names slices_at (cut_to region set) region → (u : ℕ) → IsTrue (cut_to region set u)
+      → Quorum sat slices_at (cut_to region set)
   cut_quorum local set region quorum named u h = record {
     some = (u, h);
     each = λ w i. still_satisfied local set region (slices_at w) (λ q e. named w q i e)
@@ -90,11 +90,11 @@ module _ {Q : Type 0} (sat : Q → Names → Bool) (names : Q → List ℕ) (sli
   -- so a quorum within all supporters is found within the region
   pub cut_answer : IsLocal sat names → (supporters region : Names) → NamesWithin names slices_at region → (node : ℕ)
       → IsTrue (region node) → HasQuorum sat slices_at supporters node
-      → HasQuorum sat slices_at (part_in region supporters) node
+      → HasQuorum sat slices_at (cut_to region supporters) node
   cut_answer local supporters region named node inside h =
       let member = and_from (region node) (h.set node) inside h.member in
       record {
-        set = part_in region h.set;
+        set = cut_to region h.set;
         quorum = cut_quorum local h.set region h.quorum
             (λ u q i e. named u q (and_parts (region u) (h.set u) i).0 e) node member;
         within =
@@ -126,9 +126,9 @@ quorums_found slices_at all supporters node lists = (
   has_quorum-from sat slices_at sat_monotone all supporters node lists,
 )
 
-pub cuts : (Q : Type 0) → Cut Q
+pub cuts : (Q : Type 0) → LocalCutsAreQuorums Q
 cuts Q satisfies names local slices_at set region quorum named u h =
     cut_quorum satisfies names slices_at local set region quorum named u h
 
-pub nested_cut : NestedCut
+pub nested_cut : NestedCutsAreQuorums
 nested_cut = cuts Slices sat names sat_local

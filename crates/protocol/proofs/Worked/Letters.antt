@@ -75,16 +75,16 @@ to_A u slices s = Delivers A 104 (Read (by u slices s))
 abbrev pub one_net : List HostedNode → Budgets → List Config
 one_net nodes budgets = record { number = 1; nodes = nodes; budgets = budgets; roster = None } ∷ []
 
-abbrev pub hosted : ℕ → Slices → HostedNode
-hosted u slices = record { name = u; slices = slices }
+abbrev pub hosted_with : ℕ → Slices → HostedNode
+hosted_with u slices = record { name = u; slices = slices }
 
 -- a network that hosts A alone
 abbrev pub net_of_A : Slices → List Config
-net_of_A slices = one_net (hosted A slices ∷ []) (record { events = 100; bytes = 100000; slots = 1 })
+net_of_A slices = one_net (hosted_with A slices ∷ []) (record { events = 100; bytes = 100000; slots = 1 })
 
--- the one host of such a network, and the journal of its steps
+-- the one hosted node of such a network, and the journal of its steps
 abbrev pub nodes_A : List HostedNode
-nodes_A = hosted A two_of_bcd ∷ []
+nodes_A = hosted_with A two_of_bcd ∷ []
 
 abbrev pub run_A : List Step → List Entry
 run_A steps =

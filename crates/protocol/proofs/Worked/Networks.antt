@@ -13,11 +13,11 @@ use Rattle.protocol.specs.Networks.Reply.{Done, Refused}
 use Rattle.protocol.specs.Hosts.{Config, Entry, nets, host_run}
 use Rattle.protocol.specs.Isolation.{closure, kept_of, outs_of}
 use Rattle.protocol.proofs.Worked.Everything.{everything}
-use Rattle.protocol.proofs.Worked.Letters.{A, B, C, D, Z, k, m, q, x, y, at, just, two_of_bcd, three_of_abcd, by, to_A, one_net, hosted, in_one, replies, nodes_A, run_A, members}
+use Rattle.protocol.proofs.Worked.Letters.{A, B, C, D, Z, k, m, q, x, y, at, just, two_of_bcd, three_of_abcd, by, to_A, one_net, hosted_with, in_one, replies, nodes_A, run_A, members}
 
 -- ---- refusals
 abbrev two_nodes : List Config
-two_nodes = one_net (hosted A (just A) ∷ hosted B (just A) ∷ []) (record { events = 100; bytes = 1000; slots = 1 })
+two_nodes = one_net (hosted_with A (just A) ∷ hosted_with B (just A) ∷ []) (record { events = 100; bytes = 1000; slots = 1 })
 
 -- a Hear hands over what was emitted and nothing else; nobody delivers under a hosted name
 pub hears_what_was_emitted : host_run (nets two_nodes)
@@ -33,7 +33,7 @@ unfolding everything
 hears_what_was_emitted = refl
 
 abbrev alone : ℕ → List Config
-alone events = one_net (hosted A (just A) ∷ []) (record { events = events; bytes = 0; slots = 1 })
+alone events = one_net (hosted_with A (just A) ∷ []) (record { events = events; bytes = 0; slots = 1 })
 
 -- a closed slot is forgotten, and begins anew when it is opened again
 pub reopened_slot_begins_anew : replies (alone 10)
@@ -59,7 +59,7 @@ unfolding everything
 full_journal_refuses = refl
 
 abbrev few_bytes : List Config
-few_bytes = one_net (hosted A two_of_bcd ∷ []) (record { events = 100; bytes = 208; slots = 1 })
+few_bytes = one_net (hosted_with A two_of_bcd ∷ []) (record { events = 100; bytes = 208; slots = 1 })
 
 abbrev from_B : Step
 from_B = to_A B (just B) (Prepare (at 9 m) (Some (at 9 m)) 6 0 0)
@@ -115,7 +115,7 @@ stranger_changes_nothing = refl
 
 -- ---- four validators
 abbrev four : List Config
-four = one_net (hosted A three_of_abcd ∷ hosted B three_of_abcd ∷ hosted C three_of_abcd ∷ hosted D three_of_abcd ∷ [])
+four = one_net (hosted_with A three_of_abcd ∷ hosted_with B three_of_abcd ∷ hosted_with C three_of_abcd ∷ hosted_with D three_of_abcd ∷ [])
     (record { events = 1000; bytes = 0; slots = 1 })
 
 abbrev others : ℕ → List ℕ

@@ -14,7 +14,7 @@ use Rattle.protocol.specs.Hosts.{Config, Entry, nets, host_run}
 use Rattle.protocol.specs.Isolation.{KeptStep, closure, kept_of}
 use Rattle.protocol.specs.Isolation.KeptStep.{Opening, EventAt}
 use Rattle.protocol.proofs.Worked.Everything.{everything}
-use Rattle.protocol.proofs.Worked.Letters.{A, B, C, E, Z, k, m, q, x, at, just, two_of_bcd, by, to_A, net_of_A, one_net, hosted, in_one, replies, nodes_A, run_A, members}
+use Rattle.protocol.proofs.Worked.Letters.{A, B, C, E, Z, k, m, q, x, at, just, two_of_bcd, by, to_A, net_of_A, one_net, hosted_with, in_one, replies, nodes_A, run_A, members}
 
 abbrev two_of_bcz : Slices
 two_of_bcz = record { threshold = 2; members = node B (node C (node Z none)) }
@@ -104,7 +104,7 @@ what_is_confirmed_stays = refl
 
 -- ---- networks
 -- the node is tested first, then the slot, then the journal; slices that are the same are journalled too
-pub new_slices_are_refused : replies (one_net (hosted A (just A) ∷ []) (record { events = 3; bytes = 0; slots = 1 }))
+pub new_slices_are_refused : replies (one_net (hosted_with A (just A) ∷ []) (record { events = 3; bytes = 0; slots = 1 }))
     (Reslices 1 B (just B) ∷ Reslices 1 A (just B) ∷ Opens 1 ∷ Reslices 1 A (just A) ∷ Reslices 1 A
     (just B) ∷ Reslices 1 A (just A) ∷ Reslices 1 B (just B) ∷ [])
     ≡ Refused NoSuchNode ∷ Refused SlotNotOpen ∷ Done [] ∷ Done [] ∷ Done [] ∷ Refused JournalFull
@@ -114,7 +114,7 @@ new_slices_are_refused = refl
 
 -- a slot that is opened again begins with the configured slices
 pub reopened_slot_has_the_configured_slices : replies
-    (one_net (hosted A (just A) ∷ []) (record { events = 100; bytes = 0; slots = 1 }))
+    (one_net (hosted_with A (just A) ∷ []) (record { events = 100; bytes = 0; slots = 1 }))
     (Opens 1 ∷ Reslices 1 A (just B) ∷ Closes 1 ∷ Opens 1 ∷ Proposes 1 A x ∷ [])
     ≡ Done [] ∷ Done [] ∷ Done [] ∷ Done [] ∷ Done
     (Emit (by A (just A) (Nominate (x ∷ []) (x ∷ []))) ∷ Emit
@@ -123,7 +123,7 @@ unfolding everything
 reopened_slot_has_the_configured_slices = refl
 
 abbrev both_hosted : List Config
-both_hosted = one_net (hosted A (just A) ∷ hosted B (just A) ∷ []) (record { events = 100; bytes = 1000; slots = 1 })
+both_hosted = one_net (hosted_with A (just A) ∷ hosted_with B (just A) ∷ []) (record { events = 100; bytes = 1000; slots = 1 })
 
 -- what was emitted is heard with the slices that it was emitted with
 pub heard_with_the_old_slices : host_run (nets both_hosted)

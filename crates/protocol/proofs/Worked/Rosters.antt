@@ -20,7 +20,7 @@ use Rattle.protocol.specs.Crowds.Crowd.{CastDiffers, RosterDiffers, OutsideRoste
 use Rattle.protocol.proofs.Verdicts.OfCrowds.{closure_in}
 use Rattle.protocol.proofs.Sets.RuleLists.{least-in}
 use Rattle.protocol.proofs.Worked.Everything.{everything}
-use Rattle.protocol.proofs.Worked.Letters.{A, B, C, D, Z, m, at, just, two_of_bcd, by, to_A, one_net, hosted, replies}
+use Rattle.protocol.proofs.Worked.Letters.{A, B, C, D, Z, m, at, just, two_of_bcd, by, to_A, one_net, hosted_with, replies}
 
 -- ---- a network of A with a roster, and strangers
 abbrev X : ℕ
@@ -36,7 +36,7 @@ abbrev of_A : ℕ → List ℕ → Shares → List Config
 of_A slots names shares =
     record {
       number = 1;
-      nodes = hosted A two_of_bcd ∷ [];
+      nodes = hosted_with A two_of_bcd ∷ [];
       budgets = record { events = 100; bytes = 208; slots = slots };
       roster = Some (record { names = names; shares = shares });
     } ∷ []
@@ -72,7 +72,7 @@ bytes_are_used_up = refl
 abbrev narrow : List Config
 narrow = record {
   number = 1;
-  nodes = hosted A two_of_bcd ∷ [];
+  nodes = hosted_with A two_of_bcd ∷ [];
   budgets = record { events = 0; bytes = 0; slots = 1 };
   roster = Some (record { names = abcd; shares = record { own = 1; pair = 1; bytes = 104; opens = 3 } });
 } ∷ []
@@ -117,10 +117,10 @@ abbrev with_roster : List ℕ → List Config
 with_roster names = of_A 1 names (shares 10 1000)
 
 abbrev few : List Config
-few = one_net (hosted A two_of_bcd ∷ []) (record { events = 100; bytes = 208; slots = 1 })
+few = one_net (hosted_with A two_of_bcd ∷ []) (record { events = 100; bytes = 208; slots = 1 })
 
 abbrev nodes : List HostedNode
-nodes = hosted A two_of_bcd ∷ []
+nodes = hosted_with A two_of_bcd ∷ []
 
 -- A's closure holds A, B, C and D, and strangers deliver to A without being in it
 in_abcd : (u : ℕ) → closure_in decode (crowded (with_roster abcd)) 1 1 A u ≡ true → among abcd u ≡ true

@@ -36,6 +36,18 @@ fn a_cell_stands_over_any_shelf(rt: HostRuntime) -> Result<(), Fail> {
     Ok(())
 }
 
+#[test]
+fn a_stopped_cell_stays_closed(rt: HostRuntime) -> Result<(), Fail> {
+    let alloc = rt.alloc();
+    let mut room = one_seat(&rt, alloc).ok_or("memory")?;
+    room.stop(&rt, 0).ok_or("no seat")?;
+    for slot in 1..3 {
+        let answer = room.apply(&rt, 0, open(slot)).ok_or("no seat")?;
+        assert_eq!(rt; answer.err(), Some(CellRefusal::Closed));
+    }
+    Ok(())
+}
+
 /// Whether it is the one decision of `x` for slot 1.
 fn is_decision_of_x(decisions: &[Decision]) -> bool {
     match decisions {

@@ -100,6 +100,17 @@ impl<S: Shelf + Drop, H: Wait + Drop> Room<S, H> {
         Some(self.cell.apply(rt, &mut self.seats[seat], event))
     }
 
+    /// A seat sets the stop mark.
+    pub(super) fn stop<R: Wait>(&mut self, rt: &R, seat: usize) -> Option<()>
+        ensures { self.new ≡ self.old }
+    {
+        if seat >= self.seats.len() {
+            return None;
+        }
+        self.cell.stop(rt, &mut self.seats[seat]);
+        Some(())
+    }
+
     /// A watch is told by a seat.
     pub(super) fn tell<R: Wait>(&mut self, rt: &R, seat: usize, watch: &mut Watch) -> Option<usize>
         ensures { self.new ≡ self.old }

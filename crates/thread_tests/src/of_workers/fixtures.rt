@@ -29,24 +29,24 @@ fn name(number: u64) -> NodeId {
 }
 
 /// Slices of which a majority of these many nodes is one.
-fn slices(alloc: Global, nodes: u64) -> Option<Nested> {
+fn slices(alloc: Global, count: u64) -> Option<Nested> {
     let mut members = Vec::new(alloc);
-    for number in 0..nodes {
+    for number in 0..count {
         members.push(Member::Node(name(number))).ok()?;
     }
-    let majority = if nodes == 1 { 1 } else { 2 };
+    let majority = if count == 1 { 1 } else { 2 };
     Nested::new(alloc, SliceSet::new(majority, members)).ok()?
 }
 
 /// A network of so many nodes, of which a majority is wanted.
-fn config(alloc: Global, number: u32, nodes: u64) -> Option<NetConfig> {
-    let mut hosted = Vec::new(alloc);
-    for node in 0..nodes {
-        hosted
-            .push(HostedNode::new(name(node), slices(alloc, nodes)?))
+fn config(alloc: Global, number: u32, count: u64) -> Option<NetConfig> {
+    let mut nodes = Vec::new(alloc);
+    for node in 0..count {
+        nodes
+            .push(HostedNode::new(name(node), slices(alloc, count)?))
             .ok()?;
     }
-    NetConfig::new(alloc, number, hosted, Budgets::new(10_000, 0, 4)?).ok()
+    NetConfig::new(alloc, number, nodes, Budgets::new(10_000, 0, 4)?).ok()
 }
 
 /// A network joins, given by its number, how many nodes it has, and how many seats its cell has. It says whether
@@ -59,8 +59,8 @@ pub(super) fn join<R: Wait + Drop + Copy>(
 ) -> Option<bool>
     requires { (0 < network.2) × (network.2 ≤ 64) }
 {
-    let (number, nodes, seats) = network;
-    match Cell::open(rt, alloc, config(alloc, number, nodes)?, seats) {
+    let (number, count, seats) = network;
+    match Cell::open(rt, alloc, config(alloc, number, count)?, seats) {
         Ok((cell, seats)) => Some(host.add(cell, seats).is_ok()),
         Err(_) => None,
     }
@@ -71,7 +71,7 @@ pub(super) fn host_of_networks<R: Wait + Drop + Copy>(
     rt: &R,
     alloc: Global,
     networks: u32,
-    nodes: u64,
+    count: u64,
     seats: u64,
 ) -> Option<Host<SharedHandle<R>, R>>
     requires { (0 < seats) × (seats ≤ 64) }
@@ -82,7 +82,7 @@ pub(super) fn host_of_networks<R: Wait + Drop + Copy>(
             rt,
             alloc,
             &mut host,
-            (number.saturating_add(1), nodes, seats),
+            (number.saturating_add(1), count, seats),
         )? {
             return None;
         }
@@ -112,9 +112,9 @@ fn proposal(alloc: Global, network: u32, node: u64) -> Option<Job> {
 }
 
 /// For each node of each network a job by which it is to propose `x`.
-pub(super) fn proposals(alloc: Global, networks: u32, nodes: u64) -> Option<Vec<Job>> {
+pub(super) fn proposals(alloc: Global, networks: u32, count: u64) -> Option<Vec<Job>> {
     let mut jobs = Vec::new(alloc);
-    for node in 0..nodes {
+    for node in 0..count {
         for number in 0..networks {
             jobs.push(proposal(alloc, number.saturating_add(1), node)?)
                 .ok()?;

@@ -6,7 +6,7 @@ use Rattle.compiled.proofs.compiling.add_node.Goals as goal
 
 pub returns-in-None-clause-places : goal.returns-in-None-clause-places
 returns-in-None-clause-places c = λ ws.
-    let absent : among c.args.nodes.now c.args.node.now ≡ false = sym c.node_place.ensures.exactly ∙ ap (λ (o : Option ℕ). is_some o) c.in-None.is in
+    let absent : among c.args.nodes.now c.args.node.now ≡ false = sym c.place_in_nodes.ensures.exactly ∙ ap (λ (o : Option ℕ). is_some o) c.in-None.is in
     omega (arith, none_is c.args.nodes.now c.args.node.now ws absent)
 
 pub returns-in-Some-clause-places : goal.returns-in-Some-clause-places

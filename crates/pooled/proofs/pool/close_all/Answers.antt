@@ -1,5 +1,5 @@
 use Rattle.std.proofs.Common.{rules}
-use Rattle.pooled.proofs.TellingLaws.{all_closed, closes_more, closes_none}
+use Rattle.pooled.proofs.WritingLaws.{all_closed, closes_more, closes_none}
 use Rattle.pooled.proofs.pool.close_all.Goals as goal
 
 pub loop-journal-init : goal.loop-journal-init

@@ -1,5 +1,5 @@
 use Rattle.std.proofs.Common.{length}
-use Rattle.pooled.proofs.TellingLaws.{Closes}
+use Rattle.pooled.proofs.WritingLaws.{Closes}
 use Rattle.pooled.proofs.pool.close_all.Given as goal
 
 abbrev pub invariant-loop-journal : goal.invariant-loop-journal

@@ -7,12 +7,12 @@ use Rattle.scripts.proofs.run.answer.Goals as goal
 pub returns-in-Ok-Some-clause-passes : goal.returns-in-Ok-Some-clause-passes
 returns-in-Ok-Some-clause-passes g c =
     let found = rw c.in-Ok-Some.field-0-is at c.in-Ok-Some.ensures in
-    told_line _ _ _ _ _ _ _ _ found.fields (ap (map (λ field. field.now)) c.as_slice.ensures.value) c.line.ensures.told
+    told_line _ _ _ _ _ _ _ _ (λ skipped. let none = found.skipped.1 skipped in cc) found.fields (ap (map (λ field. field.now)) c.as_slice.ensures.value) c.line.ensures.told
 
 pub returns-in-Ok-Some-clause-fails : goal.returns-in-Ok-Some-clause-fails
 returns-in-Ok-Some-clause-fails g c e =
     let found = rw c.in-Ok-Some.field-0-is at c.in-Ok-Some.ensures in
-    refused_line _ _ _ _ _ found.fields (ap (map (λ field. field.now)) c.as_slice.ensures.value) (c.line.ensures.bad e)
+    refused_line _ _ _ _ _ (λ skipped. let none = found.skipped.1 skipped in cc) found.fields (ap (map (λ field. field.now)) c.as_slice.ensures.value) (c.line.ensures.bad e)
 
 pub returns-in-Ok-None-clause-passes : goal.returns-in-Ok-None-clause-passes
 returns-in-Ok-None-clause-passes g c =

@@ -1,4 +1,5 @@
 use Rattle.std.proofs.Common.{◌≡◌, ◌∙◌, ◌<◌, ◌≤◌, ◌-◌, true, false, sym, ap, arith, length}
+use Rattle.std.specs.Prelude.{Err}
 use Rattle.std.specs.Io.BufRead.{ends_with_byte, strip_last}
 use Rattle.std.proofs.lemmas.Result.{err_from_is_err_and}
 use Rattle.scripts.proofs.StreamLaws.{starts, next_line, not_read, stopped_at, ended, ended_at, is_zero, not_zero}
@@ -9,7 +10,7 @@ loop-bytes-init g c = starts _ _ _ _ _ _
 
 pub returns-in_err-bytes : goal.returns-in_err-bytes
 returns-in_err-bytes g c =
-    let ran = not_read _ _ _ _ _ _ _ _ _ _ _ c.in_err-bytes.field-0.0 c.loop-bytes.invariant in
+    let ran = not_read _ _ _ _ _ _ _ _ _ _ _ c.in_err-bytes.field-0.0 (λ e. c.in_err-bytes.ensures.too_long (ap (λ x. Err x) e)) c.loop-bytes.invariant in
     let out = err_from_is_err_and c.from_residual.result c.from_residual.ensures.1 in
     rw (out.1, out.2) ran
 

@@ -1,7 +1,7 @@
 use Rattle.std.proofs.Common.{sym, ap, ◌∙◌}
 use Rattle.protocol.proofs.Nodes.Quiet.{outs-none}
 use Rattle.slot.specs.Filings.{outs_of}
-use Rattle.slot.specs.Wholes.{node_from_parts}
+use Rattle.slot.specs.NodeParts.{node_from_parts}
 use Rattle.slot.proofs.node.answer_anew.Goals as goal
 
 pub returns-in_default-clause-outs : goal.returns-in_default-clause-outs

@@ -2,7 +2,7 @@ use Rattle.std.proofs.Common.{◌∙◌, ◌++◌, ◌∷◌, [], List, Option, 
 use Rattle.types.specs.declared.event.Out.{Out}
 use Rattle.types.specs.declared.event.Out.TheVariants.{Emit}
 use Rattle.types.specs.declared.statement.Statement.{Statement}
-use Rattle.slot.specs.Wholes.{emitted_by}
+use Rattle.slot.specs.NodeParts.{emitted_by}
 use Rattle.slot.proofs.Emissions.{emitted-other}
 use Rattle.slot.proofs.outs.push_new.Goals as goal
 

@@ -4,7 +4,7 @@ use Rattle.std.proofs.lemmas.List.{append-nil}
 use Rattle.types.specs.declared.event.Out.{Out}
 use Rattle.types.specs.declared.statement.Statement.{Statement}
 use Rattle.protocol.specs.States.{sent_nomination}
-use Rattle.slot.specs.Wholes.{emitted_by}
+use Rattle.slot.specs.NodeParts.{emitted_by}
 use Rattle.slot.proofs.Emissions.{emitted-same, nomination-same, nomination-sets}
 use Rattle.slot.proofs.outs.push_nomination.Goals as goal
 

@@ -1,5 +1,7 @@
-use Rattle.tables.specs.TableLines.{Tells}
+use Rattle.tables.proofs.RunLaws.{began}
 use Rattle.tables.proofs.table_run.listener_of.Goals as goal
 
-pub returns-in_ok-slices-in-len4 : goal.returns-in_ok-slices-in-len4
-returns-in_ok-slices-in-len4 c = Tells.itself
+pub returns-in-Ok-Some-clause-told : goal.returns-in-Ok-Some-clause-told
+returns-in-Ok-Some-clause-told c =
+    let found = rw c.in-Ok-Some.field-0-is at c.in-Ok-Some.ensures in
+    began _ _ _ c.new.ensures found.begins

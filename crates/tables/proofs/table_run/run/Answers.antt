@@ -1,12 +1,7 @@
-use Rattle.tables.proofs.RunLaws.{another, told}
+use Rattle.tables.proofs.RunLaws.{told}
 use Rattle.tables.proofs.table_run.run.Goals as goal
 
 pub returns-in-Ok-Some-clause-told : goal.returns-in-Ok-Some-clause-told
 returns-in-Ok-Some-clause-told c =
     let found = rw c.in-Ok-Some.field-0-is at c.in-Ok-Some.ensures in
     told _ _ _ _ _ _ found.asked c.ask.ensures.unchanged c.ask.ensures.backs
-
-pub returns-in-Ok-None-clause-told : goal.returns-in-Ok-None-clause-told
-returns-in-Ok-None-clause-told c =
-    let found = rw c.in-Ok-None.field-0-is at c.in-Ok-None.ensures in
-    another _ _ _ _ _ found.none

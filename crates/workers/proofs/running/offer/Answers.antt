@@ -1,10 +1,9 @@
-use Rattle.std.proofs.Common.{◌≡◌, ap, inl, inr, refl, arith}
+use Rattle.std.proofs.Common.{ap, inl, inr, refl, arith}
 use Rattle.work.specs.Hands.{weigh}
-use Rattle.work.specs.declared.rule.Job.{Job}
+use Rattle.work.specs.Queues.{put_by, taken_by}
 use Rattle.workers.specs.declared.shared.Shared.{Shared}
 use Rattle.workers.proofs.Nets.{done_after, host_state_after, grown_after, nets_same}
 use Rattle.workers.proofs.Offers.{all_left}
-use Rattle.work.proofs.Balances.{ones}
 use Rattle.workers.proofs.running.offer.Goals as goal
 
 pub invariant_of-host : goal.invariant_of-host
@@ -27,10 +26,11 @@ returns-in-Err-clause-same g c = nets_same c.args.host.now
 
 pub returns-in-Err-clause-offered : goal.returns-in-Err-clause-offered
 returns-in-Err-clause-offered g c =
-    let same : weigh (λ (_ : Job). 1) c.args.jobs.items ≡ c.len-in-Err.result = (let m = ones c.args.jobs.items in let n = c.len-in-Err.ensures in let ok = c.args.jobs.ok.0 in omega arith) in
     inr (record {
       same = refl;
       applied = refl;
       refused = refl;
-      left = all_left _ _ _ _ same;
+      left = c.args.jobs.items;
+      sum = λ h. all_left (put_by h c.args.queue.1.items) (taken_by h c.args.queue.1.items) (weigh h c.args.jobs.items);
+      unrun = (let n = c.len-in-Err.ensures in let ok = c.args.jobs.ok.0 in omega arith);
     })

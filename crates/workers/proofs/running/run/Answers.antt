@@ -2,7 +2,6 @@ use Rattle.std.proofs.Common.{inl, inr, refl, sym, subst, arith}
 use Rattle.workers.specs.Spares.{AllHave}
 use Rattle.workers.proofs.Nets.{done_after, host_state_after, grown_after, nets_same}
 use Rattle.workers.proofs.Worked.{hosted_have}
-use Rattle.work.proofs.Balances.{ones}
 use Rattle.workers.proofs.running.run.Goals as goal
 
 pub fewest_seats-many-requires-clause-seats : goal.fewest_seats-many-requires-clause-seats
@@ -36,9 +35,7 @@ returns-in-Err-clause-run g c =
       same = refl;
       applied = refl;
       refused = refl;
-      left =
-          (let s = c.close.ensures (λ _. 1) in
-          let m = ones c.close.result.items in
-          let n = c.len-in-Err.ensures in
-          let ok = c.close.result.ok.0 in omega arith);
+      left = c.close.result.items;
+      sum = λ h. sym (c.close.ensures h);
+      unrun = (let n = c.len-in-Err.ensures in let ok = c.close.result.ok.0 in omega arith);
     })

@@ -26,7 +26,7 @@ loop-seat-preserved g c =
     let here : item ≡ get_or old n item = at ∙ seam_read ended_sight xs c.loop-seat.seats n item lt i.2 ∙ ap (λ (l : List SeatSight). get_or l n item) same in
     let base : (view c.take-cell_state.new.pass).config ≡ c.args.config.now = ap (λ (v : Knowledge). v.config) c.take-cell_state.ensures.rule.now ∙ ap (λ (v : Knowledge). v.config) c.closer_from-keeper.ensures.pass.1 ∙ first.1 in
     let config : item.me.config ≡ (view c.take-cell_state.new.pass).config = ap (λ (s : SeatSight). s.me.config) here ∙ mine.1 ∙ sym base in
-    let rest = one_more_seat (view c.take-cell_state.new.pass) (view c.loop-seat.keeper) (view c.end_seat.new.keeper) xs c.loop-seat.seats n item c.end_seat.new.seat lt i.2 at now i.1 e.told e.sound config i.3 in
+    let rest = one_more_seat (view c.take-cell_state.new.pass) (view c.loop-seat.keeper) (view c.end_seat.new.keeper) xs c.loop-seat.seats n item c.end_seat.new.seat lt i.2 at now i.1 e.end_known e.sound config i.3 in
     ((e.queue.0 ∙ i.0.0, e.queue.2 ∙ i.0.1), keeps_shown (view c.take-cell_state.new.pass) (view c.loop-seat.keeper) (view c.end_seat.new.keeper) (note_of (get_or c.loop-seat.seats n item).me) i.1 e.keeper, rest.0, rest.1)
 
 pub returns-clause-gathered : goal.returns-clause-gathered

@@ -15,8 +15,8 @@ returns-clause-given g c =
     let unsorted : IsGiven nodes c.args.self.now.slot run (names_of c.args.members.now) c.args.turn.now.node c.match-branch-2.names.items = elim c.match-branch-2.branch [
       | in-None+in_ok-names-in-None w ↦ subst (λ (v : Vec NodeId Global). IsGiven nodes c.args.self.now.slot run (names_of c.args.members.now) c.args.turn.now.node v.items) (sym w.names-is) w.in_ok-names-in-None.ensures
       | in-Some+in_ok-names-in-Some w ↦
-          let told : Some w.in-Some.numbers.items ≡ slice_get c.args.ready.now c.args.turn.now.place = ap (λ (o : Option (Vec ℕ Global)). option_map (λ (v : Vec ℕ Global). v.items) o) (sym w.in-Some.is) ∙ c.in_ok-take.ensures.numbers in
-          let read = read_at c.args.ready.now c.args.turn.now.place w.in-Some.numbers.items told in
+          let found : Some w.in-Some.numbers.items ≡ slice_get c.args.ready.now c.args.turn.now.place = ap (λ (o : Option (Vec ℕ Global)). option_map (λ (v : Vec ℕ Global). v.items) o) (sym w.in-Some.is) ∙ c.in_ok-take.ensures.numbers in
+          let read = read_at c.args.ready.now c.args.turn.now.place w.in-Some.numbers.items found in
           given_by_ready nodes c.args.self.now.slot run (names_of c.args.members.now) c.args.turn.now.node c.args.ready.now c.args.turn.now.place w.in-Some.numbers.items c.match-branch-2.names.items
           c.requires.ready read.0 c.requires.there read.1
           (ap (λ (v : Vec NodeId Global). v.items) w.names-is ∙ (w.in_ok-names-in-Some.ensures ∙ ap (λ (ns : List ℕ). all_added c.args.self.now.slot run (names_of c.args.members.now) c.args.turn.now.node ns) w.deref.ensures.value))

@@ -1,10 +1,10 @@
 use Rattle.std.proofs.Common.{◌≡◌, ap, sym, subst, ◌∙◌, List, None}
 use Rattle.hoststep.specs.Logs.{Log}
 use Rattle.hoststep.specs.Worlds.{AreJournalsOf, with_new_network, log_at, logs_with}
-use Rattle.hoststep.proofs.Histories.{told-joined}
+use Rattle.hoststep.proofs.Histories.{history-joined}
 use Rattle.hoststep.proofs.world.World.add.Goals as goal
 
-pub returns-in-Ok-clause-told : goal.returns-in-Ok-clause-told
-returns-in-Ok-clause-told g c = λ h told.
+pub returns-in-Ok-clause-history : goal.returns-in-Ok-clause-history
+returns-in-Ok-clause-history g c = λ h own_is.
     let none : log_at c.args.self.now c.args.config.number ≡ None = subst (λ (l : Log). log_at c.args.self.now l.config.number ≡ None) c.new.ensures c.in-Ok.ensures.fresh in
-    subst (λ (ls : List Log). AreJournalsOf (with_new_network c.args.config h) ls) (sym (c.in-Ok.ensures.ok ∙ ap (λ (l : Log). logs_with l c.args.self.now) c.new.ensures)) (told-joined h c.args.self.now c.args.config told none)
+    subst (λ (ls : List Log). AreJournalsOf (with_new_network c.args.config h) ls) (sym (c.in-Ok.ensures.ok ∙ ap (λ (l : Log). logs_with l c.args.self.now) c.new.ensures)) (history-joined h c.args.self.now c.args.config own_is none)

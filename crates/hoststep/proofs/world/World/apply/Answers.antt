@@ -3,7 +3,7 @@ use Rattle.configuration.specs.Configs.{index_in}
 use Rattle.hoststep.specs.Logs.{Log}
 use Rattle.hoststep.specs.Worlds.{IsAnswered, IsPlaceOf, numbers_of}
 use Rattle.hoststep.proofs.ByNumber.{Changed, changed, missing}
-use Rattle.hoststep.proofs.Histories.{told-answered}
+use Rattle.hoststep.proofs.Histories.{history-answered}
 use Rattle.hoststep.proofs.world.World.apply.Given.{Over}
 use Rattle.hoststep.proofs.world.World.apply.Goals as goal
 
@@ -20,9 +20,9 @@ invariant_of-self g c = (all-of g c).kept
 pub returns-in-Ok-clause-answer : goal.returns-in-Ok-clause-answer
 returns-in-Ok-clause-answer g c = subst (λ (xs : List Log). IsAnswered xs c.args.number c.args.event c.apply.result (set c.self.inside.journals.items c.in-Ok.at c.apply.new.self)) c.self.view_is (all-of g c).answer
 
-pub returns-in-Ok-clause-told : goal.returns-in-Ok-clause-told
-returns-in-Ok-clause-told g c = λ h told memory.
-    told-answered h c.args.self.now (set c.self.inside.journals.items c.in-Ok.at c.apply.new.self) c.args.number c.args.event c.apply.result told
+pub returns-in-Ok-clause-history : goal.returns-in-Ok-clause-history
+returns-in-Ok-clause-history g c = λ h own_is memory.
+    history-answered h c.args.self.now (set c.self.inside.journals.items c.in-Ok.at c.apply.new.self) c.args.number c.args.event c.apply.result own_is
     (subst (λ (xs : List Log). IsAnswered xs c.args.number c.args.event c.apply.result (set c.self.inside.journals.items c.in-Ok.at c.apply.new.self)) c.self.view_is (all-of g c).answer) memory
 
 pub returns-in-Err-clause-answer : goal.returns-in-Err-clause-answer
@@ -30,7 +30,7 @@ returns-in-Err-clause-answer g c =
     let none = missing c.args.self.now c.args.number (subst (λ r. IsPlaceOf c.args.self.now c.args.number r) c.in-Err.is c.place.ensures).0 in
     rw none (refl, refl)
 
-pub returns-in-Err-clause-told : goal.returns-in-Err-clause-told
-returns-in-Err-clause-told g c = λ h told memory.
+pub returns-in-Err-clause-history : goal.returns-in-Err-clause-history
+returns-in-Err-clause-history g c = λ h own_is memory.
     let none = missing c.args.self.now c.args.number (subst (λ r. IsPlaceOf c.args.self.now c.args.number r) c.in-Err.is c.place.ensures).0 in
-    told-answered h c.args.self.now c.args.self.now c.args.number c.args.event _ told (rw none (refl, refl)) memory
+    history-answered h c.args.self.now c.args.self.now c.args.number c.args.event _ own_is (rw none (refl, refl)) memory

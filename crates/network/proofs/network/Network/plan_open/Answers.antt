@@ -1,5 +1,5 @@
 use Rattle.std.proofs.Common.{rules, ◌≡◌, ◌∙◌, true, false, is_some, Err, sym, ap, subst, not, nat_lt, length, map}
-use Rattle.protocol.specs.Networks.{nodes_of_new_slot, source}
+use Rattle.protocol.specs.Networks.{instances_of_new_slot, source}
 use Rattle.protocol.specs.Networks.Step.{Opens}
 use Rattle.network.specs.Deeds.{IsPlanned, index_of_slot}
 use Rattle.network.specs.Lodgings.{slot_of}
@@ -43,4 +43,4 @@ returns-in-Ok g c =
     let none = none-so (index_of_slot (map slot_of (machine_of m).slots) c.args.slot) f in
     let l : not (nat_lt (length m.slots) m.config.budgets.slots) ≡ false = search rules in
     let o = c.in-Ok.ensures in
-    opens-plan m c.args.slot c.openings-drawn.result c.in-Ok.opened none l (room-ok m (λ o. source o (Opens c.args.slot)) c.openings-drawn.result (c.openings-drawn.ensures.opens c.args.slot) c.in_ok-has_room.ensures) o.number (o.instances ∙ ap (λ (x : Standing). nodes_of_new_slot x.config.nodes c.args.slot) c.self.view_is) o.lodged o.counts
+    opens-plan m c.args.slot c.openings-drawn.result c.in-Ok.opened none l (room-ok m (λ o. source o (Opens c.args.slot)) c.openings-drawn.result (c.openings-drawn.ensures.opens c.args.slot) c.in_ok-has_room.ensures) o.number (o.instances ∙ ap (λ (x : Standing). instances_of_new_slot x.config.nodes c.args.slot) c.self.view_is) o.lodged o.counts

@@ -4,7 +4,7 @@ use Rattle.envstore.specs.Archives.{sent_of}
 use Rattle.protocol.specs.Nodes.{change}
 use Rattle.slot.specs.declared.filed.FiledEvent.{FiledEvent}
 use Rattle.slot.specs.Filings.{event_of}
-use Rattle.slot.specs.Wholes.{ChangesTo, with_changed}
+use Rattle.slot.specs.NodeParts.{ChangesTo, with_changed}
 use Rattle.slot.proofs.Answered.{quiet-after}
 use Rattle.slot.proofs.Idle.{propose-changes, reslice-changes}
 use Rattle.slot.proofs.Sendings.{emitted-own}

@@ -5,7 +5,7 @@ use Rattle.envstore.specs.Archives.{AreFiled}
 use Rattle.envstore.proofs.Growing.{keeps_all}
 use Rattle.listening.specs.Listening.{ListenerState}
 use Rattle.slot.specs.Listening.{Held, node_of}
-use Rattle.slot.specs.Wholes.{IsChange}
+use Rattle.slot.specs.NodeParts.{IsChange}
 use Rattle.slot.proofs.Answered.{change-slices, node-after, node_in, outs-after, reached-after}
 use Rattle.slot.proofs.StirredRows.{start-all}
 use Rattle.slot.proofs.node.Node.reslice.Given.{Over}

@@ -8,7 +8,7 @@ use Rattle.envstore.proofs.Growing.{keeps_all}
 use Rattle.listening.specs.Listening.{ListenerState}
 use Rattle.slot.specs.Filings.{outs_of}
 use Rattle.slot.specs.Listening.{Held, node_of}
-use Rattle.slot.specs.Wholes.{ChangesTo, IsChange}
+use Rattle.slot.specs.NodeParts.{ChangesTo, IsChange}
 use Rattle.slot.proofs.Answered.{change-of, node-after, node_in, outs-after, reached-after, step-none}
 use Rattle.slot.proofs.Idle.{never}
 use Rattle.slot.proofs.StirredRows.{start-all}

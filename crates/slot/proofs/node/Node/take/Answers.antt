@@ -16,7 +16,7 @@ use Rattle.slot.proofs.AddedRows.{row-step}
 use Rattle.latest.specs.declared.table.Put.{Put}
 use Rattle.latest.specs.Puts.{IsPut}
 use Rattle.listening.proofs.Offers.{first-taken, put-takes}
-use Rattle.slot.specs.Wholes.{IsChange}
+use Rattle.slot.specs.NodeParts.{IsChange}
 use Rattle.slot.proofs.StirredRows.{start-row}
 use Rattle.slot.proofs.node.Node.take.Given.{Over}
 use Rattle.slot.proofs.node.Node.take.Goals.{In_ok-offer, In-Added}

@@ -9,11 +9,11 @@ loop-init g c = (c.requires, kept_none _ _)
 pub index-requires : goal.index-requires
 index-requires g c = let lt = is_seated _ _ _ _ c.loop.invariant.0 in let ok = c.loop.self.walks.ok.0 in omega arith
 
-pub tell_one-requires-clause-place : goal.tell_one-requires-clause-place
-tell_one-requires-clause-place g c = short_of c.loop.self.walks.items c.args.k c.index.result.now (is_seated _ _ _ _ c.loop.invariant.0) c.index.ensures (c.is_short.ensures.short c.if-is_short.true)
+pub follow_receipt-requires-clause-place : goal.follow_receipt-requires-clause-place
+follow_receipt-requires-clause-place g c = short_of c.loop.self.walks.items c.args.k c.index.result.now (is_seated _ _ _ _ c.loop.invariant.0) c.index.ensures (c.is_short.ensures.short c.if-is_short.true)
 
 pub loop-preserved : goal.loop-preserved
-loop-preserved g c = let i = c.loop.invariant in (c.tell_one.ensures.busy, kept_both _ [] [] _ c.loop.self _ i.1 c.tell_one.ensures.kept)
+loop-preserved g c = let i = c.loop.invariant in (c.follow_receipt.ensures.busy, kept_both _ [] [] _ c.loop.self _ i.1 c.follow_receipt.ensures.kept)
 
 pub returns-clause-ready : goal.returns-clause-ready
 returns-clause-ready g c =

@@ -1,0 +1,4 @@
+mod CrowdLines
+mod ExplainedTexts
+mod LineLaws
+mod PlanningLaws

@@ -1,0 +1,56 @@
+-- What is printed of the verdict on two submissions.
+use Rattle.std.specs.Prelude.{◌≡◌, ◌++◌, Bool, true, false, [], ◌∷◌, codes, string_bytes}
+use Rattle.std.specs.List.{flat_map}
+use Rattle.std.specs.Fmt.{decimal}
+use Rattle.scripts.specs.Names.{text_of_name}
+use Rattle.protocol.specs.Hosts.{History}
+use Rattle.protocol.specs.Networks.{Reply}
+use Rattle.protocol.specs.Networks.Reply.{Done, Refused}
+use Rattle.crowds.specs.Crowding.{IsCrowdHere}
+use Rattle.crowds.specs.Replies.{reply_of}
+use Rattle.crowds.specs.declared.reply.Reply.{Reply as Replied}
+use Rattle.crowds.specs.declared.verdict.Crowd.{Crowd}
+use Rattle.crowds.specs.declared.verdict.Crowd.TheVariants.{CastDiffers, RosterDiffers, OutsideRoster}
+use Rattle.crowds.specs.declared.verdict.Crowd.TheVariants.{InputsDiffer, Same}
+use Rattle.runs.specs.Replies.{behind_space, refusal_text}
+use Rattle.scripts.specs.Script.{Bytes}
+use Rattle.answers.specs.declared.answer.Answer.{Answer}
+use Rattle.types.specs.declared.subject.Subject.{Subject}
+
+-- the text with a line feed (10) behind it
+abbrev pub line : Bytes → Bytes
+line text = text ++ 10 ∷ []
+
+-- the line of a reply, as that of the same answer to an event
+abbrev pub line_of_reply : Reply → Bytes
+line_of_reply (Done outs) = line (codes "ok" ++ flat_map behind_space outs)
+line_of_reply (Refused r) = line (refusal_text r)
+
+-- the same, of what the code answers
+abbrev pub line_of_replied : Replied → Bytes
+line_of_replied r = line_of_reply (reply_of r)
+
+-- the lines of a verdict: what differs, or `same` and each reply
+abbrev pub lines_of : Crowd → Bytes
+lines_of (CastDiffers u) = line (codes "cast differs at " ++ text_of_name u)
+lines_of RosterDiffers = line (codes "roster differs")
+lines_of (OutsideRoster u) = line (codes "outside roster at " ++ text_of_name u)
+lines_of (InputsDiffer place) = line (codes "inputs differ at " ++ decimal place)
+lines_of (Same replies) = line (codes "same") ++ flat_map line_of_reply replies
+
+-- whether the verdict names a difference
+abbrev pub is_difference : Crowd → Bool
+is_difference (Same replies) = false
+is_difference (CastDiffers u) = true
+is_difference RosterDiffers = true
+is_difference (OutsideRoster u) = true
+is_difference (InputsDiffer place) = true
+
+-- the answer tells this verdict
+abbrev pub Tells : Crowd → Answer → Type 0
+Tells verdict answer = (answer.differs ≡ is_difference verdict) × (string_bytes answer.text ≡ lines_of verdict)
+
+-- the answer tells the verdict on two submissions
+abbrev pub TellsCrowd : History → History → Subject → Answer → Type 0
+TellsCrowd one other subject answer =
+    (verdict : Crowd) × IsCrowdHere one other subject.net subject.slot subject.node verdict × Tells verdict answer

@@ -1,0 +1,124 @@
+//! Scripts of networks that are run to their end without printing.
+
+ghost use Rattle.std.specs.Prelude.{◌≡◌, ◌≤◌, IfErr, IfOk, Some, length, option_map};
+ghost use Rattle.runs.specs.Unprinted.{origin_in};
+ghost use Rattle.answers.specs.Scripts.{HasEnded, IsLineAt, IsLineOf, IsStoryOf, StopsStory, start_of};
+ghost use Rattle.scripts.specs.Script.{is_no_record as no_record};
+
+use runs::UnprintedRun;
+use scripts::{LONGEST_SCRIPT, Line, Lines, Stop, read_whole, run_script};
+use std::alloc::Global;
+use std::io;
+use std::io::Read;
+use std::marker::Model;
+
+/// A script of networks that has been run to its end.
+///
+/// Its text is no longer than a script may be: for example, it may have 64 MiB, and not one byte more.
+#[derive(Drop)]
+pub struct FinishedScript {
+    run: UnprintedRun,
+    text: Vec<u8>,
+}
+
+impl Model for FinishedScript {
+    ghost use Rattle.std.specs.Coded.{codes};
+    ghost use Rattle.std.specs.Prelude.{◌≤◌, length};
+    ghost use Rattle.types.specs.Trees.{members_code};
+    ghost use Rattle.answers.specs.Scripts.{Story, longest_script};
+
+    ghost Value = { Story };
+
+    ghost coded = { Prim.hlevel (codes, members_code) };
+
+    ghost view = { λ script. record { run = script.run; text = script.text.items } };
+
+    ghost invariant = { λ script. length script.text.items ≤ longest_script };
+}
+
+impl FinishedScript {
+    /// Reads a script whole and runs its lines in order, without printing. After the last one the networks
+    /// that are declared with nodes and that no event has named are there too. A line that is bad ends it, and
+    /// so does an event for which memory is short: no story lacks an event of its script for that. Where it is
+    /// traced, it keeps from which line each entry comes.
+    pub fn read_and_run<R: Read>(
+        alloc: Global,
+        script: &mut R,
+        traced: bool,
+    ) -> Result<FinishedScript, Stop>
+        ensures story { IfOk result (IsStoryOf traced (R.remaining script.old)) }
+        ensures stopped { IfErr result (StopsStory traced (R.remaining script.old)) }
+    {
+        let text = read_whole(alloc, script)?;
+        let run = run_to_end(alloc, &text, traced)?;
+        Ok(FinishedScript { run, text })
+    }
+
+    /// The run.
+    pub fn run(&self) -> &UnprintedRun
+        ensures { result.now ≡ self.now.run }
+    {
+        &self.run
+    }
+
+    /// The line of the script from which an entry of a network comes; `None` where there is no such entry, and
+    /// where the script is not traced.
+    pub fn line(&self, net: u32, entry: usize) -> Option<Line<'_>>
+        ensures { IsLineAt self.now.text (origin_in self.now.run.trace net entry) (option_map (λ line. (line.number, line.bytes.now)) result) }
+    {
+        match self.run.origin(net, entry) {
+            Some(number) => nth_record(&self.text, number),
+            None => None,
+        }
+    }
+}
+
+/// Runs the lines of a text in order without printing, and ends the run.
+fn run_to_end(alloc: Global, text: &[u8], traced: bool) -> Result<UnprintedRun, Stop>
+    ensures ended { IfOk result (HasEnded (start_of traced) text.now) }
+    ensures stopped { IfErr result (StopsStory traced (Some text.now)) }
+{
+    let mut run = new_run(alloc, traced);
+    let mut lines = text;
+    run_script(alloc, &mut run, &mut lines, &mut io::sink())?;
+    match run.finish() {
+        Ok(()) => Ok(run),
+        // Memory: finishing has none.
+        Err(_) => Err(Stop::NoMemory),
+    }
+}
+
+/// Before the first line.
+fn new_run(alloc: Global, traced: bool) -> UnprintedRun
+    ensures { result ≡ start_of traced }
+{
+    if traced {
+        UnprintedRun::with_origins(alloc)
+    } else {
+        UnprintedRun::new(alloc)
+    }
+}
+
+/// A line of a script, by its number among those that are run, counted from 0.
+fn nth_record(text: &[u8], number: usize) -> Option<Line<'_>>
+    requires { length text.now ≤ LONGEST_SCRIPT }
+    ensures { IsLineOf text.now number (option_map (λ line. (line.number, line.bytes.now)) result) }
+{
+    let mut left = number;
+    for line in Lines::new(text) {
+        if !is_no_record(line.bytes) {
+            if left == 0 {
+                return Some(line);
+            }
+            left -= 1;
+        }
+    }
+    None
+}
+
+/// The line is empty or a comment.
+fn is_no_record(line: &[u8]) -> bool
+    ensures { result ≡ no_record line.now }
+{
+    matches!(line, [] | [b'#', ..])
+}

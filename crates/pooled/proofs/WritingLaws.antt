@@ -1,0 +1,116 @@
+-- What is written of journals, one after the other.
+use Rattle.std.proofs.Common.{◌≡◌, ◌∙◌, ℕ, suc, List, [], ◌∷◌, ◌++◌, drop, length, take, sym, ap, ap₂, arith, subst}
+use Rattle.std.specs.List.{All}
+use Rattle.std.specs.Prelude.{reverse}
+use Rattle.std.proofs.lemmas.List.{append-nil, append_assoc, reverse-append, take-append-drop}
+use Rattle.std.proofs.lemmas.List.Concat.{flat_map-append}
+use Rattle.std.proofs.lemmas.List.Elements.{All-nil, All-push}
+use Rattle.protocol.specs.Runs.{IsRun as Replays}
+use Rattle.scripts.specs.Script.{Bytes}
+use Rattle.hoststep.specs.Logs.{Log}
+use Rattle.cells.specs.Sights.{SeatSight}
+use Rattle.workers.specs.NetSights.{Net}
+use Rattle.workers.specs.Nets.{IsClosedNet}
+use Rattle.workers.proofs.Pairs.{zip-append}
+use Rattle.pooled.specs.Pooling.{AreClosed, AreJournals, AreJournalLines, AddsJournalLines}
+use Rattle.pooled.specs.PoolLines.{AreAllDecidedLines, AreDecidedLines, length_line, length_lines}
+use Rattle.pooled.specs.PoolLines.AreAllDecidedLines.{none, more}
+
+-- ---- networks close, the last first
+reversed_more : (js : List Log) (l : Log) → reverse (js ++ l ∷ []) ≡ l ∷ reverse js
+reversed_more js l = reverse-append js (l ∷ [])
+
+-- whatever the journals of those that are left will be, they and these are the journals of all
+abbrev pub Closes : List Net → List Net → List Log → Type 0
+Closes all left js = (ls : List Log) → AreClosed left ls → AreClosed all (ls ++ reverse js)
+
+pub closes_none : (all : List Net) (js : List Log) → js ≡ [] → Closes all all js
+closes_none all js e ls h = subst (AreClosed all) (sym (ap (λ ks. ls ++ reverse ks) e ∙ append-nil ls)) h
+
+pub closes_more : (all left rest : List Net) (js now : List Log) (n : Net) (l : Log) (seats : List SeatSight) → left ≡ rest ++ n ∷ [] → IsClosedNet n l seats → now ≡ js ++ l ∷ [] → Closes all left js → Closes all rest now
+closes_more all left rest js now n l seats is done grown whole ls h =
+    let old : AreClosed all ((ls ++ l ∷ []) ++ reverse js) = whole (ls ++ l ∷ []) (subst (λ ns. AreClosed ns (ls ++ l ∷ [])) (sym is) (zip-append _ rest (n ∷ []) ls (l ∷ []) h ((seats, done), tt))) in
+    subst (AreClosed all) (append_assoc ls (l ∷ []) (reverse js) ∙ ap (λ ks. ls ++ ks) (sym (ap (λ ks. reverse ks) grown ∙ reversed_more js l))) old
+
+pub all_closed : (all left : List Net) (js : List Log) → left ≡ [] → Closes all left js → AreClosed all (reverse js)
+all_closed all left js empty whole = whole [] (subst (λ ns. AreClosed ns []) (sym empty) tt)
+
+-- ---- journals are written, one after the other
+-- each is a run
+abbrev pub AreRuns : List Log → Type 0
+AreRuns ls = All (λ (l : Log). Replays l.config l.entries) ls
+
+-- some of the journals of networks have been written, and those are left
+pub record IsPartWritten (nets : List Net) (left : List Log) (decided lengths : Bytes) : Type 0 where
+  pub written : List Log
+  pub closed : AreClosed nets (written ++ left)
+  pub runs : AreRuns written
+  pub lines : AreAllDecidedLines written decided
+  pub long : lengths ≡ length_lines written
+
+pub part_none : (nets : List Net) (left : List Log) (decided lengths : Bytes) → AreClosed nets left → decided ≡ [] → lengths ≡ [] → IsPartWritten nets left decided lengths
+part_none nets left decided lengths closed e f = record {
+  written = [];
+  closed = closed;
+  runs = All-nil (λ (l : Log). Replays l.config l.entries);
+  lines = subst (AreAllDecidedLines []) (sym e) none;
+  long = f;
+}
+
+lines_both : (ls ks : List Log) (text lines : Bytes) → AreAllDecidedLines ls text → AreAllDecidedLines ks lines → AreAllDecidedLines (ls ++ ks) (text ++ lines)
+lines_both [] ks _ lines none other = other
+lines_both (l ∷ ls) ks _ lines (more {lines = own} {others = others} first rest) other =
+    subst (AreAllDecidedLines (l ∷ (ls ++ ks))) (sym (append_assoc own others lines)) (more first (lines_both ls ks others lines rest other))
+
+lines_more : (ls : List Log) (l : Log) (text lines : Bytes) → AreAllDecidedLines ls text → AreDecidedLines l lines → AreAllDecidedLines (ls ++ l ∷ []) (text ++ lines)
+lines_more ls l text lines all one = lines_both ls (l ∷ []) text lines all (subst (AreAllDecidedLines (l ∷ [])) (append-nil lines) (more one none))
+
+lengths_both : (ls ks : List Log) → length_lines (ls ++ ks) ≡ length_lines ls ++ length_lines ks
+lengths_both ls ks = flat_map-append (λ (l : Log). length_line l.config.number (length l.entries)) ls ks
+
+lengths_more : (ls : List Log) (l : Log) → length_lines (ls ++ l ∷ []) ≡ length_lines ls ++ length_line l.config.number (length l.entries)
+lengths_more ls l = lengths_both ls (l ∷ []) ∙ ap (λ s. length_lines ls ++ s) (append-nil (length_line l.config.number (length l.entries)))
+
+-- the last of a list of journals is written, which stand the other way round
+pub part_more : (nets : List Net) (js rest : List Log) (l : Log) (decided lengths wider longer : Bytes) → js ≡ rest ++ l ∷ [] → AddsJournalLines l decided lengths wider longer
+    → IsPartWritten nets (reverse js) decided lengths → IsPartWritten nets (reverse rest) wider longer
+part_more nets js rest l decided lengths wider longer is next part = record {
+  written = part.written ++ l ∷ [];
+  closed = subst (AreClosed nets) (ap (λ ks. part.written ++ ks) (ap (λ ks. reverse ks) is ∙ reversed_more rest l) ∙ sym (append_assoc part.written (l ∷ []) (reverse rest))) part.closed;
+  runs = All-push (λ (k : Log). Replays k.config k.entries) part.written l part.runs next.0;
+  lines = subst (AreAllDecidedLines (part.written ++ l ∷ [])) (sym next.1.2) (lines_more part.written l decided next.1.0 part.lines next.1.1);
+  long = next.2 ∙ ap (λ s. s ++ length_line l.config.number (length l.entries)) part.long ∙ sym (lengths_more part.written l);
+}
+
+journals_of : (ns : List Net) (ls : List Log) → AreClosed ns ls → AreRuns ls → AreJournals ns ls
+journals_of [] [] closed runs = tt
+journals_of [] (l ∷ ls) closed runs = absurd closed
+journals_of (n ∷ ns) [] closed runs = absurd closed
+journals_of (n ∷ ns) (l ∷ ls) closed runs = ((closed.0, runs 0 l (omega arith)), journals_of ns ls closed.1 (λ k d lt. runs (suc k) d (omega arith)))
+
+-- when none is left, all have been written
+pub all_written : (nets : List Net) (js : List Log) (decided lengths : Bytes) → js ≡ [] → IsPartWritten nets (reverse js) decided lengths → AreJournalLines nets decided lengths
+all_written nets js decided lengths empty part = record {
+  logs = part.written;
+  journals = journals_of nets part.written (subst (AreClosed nets) (ap (λ ks. part.written ++ reverse ks) empty ∙ append-nil part.written) part.closed) part.runs;
+  lines = part.lines;
+  long = part.long;
+}
+
+-- ---- some networks have been written, and the others
+
+written_all : (ns ms : List Net) (decided lines lengths longer : Bytes) → AreJournalLines ns decided lengths → AreJournalLines ms lines longer → AreJournalLines (ns ++ ms) (decided ++ lines) (lengths ++ longer)
+written_all ns ms decided lines lengths longer one other = record {
+  logs = one.logs ++ other.logs;
+  journals = zip-append _ ns ms one.logs other.logs one.journals other.journals;
+  lines = lines_both one.logs other.logs decided lines one.lines other.lines;
+  long = ap₂ (λ s t. s ++ t) one.long other.long ∙ sym (lengths_both one.logs other.logs);
+}
+
+-- of the first so many networks, and of those behind
+pub written_both : (nets low high : List Net) (count : ℕ) (decided lines lengths longer all whole : Bytes) → low ≡ take count nets → high ≡ drop count nets
+    → AreJournalLines low decided lengths → AreJournalLines high lines longer → all ≡ decided ++ lines → whole ≡ lengths ++ longer → AreJournalLines nets all whole
+written_both nets low high count decided lines lengths longer all whole low_is high_is one other all_is whole_is =
+    let nets_are : low ++ high ≡ nets = ap₂ (λ a b. a ++ b) low_is high_is ∙ take-append-drop count nets in
+    subst (λ (ns : List Net). AreJournalLines ns all whole) nets_are
+    (subst (λ (z : Bytes × Bytes). AreJournalLines (low ++ high) z.0 z.1) (λ i. (sym all_is i, sym whole_is i)) (written_all low high decided lines lengths longer one other))
