@@ -17,7 +17,7 @@ use Rattle.cells.specs.Receipts.{AppliedEvent, Extract, entry_of, extract, extra
 use Rattle.cells.specs.Views.{Denial, CellStateSight, Knowledge}
 use Rattle.cells.specs.Rule.{denial, IsTaken, after_application, after_denial, after_look, after_stop, fresh}
 use Rattle.cells.specs.Sights.{SeatSight}
-use Rattle.cells.specs.Sounds.{Stands, IsRight, IsWhy, refused_by, AllStand, AllRight, IsRising, IsSound, IsFree, IsSeat}
+use Rattle.cells.specs.Sounds.{Stands, IsRight, IsWhy, AllStand, AllRight, IsRising, IsSound, IsFree, IsSeat}
 use Rattle.cells.specs.Cells.{AllFresh, IsSeatOf}
 use Rattle.hoststep.proofs.Growing.{slice_get-snoc}
 
@@ -44,12 +44,17 @@ stand_more config a b (r ∷ rs) p s =
     let le : r.number ≤ length a = omega arith in
     ((t.0, subst (λ (l : List Entry). slice_get l r.number ≡ Some t.0) p.1 (get_front a p.0 r.number t.0 t.1), t.2 ∙ ap (λ (l : List Entry). extract config l t.0) (sym (take_front a b r.number p le))), stand_more config a b rs p s.1)
 
+-- a reason is one after the same entries, and where the mark was set since
+why_at : (c d : Config) (a b : List Entry) (s t : Bool) (event : Event) (r : CellRefusal) → c ≡ d → a ≡ b → (s ≡ true → t ≡ true) → IsWhy c a s event r → IsWhy d b t event r
+why_at c d a b s t event r config entries up why =
+    subst (λ (y : Config × List Entry). IsWhy y.0 y.1 t event r) (λ i. (config i, entries i)) (⊎_elim (λ m. inl m) (λ m. inr (⊎_elim (λ x. inl (x.0, up x.1)) (λ x. inr x) m)) why)
+
 pub right_more : (config : Config) (a b : List Entry) (s t : Bool) (ds : List Denial) → IsPrefix a b → (s ≡ true → t ≡ true) → AllRight config a s ds → AllRight config b t ds
 right_more config a b s t [] p up r = tt
 right_more config a b s t (d ∷ ds) p up r =
     let one = r.0 in
     let le : d.length ≤ length b = let l = prefix_length a b p in let k = one.0 in omega arith in
-    ((le, ⊎_elim (λ m. inl m) (λ m. inr (⊎_elim (λ c. inl (c.0, up c.1)) (λ c. inr (ap (λ (l : List Entry). refused_by config l d.event) (take_front a b d.length p one.0) ∙ c)) m)) one.1), right_more config a b s t ds p up r.1)
+    ((le, why_at config config (take d.length a) (take d.length b) s t d.event d.refusal refl (sym (take_front a b d.length p one.0)) up one.1), right_more config a b s t ds p up r.1)
 
 all_more : {X : Type 0} (P : X → Type 0) (xs : List X) (x : X) → AllByRecursion P xs → P x → AllByRecursion P (xs ++ x ∷ [])
 all_more P xs x all one = recursion_from_All P (xs ++ x ∷ []) (All-push P xs x (All-from_recursion P xs all) one)
@@ -80,8 +85,7 @@ sound_denied v x w event refusal f s t why =
     let all : w.all ≡ x.log.entries = ap (λ (u : Knowledge). u.all) t.now in
     let over : w.over ≡ x.stopped = ap (λ (u : Knowledge). u.over) t.now in
     let config : w.config ≡ v.config = ap (λ (u : Knowledge). u.config) t.now in
-    let whole : refused_by w.config (take (length w.all) w.all) event ≡ refused_by x.log.config x.log.entries event = (λ i. refused_by (config i) (take-length w.all i) event) ∙ (λ i. refused_by (sym t.config i) (all i) event) in
-    let one : IsRight w.config w.all w.over (denial event refusal (length w.all)) = (omega arith, ⊎_elim (λ m. inl m) (λ m. inr (⊎_elim (λ c. inl (c.0, over ∙ c.1)) (λ c. inr (whole ∙ c)) m)) why) in
+    let one : IsRight w.config w.all w.over (denial event refusal (length w.all)) = (omega arith, why_at x.log.config w.config x.log.entries (take (length w.all) w.all) x.stopped w.over event refusal (t.config ∙ sym config) (sym all ∙ sym (take-length w.all)) (λ h. over ∙ h) why) in
     let before = sound_seen v x w w.over w.stops f s t (t.stopped f.live) in
     record { stand = before.stand; rising = before.rising; right = all_more (IsRight w.config w.all w.over) w.denials (denial event refusal (length w.all)) before.right one }
 

@@ -7,6 +7,7 @@ use Rattle.crossbeam_queue.specs.Passes.{Pass, view}
 use Rattle.network.specs.Decoding.{step_of}
 use Rattle.protocol.specs.Hosts.{Config, Entry}
 use Rattle.protocol.specs.Runs.{refusal_of}
+use Rattle.hoststep.specs.Logs.{MayWantMemory}
 use Rattle.cells.specs.declared.refusal.CellRefusal.{CellRefusal}
 use Rattle.cells.specs.declared.refusal.CellRefusal.TheVariants.{Closed, Network}
 use Rattle.cells.specs.Receipts.{AppliedEvent, extract, extract_of}
@@ -21,10 +22,12 @@ Stands config entries r =
 abbrev pub refused_by : Config → List Entry → Event → Option CellRefusal
 refused_by config entries event = option_map Network (refusal_of config entries (step_of event))
 
--- why an event is refused: memory is wanting, or there is the mark, or it is the first refusal that applies
+-- why an event is refused: it is the first refusal that applies, or there is the mark, or memory is wanting where it
+-- may be
 abbrev pub IsWhy : Config → List Entry → Bool → Event → CellRefusal → Type 0
 IsWhy config entries stopped event r =
-    (r ≡ Network NoMemory) ⊎ ((r ≡ Closed) × (stopped ≡ true)) ⊎ (refused_by config entries event ≡ Some r)
+    ((r ≡ Network NoMemory) × MayWantMemory config entries (step_of event)) ⊎ ((r ≡ Closed) × (stopped ≡ true))
+    ⊎ (refused_by config entries event ≡ Some r)
 
 -- the refusal was right after the entries of its number, and the mark is there where it says so
 abbrev pub IsRight : Config → List Entry → Bool → Denial → Type 0

@@ -64,7 +64,7 @@ is_refused old new e r h n = record {
 
 pub refused_is : {A E : Type 0} (view : A → Reply) (old new : Log) (e : Step) (r : Refusal) (result : Result A E) → IfOk result (λ x. view x ≡ Refused r) → IfOk result (λ _. r ≢ NoMemory) → IsRefused old e r → new ≡ old → IfOk result (λ x. IsAnswer old e (view x) new)
 refused_is view old new e r (Ok x) a b h n = elim h [
-  | inl m ↦ absurd (b m)
+  | inl m ↦ absurd (b m.0)
   | inr q ↦ subst (λ (y : Reply). IsAnswer old e y new) (sym a) (is_refused old new e r q n)
 ]
 refused_is view old new e r (Err x) a b h n = tt

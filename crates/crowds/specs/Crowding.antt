@@ -1,6 +1,6 @@
 -- What the code answers, as the definitions have it, and the theorem that each comparison carries.
 use Rattle.std.specs.Prelude.{◌≡◌, ℕ, map, is_some, IsTrue}
-use Rattle.protocol.specs.Sets.{Names, among, AreWithin}
+use Rattle.protocol.specs.Sets.{among, AreWithin}
 use Rattle.protocol.specs.Networks.{slices_of}
 use Rattle.protocol.specs.Hosts.{History, nodes_of, entries}
 use Rattle.protocol.specs.Isolation.{closure, outs_of, SameCast}
@@ -24,22 +24,15 @@ IsCrowdHere one other g i v c = IsCrowd reading one other g i v (defined_crowd c
 
 -- Reserved shares, of these two submissions and this host's decoder: if the closure of v in the first has the same
 -- hosted members in both, both networks have one roster with equal shares and equal budgets of open slots, the closure
--- lies in the roster, and the submitted steps that concern it are the same in order, then so are their replies,
--- refusals included, and each hosted member gives out the same in both.
+-- lies in the roster, and the submitted steps that concern it are the same in order, those of deliveries by their
+-- envelopes, then so are their replies, refusals included, and each hosted member gives out the same in both.
 abbrev pub AreNeverCrowdedOut : History → History → ℕ → ℕ → ℕ → Type 0
 AreNeverCrowdedOut one other g i v =
     let R = closure (nodes_of one.configs g) i v (entries reading one g) in
     SameCast R v (nodes_of one.configs g) (nodes_of other.configs g)
     → SameReserves (config_of one.configs g) (config_of other.configs g)
     → AreWithin R (among (roster_names (config_of one.configs g)))
-    → concerning_steps R i (answers reading one g) ≡ concerning_steps R i (answers reading other g)
+    → map without_size (concerning_steps R i (answers reading one g))
+    ≡ map without_size (concerning_steps R i (answers reading other g))
     → (replied_to R i (answers reading one g) ≡ replied_to R i (answers reading other g))
     × ((u : ℕ) → IsTrue (R u) → IsTrue (is_some (slices_of (nodes_of one.configs g) u)) → outs_of i u (entries reading one g) ≡ outs_of i u (entries reading other g))
-
--- Of this host's decoder: if the submitted steps that concern a set at a slot are the same in order but for the lengths
--- of what is delivered, they are the same. So it is premise enough that envelopes are.
-abbrev pub LengthsFollowHere : Type 0
-LengthsFollowHere = (one other : History) (g i : ℕ) (R : Names) →
-    map without_size (concerning_steps R i (answers reading one g))
-    ≡ map without_size (concerning_steps R i (answers reading other g))
-    → concerning_steps R i (answers reading one g) ≡ concerning_steps R i (answers reading other g)

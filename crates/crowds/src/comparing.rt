@@ -7,7 +7,7 @@ ghost use Rattle.protocol.specs.Networks.{slices_of};
 ghost use Rattle.protocol.specs.Sets.{among};
 ghost use Rattle.closure.specs.Announcing.{names_of};
 ghost use Rattle.network.specs.Decoding.{reading};
-ghost use Rattle.crowds.specs.Crowding.{AreNeverCrowdedOut, IsCrowdHere, LengthsFollowHere};
+ghost use Rattle.crowds.specs.Crowding.{AreNeverCrowdedOut, IsCrowdHere};
 
 use crate::cast::{least_unlike, slices_among};
 use crate::inputs::first_difference;
@@ -29,7 +29,8 @@ use types::Subject;
 /// Whatever is answered, want of memory included: where both networks host the members of the closure alike,
 /// have one roster with equal shares and equal budgets of open slots, the closure lies in the roster, and the
 /// submitted steps that concern it are the same in order, their replies are the same, refusals included, and
-/// so is what each hosted member gives out. There is no answer for a member that is crowded out.
+/// so is what each hosted member gives out. There is no answer for a member that is crowded out. That the
+/// envelopes of deliveries are the same is enough, since an envelope tells how many bytes it has.
 ///
 /// An error says that memory was short, in an event or beside one.
 pub fn crowd(
@@ -101,10 +102,3 @@ fn are_never_crowded_out(one: &Submission, other: &Submission, subject: &Subject
 {
     members_are_never_crowded_out();
 }
-
-/// Submitted steps are compared with the lengths of deliveries, which adds nothing here: by this host's
-/// decoder an envelope tells the length of its delivery. So what [`crowd`] promises of steps that are the
-/// same holds of those that are the same but for lengths.
-pub fn lengths_follow_here()
-    ensures { LengthsFollowHere }
-{}

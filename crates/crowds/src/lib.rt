@@ -18,7 +18,7 @@ mod rosters;
 mod submission;
 mod verdict;
 
-pub use comparing::{crowd, lengths_follow_here};
+pub use comparing::crowd;
 pub use reply::{Replies, Reply};
 pub use submission::{Submission, SubmissionError};
 pub use verdict::Crowd;

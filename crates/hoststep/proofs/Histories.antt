@@ -179,7 +179,7 @@ history-then h ls new g event r own_is answer memory = go (log_at ls g) refl r m
             q = let z : Some l ≡ Some m = sym at ∙ found in cc
 
             by : IsRefused l e x → m.entries ≡ entries reading (and_then h g event) g
-            by (inl none) = absurd (memory (ap (λ (z : Refusal). Err z) none))
+            by (inl none) = absurd (memory (ap (λ (z : Refusal). Err z) none.0))
             by (inr first) = sym (ap (λ (z : Log). z.entries) q) ∙ sym (append-nil l.entries) ∙ ap (λ (p : Reply). l.entries ++ journal_with e p []) (sym (refused l e x first)) ∙ goes-on h ls g event l own_is at
 
 pub history-answered : (h : History) (ls new : List Log) (g : ℕ) (event : Event) (r : Result (Vec Out Global) Refusal) → AreJournalsOf h ls → IsAnswered ls g event r new → r ≢ Err NoMemory → AreJournalsOf (and_then h g event) new

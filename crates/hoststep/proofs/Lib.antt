@@ -1,6 +1,7 @@
 mod Begins
 mod Listing
 pub mod Growing
+mod Refusing
 mod Spelled
 pub mod Histories
 mod Inserting

@@ -11,7 +11,7 @@ use Rattle.protocol.specs.Runs.{IsRun, outs_given, refusal_of, state_of}
 use Rattle.network.specs.Marks.{marks_in}
 use Rattle.hoststep.specs.declared.recorded.Recorded.{Recorded}
 use Rattle.network.specs.Decoding.{step_of}
-use Rattle.network.specs.Standing.{Machine, StandsFor}
+use Rattle.network.specs.Standing.{AreBytesRead, Machine, StandsFor}
 
 -- a configuration, and the entries of the journal, envelopes whole
 pub record Log : Type 0 where
@@ -31,9 +31,14 @@ with_entry l e os = record l { entries = l.entries ++ record { event = e; outs =
 abbrev pub IsEntered : Log → Step → List Out → Type 0
 IsEntered l e os = (refusal_of l.config l.entries e ≡ None) × (os ≡ outs_given l.config l.entries e)
 
--- memory is wanting, or this is the first refusal that applies after these entries
+-- memory may be wanting for an event after these entries: nothing else refuses it, or bytes are being read
+abbrev pub MayWantMemory : Config → List Entry → Step → Type 0
+MayWantMemory config entries e = (refusal_of config entries e ≡ None) ⊎ AreBytesRead config.nodes e
+
+-- this is the first refusal that applies after these entries, or memory is wanting where it may be
 abbrev pub IsRefused : Log → Step → Refusal → Type 0
-IsRefused l e r = (r ≡ NoMemory) ⊎ (refusal_of l.config l.entries e ≡ Some r)
+IsRefused l e r =
+    ((r ≡ NoMemory) × MayWantMemory l.config l.entries e) ⊎ (refusal_of l.config l.entries e ≡ Some r)
 
 -- by which numbers the emissions of an event after these entries are named
 abbrev pub marks_of : Config → List Entry → Step → List ℕ

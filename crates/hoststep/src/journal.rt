@@ -121,7 +121,8 @@ impl<S: Shelf> Journal<S> {
 
     /// One event, entered in the journal where it is not refused; what it gives out is answered whole.
     ///
-    /// An error is the first refusal that applies, or says that memory is short; the journal is as it was.
+    /// An error is the first refusal that applies, or says that memory is short, which it does only where none
+    /// applies, or while the bytes of an envelope are read; the journal is as it was.
     pub fn apply(&mut self, event: Event) -> Result<Vec<Out>, Refusal>
         ensures ok { IfOk result (λ v. IsEntered self.old (step_of event) v.items) }
         ensures entered { IfOk result (λ v. self.new ≡ with_entry self.old (step_of event) v.items) }

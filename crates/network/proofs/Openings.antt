@@ -8,7 +8,7 @@ use Rattle.protocol.specs.Networks.{Net, Instance, Slot, effect, first_that, roo
 use Rattle.protocol.specs.Networks.Step.{Opens, Closes}
 use Rattle.network.specs.Deeds.{IsPlan, IsRoom, IsSlotThere, index_of_slot}
 use Rattle.network.specs.Lodgings.{IsLodged, IsUncounted, Lodging, Lodgings, instance_in, seat_of, seats_of, slot_of}
-use Rattle.network.specs.Standing.{IsRefusal, IsStanding, Standing, StandsFor, machine_of}
+use Rattle.network.specs.Standing.{IsAllowed, IsRefusal, IsStanding, Standing, StandsFor, machine_of}
 use Rattle.network.specs.declared.plan.Deed.TheVariants.{Open, Close}
 use Rattle.network.specs.declared.plan.Drawn.{Drawn}
 use Rattle.network.proofs.Allowed.{not_open, open_then, opened_at, opened_not, passes, refuses, slot-in, stops}
@@ -56,6 +56,9 @@ opens-few m net i q l s = opens-new m net i q s ∙ passes (too_many net, TooMan
 pub opens-full : (m : Standing) (i : ℕ) (r : Refusal) → index_of_slot (map slot_of (machine_of m).slots) i ≡ None → not (nat_lt (length m.slots) m.config.budgets.slots) ≡ false → IsRoom m (λ o. source o (Opens i)) (Err r) → IsRefusal (machine_of m) (Opens i) r
 opens-full m i r q l full = inr (λ net s. opens-few m net i q l s ∙ stops (room_test net (source net.roster (Opens i))) r [] (full net s))
 
+pub opens-allowed : (m : Standing) (i : ℕ) (d : Drawn) → index_of_slot (map slot_of (machine_of m).slots) i ≡ None → not (nat_lt (length m.slots) m.config.budgets.slots) ≡ false → IsRoom m (λ o. source o (Opens i)) (Ok d) → IsAllowed (machine_of m) (Opens i)
+opens-allowed m i d q l room = λ net s. opens-few m net i q l s ∙ passes (room_test net (source net.roster (Opens i))) [] (room.1 net s)
+
 seats-instances : (ls : List Lodging) → map (λ x. x.instance) (map seat_of ls) ≡ map instance_in ls
 seats-instances [] = refl
 seats-instances (l ∷ ls) = ap (λ (ps : List Instance). instance_in l ∷ ps) (seats-instances ls)
@@ -64,7 +67,7 @@ pub opens-plan : (m : Standing) (i : ℕ) (d : Drawn) (x : Lodgings) → index_o
     → x.number ≡ i → map instance_in x.instances ≡ instances_of_new_slot m.config.nodes i → ((archive : List Sent) → All (IsLodged archive) x.instances) → All IsUncounted x.instances → IsPlan m (Opens i) (record { deed = Open x; drawn = d; size = 0 })
 unfolding effect
 opens-plan m i d x q l room number instances lodged counts = record {
-  allowed = λ net s. opens-few m net i q l s ∙ passes (room_test net (source net.roster (Opens i))) [] (room.1 net s);
+  allowed = opens-allowed m i d q l room;
   slots = λ net s.
       let is : map (λ y. y.instance) (map seat_of x.instances) ≡ instances_of_new_slot net.nodes i = seats-instances x.instances ∙ instances ∙ ap (λ (n : Net). instances_of_new_slot n.nodes i) (sym s.is) in
       (λ j. net.slots ++ record { number = number j; instances = is j } ∷ []);

@@ -17,7 +17,7 @@ use Rattle.configuration.specs.Configs.{index_in, index_of_name}
 use Rattle.network.specs.Lodgings.{IsLodged, IsUncounted, Seat, Seats, seats_of, slot_of}
 use Rattle.network.specs.Answers.{delivered_of}
 use Rattle.network.specs.Marks.{slot_and_node_of}
-use Rattle.network.specs.Standing.{IsRefusal, Machine, Standing, StandsFor, machine_of}
+use Rattle.network.specs.Standing.{IsAllowed, IsRefusal, Machine, Standing, StandsFor, machine_of}
 use Rattle.network.specs.declared.plan.Deed.{Deed}
 use Rattle.network.specs.declared.plan.Deed.TheVariants.{Open, Close, Act, Hand}
 use Rattle.network.specs.declared.plan.Drawn.{Drawn}
@@ -104,7 +104,7 @@ IsDrawn m (Pair k h u) s =
 -- a plan for an event that nothing refuses, whatever network the machine stands for: what is done by places is what the
 -- event does
 pub record IsPlan (m : Standing) (e : Step) (plan : Plan) : Type 0 where
-  pub allowed : (net : Net) → StandsFor (machine_of m) net → first_that (tests net e) ≡ None
+  pub allowed : IsAllowed (machine_of m) e
   pub slots : (net : Net) → StandsFor (machine_of m) net → slots_after net.slots plan.deed ≡ (effect net e).0.slots
   pub outs : (net : Net) → StandsFor (machine_of m) net → outs_after net.slots plan.deed ≡ (effect net e).1
   pub named : IsEventOf (machine_of m) e plan.deed

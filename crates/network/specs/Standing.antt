@@ -1,5 +1,5 @@
 -- A network as the host keeps it, and the networks of the definitions that it stands for.
-use Rattle.std.specs.Prelude.{◌≡◌, ◌⊎◌, ℕ, ◌≤◌, true, List, map, option_map, Option, Some}
+use Rattle.std.specs.Prelude.{◌≡◌, ◌⊎◌, ℕ, ◌≤◌, true, List, map, option_map, Option, Some, None}
 use Rattle.std.specs.List.{AllByRecursion}
 use Rattle.types.specs.Statements.{Sent}
 use Rattle.types.specs.Trees.{Slices, all_differ}
@@ -7,10 +7,11 @@ use Rattle.types.specs.declared.event.Out.{Out}
 use Rattle.types.specs.declared.event.Refusal.{Refusal}
 use Rattle.types.specs.declared.event.Refusal.TheVariants.{NoMemory}
 use Rattle.protocol.specs.Hosts.{Config}
-use Rattle.protocol.specs.Networks.{Net, Step, first_that, node_where_open, net_step, instances_at, tests}
+use Rattle.protocol.specs.Networks.{HostedNode, Net, Step, first_that, node_where_open, net_step, instances_at, tests}
 use Rattle.protocol.specs.Networks.Reply.{Done}
+use Rattle.protocol.specs.Networks.Step.{Delivers}
 use Rattle.protocol.specs.Rosters.{Draw}
-use Rattle.configuration.specs.Configs.{names_of}
+use Rattle.configuration.specs.Configs.{index_of_name, names_of}
 use Rattle.network.specs.Lodgings.{AreLodged, AreTallied, Lodgings, Seats, seats_of, slot_of}
 
 -- a network with what each node drew on its shares; the list of all that was ever drawn is not kept
@@ -84,6 +85,17 @@ abbrev pub IsStep : Machine → Step → List Out → Machine → Type 0
 IsStep old e os new =
     (net : Net) → StandsFor old net → StandsFor new (net_step net e).0 × ((net_step net e).1 ≡ Done os)
 
--- memory is wanting, or this is the first refusal that applies
+-- no test refuses it, whatever network the machine stands for
+abbrev pub IsAllowed : Machine → Step → Type 0
+IsAllowed m e = (net : Net) → StandsFor m net → first_that (tests net e) ≡ None
+
+-- bytes come to a hosted node: they are read before all that the order of refusals has behind them
+abbrev pub AreBytesRead : List HostedNode → Step → Type 0
+AreBytesRead nodes (Delivers u size said) = (h : ℕ) × (index_of_name nodes u ≡ Some h)
+AreBytesRead nodes _ = ⊥
+
+-- this is the first refusal that applies; or memory is wanting, and none applies, save that bytes were being read
 abbrev pub IsRefusal : Machine → Step → Refusal → Type 0
-IsRefusal m e r = (r ≡ NoMemory) ⊎ ((net : Net) → StandsFor m net → first_that (tests net e) ≡ Some r)
+IsRefusal m e r =
+    ((r ≡ NoMemory) × (IsAllowed m e ⊎ AreBytesRead m.config.nodes e))
+    ⊎ ((net : Net) → StandsFor m net → first_that (tests net e) ≡ Some r)

@@ -37,8 +37,9 @@ impl<S: Shelf> Network<S> {
     /// One event: it is tested in the order of the refusals, what needs memory is made, and then it is done.
     /// Of what it gives out so many whole copies are made as are asked for.
     ///
-    /// An error is the first refusal that applies, or says that memory is short; then the network is as it
-    /// was, but that the archive may have more.
+    /// An error is the first refusal that applies, or says that memory is short, which it does only where none
+    /// applies, or while the bytes of an envelope are read; then the network is as it was, but that the archive
+    /// may have more.
     pub fn apply(&mut self, event: &Event, copies: usize) -> Result<Outcome, Refusal>
         ensures applied { IfOk result (IsApplied self.old (step_of event.now) copies self.new) }
         ensures err { IfErr result (IsRefusal (machine_of self.old) (step_of event.now)) }

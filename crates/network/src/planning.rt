@@ -63,8 +63,11 @@ impl<S: Shelf> Network<S> {
     {
         match self.plan(event) {
             Err(refusal) => refusal,
-            // Memory: whoever asks has none, and no refusal applies.
-            Ok(_) => Refusal::NoMemory,
+            Ok(plan) => {
+                drop(plan);
+                // Memory: whoever asks has none, and no refusal applies.
+                Refusal::NoMemory
+            }
         }
     }
 
@@ -160,9 +163,12 @@ impl<S: Shelf> Network<S> {
     fn plan_reslice(&self, slot: u64, node: &NodeId, slices: &Nested) -> Result<Plan, Refusal>
         ensures { IsPlanned self.now (Reslices slot node.now slices.now) result }
     {
+        let _slots = &self.slots;
+        let spot = self.spot(slot, node)?;
+        let drawn = self.own_room(&spot, node)?;
         match slices.try_copy() {
             Err(_) => Err(Refusal::NoMemory),
-            Ok(slices) => self.plan_own(slot, node, FiledEvent::Reslice(slices)),
+            Ok(slices) => Ok(plan_at(&spot, drawn, FiledEvent::Reslice(slices))),
         }
     }
 

@@ -212,7 +212,8 @@ impl<S: Shelf + Drop, H: Wait + Drop> Cell<S, H> {
     /// the lock it waits for watches that read.
     ///
     /// An error is [`CellRefusal::Closed`] where the cell was stopped, else the first refusal of the network
-    /// that applies, or says that memory is short; the network and the receipts are as they were.
+    /// that applies, or says that memory is short, which it does only where none applies, or while the bytes of
+    /// an envelope are read; the network and the receipts are as they were.
     pub fn apply<R: Wait>(
         &self,
         rt: &R,

@@ -1,5 +1,6 @@
-use Rattle.std.proofs.Common.{◌∙◌, List, sym, subst}
+use Rattle.std.proofs.Common.{◌∙◌, List, map, sym, ap, subst}
 use Rattle.protocol.specs.Networks.{Step}
+use Rattle.protocol.specs.Submissions.{without_size}
 use Rattle.protocol.specs.Verdicts.{IsFirstDifference}
 use Rattle.closure.specs.Announcing.{names_of}
 use Rattle.crowds.proofs.Judging.{are_inputs, are_reserved}
@@ -21,4 +22,4 @@ returns c =
     let y = are_inputs c.args.subject.now.net c.args.subject.now.slot _ (names_of c.args.members.now) c.requires.members c.args.other.now _ (sym c.in-Some-config-2.ensures) _ _ _ _ c.calls-2.ensures c.in_ok-other_marks.ensures c.calls-4.ensures c.deref-2.ensures.value in
     let same = sym x.steps_are ∙ (c.in_default-first_difference.ensures ∙ y.steps_are) in
     let there = c.of.ensures ∙ c.in_ok-replies.ensures _ c.args.subject.now.slot (c.deref-3.ensures.value ∙ (sym c.deref-2.ensures.value ∙ y.marks_are)) in
-    (r.cast, (r.reserves, (r.inside, (same, (there ∙ sym (c.are_never_crowded_out.ensures r.cast r.reserves r.inside same).0, there)))))
+    (r.cast, (r.reserves, (r.inside, (same, (there ∙ sym (c.are_never_crowded_out.ensures r.cast r.reserves r.inside (ap (map without_size) same)).0, there)))))

@@ -1,4 +1,4 @@
-use Rattle.std.proofs.Common.{rules, ◌≡◌, ◌∙◌, Err, sym, ap, subst, length}
+use Rattle.std.proofs.Common.{rules, ◌≡◌, ◌∙◌, Err, refl, sym, ap, subst, inl, inr, length}
 use Rattle.types.specs.declared.event.Refusal.TheVariants.{NoSuchNode, BadEnvelope}
 use Rattle.protocol.specs.Networks.{Reading}
 use Rattle.protocol.specs.Networks.Reading.{Fault}
@@ -14,6 +14,9 @@ returns-in_err-node_at g c =
     let m = c.args.self.now in
     let e : c.from_residual.result ≡ Err NoSuchNode = search rules in
     subst (IsPlanned m (Delivers c.args.node.now (length c.args.bytes.now) (reading c.args.bytes.now))) (sym e) (bytes-nowhere m c.args.node.now (length c.args.bytes.now) (reading c.args.bytes.now) c.in_err-node_at.ensures.1)
+
+pub returns-in-Err : goal.returns-in-Err
+returns-in-Err g c = inl (refl, inr (c.in_ok-node_at.node_at, c.in_ok-node_at.ensures))
 
 pub returns-in-Ok-Faulty : goal.returns-in-Ok-Faulty
 returns-in-Ok-Faulty g c =

@@ -1,10 +1,10 @@
-use Rattle.std.proofs.Common.{rules, ◌≡◌, ◌∙◌, true, false, is_some, Err, sym, ap, subst, not, nat_lt, length, map}
+use Rattle.std.proofs.Common.{rules, ◌≡◌, ◌∙◌, true, false, is_some, Err, refl, sym, ap, subst, inl, not, nat_lt, length, map}
 use Rattle.protocol.specs.Networks.{instances_of_new_slot, source}
 use Rattle.protocol.specs.Networks.Step.{Opens}
 use Rattle.network.specs.Deeds.{IsPlanned, index_of_slot}
 use Rattle.network.specs.Lodgings.{slot_of}
 use Rattle.network.specs.Standing.{Standing, machine_of}
-use Rattle.network.proofs.Openings.{none-so, opens-again-so, opens-full, opens-many, opens-plan}
+use Rattle.network.proofs.Openings.{none-so, opens-again-so, opens-allowed, opens-full, opens-many, opens-plan}
 use Rattle.network.proofs.Planned.{room-err, room-ok}
 use Rattle.network.proofs.network.Network.plan_open.Goals as goal
 
@@ -35,6 +35,15 @@ returns-in_err-has_room g c =
     let e : c.from_residual.result ≡ Err r = search rules in
     subst (IsPlanned m (Opens c.args.slot)) (sym e)
     (opens-full m c.args.slot r none l (room-err m (λ o. source o (Opens c.args.slot)) c.openings-drawn.result r (c.openings-drawn.ensures.opens c.args.slot) c.in_err-has_room.ensures))
+
+pub returns-in-Err : goal.returns-in-Err
+returns-in-Err g c =
+    let m = c.args.self.now in
+    let f : is_some (index_of_slot (map slot_of (machine_of m).slots) c.args.slot) ≡ false = search rules in
+    let none = none-so (index_of_slot (map slot_of (machine_of m).slots) c.args.slot) f in
+    let l : not (nat_lt (length m.slots) m.config.budgets.slots) ≡ false = search rules in
+    let room = room-ok m (λ o. source o (Opens c.args.slot)) c.openings-drawn.result (c.openings-drawn.ensures.opens c.args.slot) c.in_ok-has_room.ensures in
+    inl (refl, inl (opens-allowed m c.args.slot c.openings-drawn.result none l room))
 
 pub returns-in-Ok : goal.returns-in-Ok
 returns-in-Ok g c =

@@ -1,4 +1,4 @@
-use Rattle.std.proofs.Common.{rules, ◌≡◌, ◌∙◌, true, false, Err, sym, ap, subst}
+use Rattle.std.proofs.Common.{rules, ◌≡◌, ◌∙◌, true, false, Err, refl, sym, ap, subst, inl}
 use Rattle.protocol.specs.Networks.{is_bad_value}
 use Rattle.protocol.specs.Networks.Step.{Proposes}
 use Rattle.slot.specs.declared.filed.FiledEvent.TheVariants as events
@@ -50,6 +50,14 @@ returns-in_err-drawn g c =
     let bad : is_bad_value c.args.value.now ≡ false = search rules in
     subst (IsPlanned m (Proposes c.args.slot c.args.node.now c.args.value.now)) (sym e)
     (asks-full m c.args.slot c.args.node.now c.args.value.now c.in_ok-spot.spot (seat_of c.instance.result.now) c.has_proposal.result r st c.in_ok-spot.ensures c.instance.ensures.seat bad c.has_proposal.ensures c.if-has_proposal.false (c.in_err-drawn.ensures c.args.slot c.in_ok-spot.ensures.slot))
+
+pub returns-in-Err : goal.returns-in-Err
+returns-in-Err g c =
+    let m = c.args.self.now in
+    let st : IsStanding m = subst IsStanding c.self.view_is c.self.invariant in
+    let bad : is_bad_value c.args.value.now ≡ false = search rules in
+    let plan = asks-plan m c.args.slot c.args.node.now c.args.value.now c.in_ok-spot.spot (seat_of c.instance.result.now) c.has_proposal.result c.in_ok-drawn.drawn st c.in_ok-spot.ensures c.instance.ensures.seat bad c.has_proposal.ensures c.if-has_proposal.false (c.in_ok-drawn.ensures c.args.slot c.in_ok-spot.ensures.slot) in
+    inl (refl, inl plan.allowed)
 
 pub returns-in-Ok : goal.returns-in-Ok
 returns-in-Ok g c =

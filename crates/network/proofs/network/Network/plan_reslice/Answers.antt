@@ -1,11 +1,44 @@
-use Rattle.std.proofs.Common.{subst}
+use Rattle.std.proofs.Common.{rules, ◌≡◌, ◌∙◌, Err, refl, sym, ap, subst, inl}
 use Rattle.protocol.specs.Networks.Step.{Reslices}
+use Rattle.slot.specs.declared.filed.FiledEvent.TheVariants as events
 use Rattle.types.specs.Trees.{Slices}
-use Rattle.network.specs.Deeds.{IsPlanned}
-use Rattle.network.proofs.Planned.{reslice-own}
+use Rattle.network.specs.Deeds.{IsPlanned, IsPlan}
+use Rattle.network.specs.declared.plan.Deed.TheVariants.{Act}
+use Rattle.network.specs.declared.plan.Plan.{Plan}
+use Rattle.network.specs.Standing.{IsStanding}
+use Rattle.network.proofs.Planned.{own-full, own-nowhere, own-plan, reslice-own}
 use Rattle.network.proofs.network.Network.plan_reslice.Goals as goal
+
+pub returns-in_err-spot : goal.returns-in_err-spot
+returns-in_err-spot g c =
+    let a = c.args in
+    let r = c.in_err-spot.field-0.0 in
+    let q : c.from_residual.result ≡ Err r = search rules in
+    subst (IsPlanned a.self.now (Reslices a.slot a.node.now a.slices.now)) (sym q)
+    (own-nowhere a.self.now a.slot a.node.now (events.Reslice a.slices.now) (Reslices a.slot a.node.now a.slices.now) r c.in_err-spot.ensures (reslice-own a.slot a.node.now a.slices.now))
+
+pub own_room-requires-clause-slot : goal.own_room-requires-clause-slot
+own_room-requires-clause-slot g c = (c.args.slot, c.in_ok-spot.ensures.slot)
+
+pub returns-in_err-drawn : goal.returns-in_err-drawn
+returns-in_err-drawn g c =
+    let a = c.args in
+    let r = c.in_err-drawn.field-0.0 in
+    let q : c.from_residual-in_err-drawn.result ≡ Err r = search rules in
+    subst (IsPlanned a.self.now (Reslices a.slot a.node.now a.slices.now)) (sym q)
+    (own-full a.self.now a.slot a.node.now c.in_ok-spot.spot (events.Reslice a.slices.now) (Reslices a.slot a.node.now a.slices.now) r c.in_ok-spot.ensures (c.in_err-drawn.ensures a.slot c.in_ok-spot.ensures.slot) (reslice-own a.slot a.node.now a.slices.now))
+
+pub returns-in-Err : goal.returns-in-Err
+returns-in-Err g c =
+    let a = c.args in
+    let st : IsStanding a.self.now = subst IsStanding c.self.view_is c.self.invariant in
+    let plan = own-plan a.self.now a.slot a.node.now c.in_ok-spot.spot (events.Reslice a.slices.now) c.in_ok-drawn.drawn (Reslices a.slot a.node.now a.slices.now) st c.in_ok-spot.ensures tt (c.in_ok-drawn.ensures a.slot c.in_ok-spot.ensures.slot) (reslice-own a.slot a.node.now a.slices.now) in
+    inl (refl, inl plan.allowed)
 
 pub returns-in-Ok : goal.returns-in-Ok
 returns-in-Ok g c =
-    subst (λ (q : Slices). IsPlanned c.args.self.now (Reslices c.args.slot c.args.node.now q) c.plan_own.result) c.in-Ok.ensures
-    (c.plan_own.ensures (Reslices c.args.slot c.args.node.now c.in-Ok.slices) (reslice-own c.args.slot c.args.node.now c.in-Ok.slices))
+    let a = c.args in
+    let st : IsStanding a.self.now = subst IsStanding c.self.view_is c.self.invariant in
+    let of : Slices → Plan = λ q. record { deed = Act c.in_ok-spot.spot.slot_at c.in_ok-spot.spot.node_at (events.Reslice q); drawn = c.in_ok-drawn.drawn; size = 0 } in
+    let plan = own-plan a.self.now a.slot a.node.now c.in_ok-spot.spot (events.Reslice a.slices.now) c.in_ok-drawn.drawn (Reslices a.slot a.node.now a.slices.now) st c.in_ok-spot.ensures tt (c.in_ok-drawn.ensures a.slot c.in_ok-spot.ensures.slot) (reslice-own a.slot a.node.now a.slices.now) in
+    subst (IsPlan a.self.now (Reslices a.slot a.node.now a.slices.now)) (ap of (sym c.in-Ok.ensures) ∙ sym c.plan_at.ensures) plan

@@ -1,0 +1,16 @@
+use Rattle.protocol.specs.Hosts.{entries, nodes_of}
+use Rattle.protocol.specs.Isolation.{closure}
+use Rattle.protocol.proofs.Crowds.Lengths.{lengths_follow}
+use Rattle.network.specs.Decoding.{reading}
+use Rattle.network.proofs.Readings.{has_one_length}
+use Rattle.crowds.proofs.comparing.are_never_crowded_out.Goals as goal
+
+pub returns : goal.returns
+returns c cast reserves inside same =
+    let one = c.args.one.now in
+    let other = c.args.other.now in
+    let net = c.args.subject.now.net in
+    let slot = c.args.subject.now.slot in
+    let node = c.args.subject.now.node in
+    let R = closure (nodes_of one.configs net) slot node (entries reading one net) in
+    c.members_are_never_crowded_out.ensures reading one other net slot node cast reserves inside (lengths_follow reading has_one_length one other net slot R same)
