@@ -18,7 +18,8 @@ use crate::rosters::{has_same_reserves, least_outside};
 use crate::submission::Submission;
 use crate::verdict::Crowd;
 use closure::{ClosureList, closure};
-use protocol::members_are_never_crowded_out;
+use network::envelopes_have_one_length;
+use protocol::{lengths_follow_from_envelopes, members_are_never_crowded_out};
 use std::alloc::{AllocError, Global};
 use types::Subject;
 
@@ -101,4 +102,6 @@ fn are_never_crowded_out(one: &Submission, other: &Submission, subject: &Subject
     ensures { AreNeverCrowdedOut one.now other.now subject.now.net subject.now.slot subject.now.node }
 {
     members_are_never_crowded_out();
+    lengths_follow_from_envelopes();
+    envelopes_have_one_length();
 }

@@ -1,7 +1,6 @@
 mod Begins
 mod Listing
 pub mod Growing
-mod Refusing
 mod Spelled
 pub mod Histories
 mod Inserting

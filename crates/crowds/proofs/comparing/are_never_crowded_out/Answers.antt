@@ -1,8 +1,6 @@
 use Rattle.protocol.specs.Hosts.{entries, nodes_of}
 use Rattle.protocol.specs.Isolation.{closure}
-use Rattle.protocol.proofs.Crowds.Lengths.{lengths_follow}
 use Rattle.network.specs.Decoding.{reading}
-use Rattle.network.proofs.Readings.{has_one_length}
 use Rattle.crowds.proofs.comparing.are_never_crowded_out.Goals as goal
 
 pub returns : goal.returns
@@ -13,4 +11,4 @@ returns c cast reserves inside same =
     let slot = c.args.subject.now.slot in
     let node = c.args.subject.now.node in
     let R = closure (nodes_of one.configs net) slot node (entries reading one net) in
-    c.members_are_never_crowded_out.ensures reading one other net slot node cast reserves inside (lengths_follow reading has_one_length one other net slot R same)
+    c.members_are_never_crowded_out.ensures.histories reading one other net slot node cast reserves inside (c.lengths_follow_from_envelopes.ensures reading c.envelopes_have_one_length.ensures one other net slot R same)
