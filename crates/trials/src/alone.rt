@@ -6,7 +6,6 @@ ghost use Rattle.slot.specs.Filings.{AreFiledOuts, IsFiledEvent, IsFiledOut};
 
 use crate::halt::{Halt, agree};
 use envstore::{Archive, VecShelf};
-use latest::Rows;
 use scripts::{
     LineError, counter_of, fields_of, name_of, push_ballot, push_name, push_slices, push_statement,
     push_value, slices_of, statement_of, value_of,
@@ -14,7 +13,7 @@ use scripts::{
 use slot::{FiledEvent, FiledOut, Node};
 use std::alloc::{AllocError, Global};
 use std::marker::Model;
-use types::{Ballot, Envelope, Kind, Nested, NodeId, Phase, SharedValues, Votes};
+use types::{Ballot, Envelope, Nested, NodeId, Phase, SharedValues, Votes};
 
 /// One node at slot 1, with the archive of its envelopes.
 ///
@@ -104,31 +103,6 @@ impl Alone {
         push_state(&mut text, &self.node)?;
         Ok(text)
     }
-
-    /// The rows of its table in words, a line each, by sender and kind.
-    pub fn rows(&self, alloc: Global) -> Result<String, AllocError> {
-        let mut text = String::new(alloc);
-        let table = Rows::of(self.node.table(), &self.archive);
-        for sender in table.senders() {
-            push_rows_of(&mut text, &table, sender)?;
-        }
-        Ok(text)
-    }
-}
-
-/// The rows of one sender in words, a line each, its nomination first.
-fn push_rows_of(
-    text: &mut String,
-    table: &Rows<'_, VecShelf>,
-    sender: &NodeId,
-) -> Result<(), AllocError> {
-    if let Some(row) = table.row(sender, Kind::Nomination) {
-        push_row(text, row)?;
-    }
-    if let Some(row) = table.row(sender, Kind::Ballot) {
-        push_row(text, row)?;
-    }
-    Ok(())
 }
 
 /// The event that a line tells, if it tells one.
@@ -208,16 +182,6 @@ fn other_event(
         },
         _ => None,
     })
-}
-
-/// A row in words, as a line: its sender, its slices and what was said.
-fn push_row(text: &mut String, row: &Envelope) -> Result<(), AllocError> {
-    push_name(text, row.sender())?;
-    text.push(' ')?;
-    push_slices(text, row.slices())?;
-    text.push(' ')?;
-    push_statement(text, row.body())?;
-    text.push('\n')
 }
 
 /// Whether an envelope has the name, the slot and the slices of a node.

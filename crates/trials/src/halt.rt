@@ -1,16 +1,16 @@
-//! Why a comparison ends early.
+//! Why a story ends early.
 
 ghost use Rattle.std.specs.Prelude.{◌≡◌};
 ghost use Rattle.trials.specs.declared.halt.Halt.TheVariants.{NoMemory};
 
 use std::alloc::{AllocError, AllocFailed};
 
-/// Why a comparison ends early.
+/// Why a story ends early.
 #[derive(Clone, Copy)]
 pub enum Halt {
     /// Memory is short.
     NoMemory,
-    /// The node and the slow program differ.
+    /// The node answers otherwise than is told.
     Differs,
     /// Words tell no node, or no event.
     BadWords,
@@ -32,7 +32,7 @@ impl<T: Drop> From<AllocFailed<T>> for Halt {
     }
 }
 
-/// Ends a comparison unless this holds.
+/// Ends a story unless this holds.
 pub fn agree(holds: bool) -> Result<(), Halt> {
     if holds { Ok(()) } else { Err(Halt::Differs) }
 }

@@ -10,33 +10,23 @@
 //! announce other slices; an event that finds no memory is tried once more. It prints each event and what the
 //! node gives out at it, or that it left a trace in the node, where it found no memory and did.
 //!
-//! `trials compare` prints that too. Then it compares the node with a plain slow program that follows the rules
-//! step by step, in histories and crowds at random, in the words of scripts, and tells it two stories that no
-//! script of networks can tell. It prints what was met in them, and `differs` where the node answered otherwise.
+//! `trials stories` prints that too, and tells it two stories that no script of networks can tell. It prints
+//! `as told`, or `differs` where the node answered otherwise. What scripts can tell, `tools/histories` draws at
+//! random.
 //!
 //! The status is 0 after what was asked for, 2 where the words ask for none of these, 3 for want of memory, and
 //! 4 where the output cannot be written.
 #![tactic(auto)]
 
 mod alone;
-mod counts;
-mod crowds;
-mod dice;
 mod halt;
-mod histories;
 mod measure;
 mod memory;
 mod report;
-mod rules;
-mod slow;
-mod statements;
-mod steps;
 mod stories;
-mod twin;
-mod wording;
 
 use crate::measure::{Sizes, report_of_measure};
-use crate::report::{report_of_comparisons, report_of_story};
+use crate::report::{report_of_stories, report_of_story};
 use scripts::number_of;
 use std::alloc::{AllocError, Global};
 use std::env;
@@ -51,8 +41,8 @@ enum Call {
     Measure(Sizes),
     /// To tell the story of a stranger who becomes reached.
     Story,
-    /// To tell it, and to compare the node with the slow program.
-    Compare,
+    /// To tell it, and those that no script can tell.
+    Stories,
 }
 
 /// The status where the words ask for nothing.
@@ -84,7 +74,7 @@ fn output_of(alloc: Global, call: Call) -> Result<String, AllocError> {
     match call {
         Call::Measure(sizes) => report_of_measure(alloc, sizes),
         Call::Story => report_of_story(alloc),
-        Call::Compare => report_of_comparisons(alloc),
+        Call::Stories => report_of_stories(alloc),
     }
 }
 
@@ -109,7 +99,7 @@ fn call_of<R: Env + AllocGlobal>(rt: &R) -> Option<Call> {
 fn call_named(word: &str) -> Option<Call> {
     match word {
         "story" => Some(Call::Story),
-        "compare" => Some(Call::Compare),
+        "stories" => Some(Call::Stories),
         _ => None,
     }
 }

@@ -29,6 +29,18 @@ pub struct Sizes {
 }
 
 impl Alone {
+    /// What it bears, and the figures of that, a line each.
+    fn push_borne(
+        &mut self,
+        alloc: Global,
+        sizes: Sizes,
+        text: &mut String,
+    ) -> Result<(), AllocError> {
+        self.meet(alloc, sizes)?;
+        let sent = self.bear(alloc, sizes)?;
+        push_figures(text, sizes, sent)
+    }
+
     /// A nomination and a ballot of each reached node come, and a ballot of each stranger.
     fn meet(&mut self, alloc: Global, sizes: Sizes) -> Result<(), AllocError> {
         for number in 0..sizes.reached {
@@ -98,14 +110,23 @@ impl Alone {
 /// The sizes of a run and how many statements the node sends during its events, a line each.
 pub fn report_of_measure(alloc: Global, sizes: Sizes) -> Result<String, AllocError> {
     let mut text = String::new(alloc);
-    let Some(mut node) = node_of(alloc, sizes)? else {
-        text.push_str("no slices name so many nodes\n")?;
-        return Ok(text);
-    };
-    node.meet(alloc, sizes)?;
-    let sent = node.bear(alloc, sizes)?;
-    push_figures(&mut text, sizes, sent)?;
+    match node_of(alloc, sizes)? {
+        None => text.push_str("no slices name so many nodes\n")?,
+        Some(node) => push_measure(alloc, node, sizes, &mut text)?,
+    }
     Ok(text)
+}
+
+/// The same of a node to which nothing has happened.
+fn push_measure(
+    alloc: Global,
+    mut node: Alone,
+    sizes: Sizes,
+    text: &mut String,
+) -> Result<(), AllocError> {
+    let pushed = node.push_borne(alloc, sizes, text);
+    drop(node);
+    pushed
 }
 
 /// The figures of a run, a line each.

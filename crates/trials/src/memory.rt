@@ -56,14 +56,21 @@ impl From<AllocError> for Unanswered {
 /// event that finds no memory is tried once more.
 pub fn push_story(alloc: Global, text: &mut String) -> Result<(), Halt> {
     let mut node = begin_or_retry(alloc)?;
-    writeln!(text, "node {NAME} {SLICES}")?;
-    for line in STORY {
-        node.push_answer(alloc, line, text)?;
-    }
-    Ok(())
+    let pushed = node.push_answers(alloc, text);
+    drop(node);
+    Ok(pushed?)
 }
 
 impl Alone {
+    /// A line for the node, and one for each event of the story.
+    fn push_answers(&mut self, alloc: Global, text: &mut String) -> Result<(), AllocError> {
+        writeln!(text, "node {NAME} {SLICES}")?;
+        for line in STORY {
+            self.push_answer(alloc, line, text)?;
+        }
+        Ok(())
+    }
+
     /// A line of the story, and what the node gives out at it.
     fn push_answer(
         &mut self,
@@ -124,7 +131,9 @@ fn try_twice(
     ensures outs { IfOk result (λ outs. AreFiledOuts archive.new outs.items) }
 {
     let before = copy_or_retry(alloc, archive, node)?;
-    try_or_retry(alloc, archive, node, &before, line)
+    let given_out = try_or_retry(alloc, archive, node, &before, line);
+    drop(before);
+    given_out
 }
 
 /// A copy, tried once more where it finds no memory.

@@ -1,15 +1,8 @@
-//! What is printed of the story, and of the comparisons of a node with the slow program.
+//! What is printed of the stories of a node.
 
-use crate::counts::{Counts, Reaches};
 use crate::halt::Halt;
-use crate::{crowds, histories, memory, stories};
+use crate::{memory, stories};
 use std::alloc::{AllocError, Global};
-
-/// How many histories there are.
-const HISTORIES: u64 = 3000;
-
-/// How many crowds.
-const CROWDS: u64 = 400;
 
 /// The story of a node that bears want of memory.
 pub fn report_of_story(alloc: Global) -> Result<String, AllocError> {
@@ -18,13 +11,15 @@ pub fn report_of_story(alloc: Global) -> Result<String, AllocError> {
     Ok(text)
 }
 
-/// The story, and what was met in histories, crowds and stories.
-pub fn report_of_comparisons(alloc: Global) -> Result<String, AllocError> {
+/// That story, and how those ended that no script can tell.
+pub fn report_of_stories(alloc: Global) -> Result<String, AllocError> {
     let mut text = String::new(alloc);
     push_story(alloc, &mut text)?;
-    push_histories(alloc, &mut text)?;
-    push_crowds(alloc, &mut text)?;
-    push_stories(alloc, &mut text)?;
+    text.push_str("stories of a node alone\n")?;
+    match stories::run(alloc) {
+        Ok(()) => text.push_str("as told\n")?,
+        Err(halt) => push_halt(&mut text, halt)?,
+    }
     Ok(text)
 }
 
@@ -36,38 +31,7 @@ fn push_story(alloc: Global, text: &mut String) -> Result<(), AllocError> {
     }
 }
 
-/// What was met in histories, and how they ended.
-fn push_histories(alloc: Global, text: &mut String) -> Result<(), AllocError> {
-    let mut counts = Counts::none();
-    let end = histories::run(alloc, HISTORIES, &mut counts);
-    counts.push_seen(text)?;
-    push_end(text, end)
-}
-
-/// What was met in crowds, and how they ended.
-fn push_crowds(alloc: Global, text: &mut String) -> Result<(), AllocError> {
-    let mut reaches = Reaches::none();
-    let end = crowds::run(alloc, CROWDS, &mut reaches);
-    reaches.push_seen(text)?;
-    push_end(text, end)
-}
-
-/// How the stories of a node alone ended.
-fn push_stories(alloc: Global, text: &mut String) -> Result<(), AllocError> {
-    let end = stories::run(alloc);
-    text.push_str("stories of a node alone\n")?;
-    push_end(text, end)
-}
-
-/// How a comparison ended. One that ended early did so in the last history or crowd that was begun.
-fn push_end(text: &mut String, end: Result<(), Halt>) -> Result<(), AllocError> {
-    match end {
-        Ok(()) => text.push_str("the same throughout\n"),
-        Err(halt) => push_halt(text, halt),
-    }
-}
-
-/// Why it ended early; want of memory ends the run.
+/// Why a story ended early; want of memory ends the run.
 fn push_halt(text: &mut String, halt: Halt) -> Result<(), AllocError> {
     match halt {
         Halt::Differs => text.push_str("differs\n"),

@@ -20,8 +20,20 @@ fn answers(line: &'static str, answer: &'static str) -> Exchange {
 /// The node A with the slices `2[B,C,D]` answers each line of the story, and then its state begins so.
 fn is_told(alloc: Global, story: &[Exchange], state: &str) -> Result<(), Halt> {
     let mut node = Alone::of_words(alloc, b"A", b"2[B,C,D]")?;
+    let answered = is_answered_throughout(alloc, &mut node, story, state);
+    drop(node);
+    answered
+}
+
+/// The node answers each line so, and then its state begins so.
+fn is_answered_throughout(
+    alloc: Global,
+    node: &mut Alone,
+    story: &[Exchange],
+    state: &str,
+) -> Result<(), Halt> {
     for exchange in story {
-        is_answered(alloc, &mut node, exchange)?;
+        is_answered(alloc, node, exchange)?;
     }
     agree(node.state(alloc)?.as_str().starts_with(state))
 }
