@@ -29,8 +29,8 @@ pub const MAX_BYTES: usize = 65536;
 ///
 /// The format is that of this host's profile: version 1 or 2, the kind of statement, the sender, the slot,
 /// the slices and the fields of the statement, all numbers big-endian. An envelope comes back only
-/// where it keeps every rule of slices and statements. The time grows with the bytes and with the square
-/// of the names, of which at most 256 are read.
+/// where it keeps every rule of slices and statements. A name costs a binary search among the names before
+/// it, of which at most 256 are read, and a move of those that are greater.
 ///
 /// # Errors
 ///

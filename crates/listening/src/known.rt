@@ -1,6 +1,6 @@
 //! What a listener knows of the nodes that it reaches: it is kept from one event to the next, and a row that
-//! comes leaves its region, changes one entry of it, or makes it unknown. Where it stays known, the ballots and the
-//! nominated values that are listed follow the row.
+//! comes leaves its region, changes one entry of it, widens or moves it, or makes it unknown. If it stays known, the
+//! ballots and the nominated values that are listed follow the row.
 
 ghost use Rattle.std.specs.Prelude.{◌≡◌, IfOk, IfSome, IsTrue, List, None, Some, is_some, box_value, option_map};
 ghost use Rattle.envstore.specs.Archives.{AreFiled, IsFiled, sent_of, sents_of};

@@ -2,7 +2,9 @@
 //! emissions on.
 //!
 //! A [`HostRun`] runs the lines of one script over the journals of the networks that it declares, each with
-//! an archive of its own. What may be used above is the run of lines of `scripts`.
+//! an archive of its own, and prints an answer a line. An [`UnprintedRun`] does the same in silence, a
+//! [`SubmissionRun`] takes what lines submit, and a [`JobRun`] makes jobs of them. All four are
+//! [`scripts::LineRunner`]s, to be run by `scripts::run_script` and its kin.
 #![tactic(auto)]
 
 mod emissions;

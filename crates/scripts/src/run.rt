@@ -32,9 +32,9 @@ pub trait LineRunner {
 /// Why a run ended before the end of its script.
 #[derive(Clone, Copy, Debug, PartialEq, Eq)]
 pub enum Stop {
-    /// The file could not be opened or read. Nothing of it was run.
+    /// The file could not be opened or read. Of a file nothing was run, of a stream the lines before were.
     CannotRead,
-    /// The file is longer than a script may be. Nothing of it was run.
+    /// It is longer than a script may be. Of a file nothing was run, of a stream the lines before were.
     TooLong,
     /// The line with this number is bad. What the lines before it printed was written.
     BadLine(usize),
