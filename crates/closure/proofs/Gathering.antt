@@ -9,7 +9,7 @@ use Rattle.protocol.specs.Hosts.{Entry}
 use Rattle.closure.specs.Announcing.{AnnouncedSlices, announced_at, IsNamedBy}
 use Rattle.closure.specs.Announcing.IsNamedBy.{configured, learnt}
 use Rattle.closure.specs.Turns.{PartyIndex, IsIndex, IsGiven, IsReady, added_names, all_added, known_names, last_below, ready_at, sender_at}
-use Rattle.closure.proofs.Noted.{among_append}
+use Rattle.closure.proofs.NameLookups.{among_append}
 use Rattle.closure.proofs.Walking.{IsWalked, sender_is, walk_begins, walk_goes_on, walk_ends}
 
 -- ---- what is in a joined list

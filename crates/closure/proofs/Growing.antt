@@ -16,8 +16,7 @@ use Rattle.protocol.proofs.Sets.Derived.{derived-in}
 use Rattle.closure.specs.Announcing.{IsNamedBy, MemberList, names_of, IsNamedBefore, IsChained}
 use Rattle.closure.specs.Announcing.IsNamedBy.{configured, learnt}
 use Rattle.closure.specs.Turns.{NamesAreMembers, AllNamesAreMembers, IsGrown, IsGiven, with_member}
-use Rattle.closure.proofs.Noted.{among_append}
-use Rattle.closure.proofs.NameLookups.{member_is}
+use Rattle.closure.proofs.NameLookups.{among_append, member_is}
 use Rattle.closure.proofs.ClosureSteps.{rules, all_given, all_derived, among_at}
 use Rattle.protocol.proofs.Sets.Lists.{get_taken}
 

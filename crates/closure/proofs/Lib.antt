@@ -1,9 +1,3 @@
-pub mod Noted
-mod Underway
-mod ReachKept
-mod Dropped
-mod Widening
-mod Finding
 mod NameLookups
 mod Indexing
 mod ClosureSteps
@@ -12,3 +6,6 @@ mod Readiness
 mod Growing
 mod Gathering
 mod Waking
+pub mod Places
+mod LeastNames
+pub mod SideBySide

@@ -5,6 +5,7 @@ use Rattle.std.specs.Map.{lookup, lookup_key, keys_of}
 use Rattle.std.proofs.lemmas.Bool.{eqb-true, true≢false}
 use Rattle.std.proofs.lemmas.Option.{slice_get-get_or}
 use Rattle.std.proofs.lemmas.List.{length-map}
+use Rattle.std.proofs.lemmas.List.Folds.{list_any-append}
 use Rattle.indexmap.specs.IndexMap.{insert_entry}
 use Rattle.indexmap.proofs.MapLemmas.{Found-position, Missing-position}
 use Rattle.std.proofs.Math.Path.{fun_ext}
@@ -14,6 +15,10 @@ use Rattle.types.proofs.NameOrder.{name_eq_is}
 use Rattle.protocol.specs.Sets.{among}
 use Rattle.closure.specs.Announcing.{names_of}
 use Rattle.closure.specs.Turns.{PartyIndex, IsIndexedTo, found_by, with_member}
+
+-- two lists as one
+pub among_append : (xs ys : List ℕ) (u : ℕ) → among (xs ++ ys) u ≡ (among xs u || among ys u)
+among_append xs ys u = list_any-append (λ x. x == u) xs ys
 
 flips : (x y : ℕ) → (x == y) ≡ (y == x)
 flips x y = grind (arith, nat_tests)

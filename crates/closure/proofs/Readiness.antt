@@ -6,7 +6,7 @@ use Rattle.std.proofs.lemmas.Bool.{or_left, or_right}
 use Rattle.protocol.specs.Sets.{among}
 use Rattle.protocol.proofs.Sets.Finite.{among_head}
 use Rattle.closure.specs.Turns.{AreMore, ready_at, lists_after_turn, with_ready}
-use Rattle.closure.proofs.Noted.{among_append}
+use Rattle.closure.proofs.NameLookups.{among_append}
 
 -- ---- one more number
 put_length : (ready : List (List ℕ)) (place n : ℕ) → length (with_ready ready place n) ≡ length ready

@@ -11,7 +11,7 @@ use Rattle.protocol.specs.Hosts.{Entry}
 use Rattle.closure.specs.Announcing.{AnnouncedSlices, announced_at, IsNamedBy, MemberList, names_of}
 use Rattle.closure.specs.Announcing.IsNamedBy.{configured, learnt}
 use Rattle.closure.specs.Turns.{PartyIndex, AreMore, AreWoken, IsDue, IsFor, IsGiven, IsIndex, IsJoined, AreCovered, IsReady, last_below, ready_at, receiver_at, lists_after_turn, with_member, with_ready}
-use Rattle.closure.proofs.Noted.{among_append}
+use Rattle.closure.proofs.NameLookups.{among_append}
 use Rattle.closure.proofs.ClosureSteps.{among_at}
 use Rattle.closure.proofs.Growing.{get_appended, one_name}
 use Rattle.closure.proofs.Readiness.{more_same, more_more, put_more, put_there, turned_bound, turned_others}

@@ -1,6 +1,4 @@
-pub mod Sweeps
-pub mod Keeping
-pub mod Widening
-pub mod Searching
 pub mod Announcing
 pub mod Turns
+pub mod Least
+pub mod Hosting

@@ -1,24 +1,22 @@
-//! Whom a node may come to depend on: the nodes that its slices name, those that their slices name,
-//! and so on, as far as the rows of a table tell (this host's profile).
+//! Whom a node comes to depend on in a journal, its closure: the nodes that its slices name, those that their
+//! slices name, and so on, by all that was announced (this host's profile).
 //!
-//! What a node concludes from its table rests on the rows of these nodes alone. Rows of strangers
-//! stay in the table, since their senders may be reached later.
+//! Comparisons of two networks ask two things more of the members: which one is the least that fails a test,
+//! and whether both networks host a node alike. Beside the code stand lemmas on two lists side by side, by
+//! which they find where the first steps differ.
 #![tactic(auto)]
 
 mod announcing;
 mod closure_list;
 mod deliveries;
-mod keeping;
+mod hosting;
+mod least;
 mod of_journal;
-mod of_table;
 mod ready;
-mod search;
-mod sweep;
 mod turns;
 
 pub use announcing::{Announcement, Announcements};
 pub use closure_list::ClosureList;
-pub use keeping::{drops_none, keeps_reach};
+pub use hosting::is_hosted_alike;
+pub use least::least_failing;
 pub use of_journal::closure;
-pub use of_table::{reach, reach_among, wider_reach};
-pub use search::KnownNodes;

@@ -8,8 +8,8 @@ use Rattle.protocol.specs.Rosters.{Roster}
 use Rattle.protocol.specs.Hosts.{Config, History, entries, nodes_of}
 use Rattle.protocol.specs.Isolation.{closure, SameCast}
 use Rattle.protocol.specs.Submissions.{answers, concerning_steps, config_of, names_on, roster_names, SameReserves}
-use Rattle.differences.specs.Hosting.{AreAlike}
-use Rattle.differences.specs.Least.{AreAll}
+use Rattle.closure.specs.Hosting.{AreAlike}
+use Rattle.closure.specs.Least.{AreAll}
 use Rattle.network.specs.Decoding.{reading}
 use Rattle.crowds.specs.Listing.{IsOn}
 use Rattle.crowds.specs.Submitted.{concerns_members, marked_steps}

@@ -13,7 +13,7 @@ use Rattle.protocol.specs.Hosts.{Config, Entry, History, applied_entries, nodes_
 use Rattle.protocol.specs.Runs.{net_after, refusal_of, state_of}
 use Rattle.protocol.specs.Submissions.{Answer, answers, answers_of, concerning_steps, concerning_answers, concerns, config_of, net_run, replied_to}
 use Rattle.protocol.proofs.Runs.Hosts.{answers-run, applied-journal, steps_to}
-use Rattle.differences.proofs.Places.{front_at}
+use Rattle.closure.proofs.Places.{front_at}
 use Rattle.network.specs.Decoding.{reading, step_of}
 use Rattle.hoststep.specs.Logs.{IsEntered, IsRefused, Log, with_entry}
 use Rattle.hoststep.proofs.Histories.{journal-snoc, steps-snoc}

@@ -3,11 +3,10 @@
 ghost use Rattle.std.specs.Prelude.{◌≡◌, MatchOption, option_map};
 ghost use Rattle.closure.specs.Announcing.{names_of};
 ghost use Rattle.protocol.specs.Networks.{slices_of};
-ghost use Rattle.differences.specs.Hosting.{AreAlike, IsLeastUnlike};
+ghost use Rattle.closure.specs.Hosting.{AreAlike, IsLeastUnlike};
 
-use closure::ClosureList;
+use closure::{ClosureList, is_hosted_alike, least_failing};
 use configuration::HostedNode;
-use differences::{is_hosted_alike, least_failing};
 use types::{Nested, NodeId};
 
 /// The least member that the two networks host unlike: in one of them alone, or with other slices.

@@ -4,12 +4,11 @@ ghost use Rattle.std.specs.Prelude.{◌≡◌, ◌↔◌, ℕ, IsTrue, MatchOpti
 ghost use Rattle.closure.specs.Announcing.{names_of};
 ghost use Rattle.protocol.specs.Sets.{among, within};
 ghost use Rattle.protocol.specs.Submissions.{SameReserves, SameRoster};
-ghost use Rattle.differences.specs.Least.{AreAll, IsLeast};
+ghost use Rattle.closure.specs.Least.{AreAll, IsLeast};
 ghost use Rattle.crowds.specs.Listing.{IsOff, IsOn};
 
-use closure::ClosureList;
+use closure::{ClosureList, least_failing};
 use configuration::{NetConfig, Roster, Shares};
-use differences::least_failing;
 use types::NodeId;
 
 /// Whether both networks have a roster, of the same names and with equal shares, and equal budgets of open

@@ -11,11 +11,11 @@ ghost use Rattle.protocol.specs.Reach.{IsReach};
 ghost use Rattle.tables.specs.Listeners.{IsBacked};
 ghost use Rattle.view.specs.Knowing.{IsKnown};
 
-use closure::reach;
 use envstore::{Archive, Places, VecShelf};
 use fedvote::{Claim, Question, Sight};
 use latest::Rows;
 use listening::{Configured, Listener};
+use reach::reach;
 use std::alloc::{AllocError, Global};
 use std::marker::Model;
 use types::{Ballot, Envelope, Kind, Leaders, NodeId};

@@ -14,7 +14,7 @@ use Rattle.protocol.specs.Verdicts.{IsFirstDifference, IsListOf, IsVerdict}
 use Rattle.protocol.proofs.Sets.Contained.{contains_head, contains_tail, contained_cases}
 use Rattle.closure.specs.Announcing.{MemberList, names_of, IsClosureList}
 use Rattle.twoworlds.specs.declared.verdict.Verdict.TheVariants.{InputsDiffer, Same}
-use Rattle.differences.specs.Hosting.{AreAlike}
+use Rattle.closure.specs.Hosting.{AreAlike}
 use Rattle.hoststep.specs.Logs.{Log}
 use Rattle.protocol.specs.Runs.{IsRun}
 use Rattle.protocol.proofs.Runs.KeptWithin.{closure-start}

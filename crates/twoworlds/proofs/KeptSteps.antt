@@ -11,8 +11,8 @@ use Rattle.protocol.specs.Networks.Step.{Opens, Closes, Proposes, Delivers, Hear
 use Rattle.protocol.specs.Hosts.{Entry}
 use Rattle.protocol.specs.Isolation.{KeptStep, kept_step, kept_of, when_kept}
 use Rattle.protocol.specs.Verdicts.{IsFirstDifference}
-use Rattle.differences.proofs.Places.{at_seam, front_at, rest_at, there_is}
-use Rattle.differences.proofs.SideBySide.{IsAgreed, agreed_at_first, agreed_more, parts_at_end, parts_at_other_end, parts_unlike}
+use Rattle.closure.proofs.Places.{at_seam, front_at, rest_at, there_is}
+use Rattle.closure.proofs.SideBySide.{IsAgreed, agreed_at_first, agreed_more, parts_at_end, parts_at_other_end, parts_unlike}
 use Rattle.twoworlds.specs.Steps.{event_at, is_kept, is_kept_in, core, IsNextKept, IsKeptEntry}
 
 when_is : (b : Bool) (k : KeptStep) → when_kept b k ≡ (if b then Some k else None)

@@ -16,7 +16,7 @@ use Rattle.protocol.specs.Isolation.{is_of, outs_of}
 use Rattle.twoworlds.specs.Steps.{at_slot, event_at, node_in, node_of}
 use Rattle.twoworlds.specs.OutLists.{IsNoted, IsNotedAt, outs_of_each}
 use Rattle.twoworlds.specs.OutLists.IsNoted.{nobody, somebody}
-use Rattle.differences.proofs.Places.{front_at, there_is}
+use Rattle.closure.proofs.Places.{front_at, there_is}
 
 -- the node is the one that is there
 abbrev is_node : Option ℕ → ℕ → Bool

@@ -3,11 +3,10 @@
 ghost use Rattle.std.specs.Prelude.{◌≡◌, MatchOption, option_map};
 ghost use Rattle.protocol.specs.Networks.{slices_of};
 ghost use Rattle.closure.specs.Announcing.{names_of};
-ghost use Rattle.differences.specs.Hosting.{AreAlike, IsLeastUnlike};
+ghost use Rattle.closure.specs.Hosting.{AreAlike, IsLeastUnlike};
 ghost use Rattle.twoworlds.specs.Meanings.{nodes_in};
 
-use closure::{Announcements, ClosureList};
-use differences::{is_hosted_alike, least_failing};
+use closure::{Announcements, ClosureList, is_hosted_alike, least_failing};
 use envstore::Shelf;
 use hoststep::Journal;
 use types::{Nested, NodeId};

@@ -17,7 +17,7 @@ use Rattle.compiled.specs.Places.{Numbered}
 use Rattle.compiled.specs.Searching.{AreCompiled}
 use Rattle.latest.specs.Places.{place_of_row}
 use Rattle.latest.proofs.Placing.{place-of_others}
-use Rattle.closure.specs.Searching.{ArePlacesBut}
+use Rattle.reach.specs.Searching.{ArePlacesBut}
 use Rattle.view.specs.declared.region.Region.{Region}
 use Rattle.view.specs.Forms.{AreFormsBut, NameWithinBut}
 use Rattle.view.proofs.EntryLaws.{slices_same}

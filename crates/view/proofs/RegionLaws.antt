@@ -21,8 +21,8 @@ use Rattle.protocol.proofs.Slices.Satisfaction.{sat_local, sat_monotone}
 use Rattle.quorum.proofs.Kept.{among-filter, among-from_filter}
 use Rattle.fedvote.proofs.Honesty.{names_reached}
 use Rattle.protocol.proofs.Statements.Offers.{row-with, is_row_of-parts}
-use Rattle.closure.specs.Keeping.{KeepsReach}
-use Rattle.closure.specs.Keeping.KeepsReach.{stranger, same_slices}
+use Rattle.reach.specs.Keeping.{KeepsReach}
+use Rattle.reach.specs.Keeping.KeepsReach.{stranger, same_slices}
 use Rattle.view.proofs.QuorumLaws.{from_all, quorum_of_all}
 use Rattle.compiled.specs.Asking.{ArePassing}
 use Rattle.compiled.specs.Places.{bit_of, Numbered}

@@ -8,8 +8,8 @@ use Rattle.protocol.specs.Backing.{slices_by}
 use Rattle.protocol.specs.Reach.{IsReach}
 use Rattle.protocol.specs.Rows.{with_row}
 use Rattle.protocol.specs.Sets.{IsAscending}
-use Rattle.closure.specs.Searching.{ArePlacesBut}
-use Rattle.closure.specs.Widening.{IsNarrow}
+use Rattle.reach.specs.Searching.{ArePlacesBut}
+use Rattle.reach.specs.Widening.{IsNarrow}
 use Rattle.compiled.specs.Met.{IsCompiled}
 use Rattle.compiled.specs.Places.{Numbered}
 use Rattle.compiled.specs.Searching.{AreCompiled}

@@ -6,16 +6,16 @@ ghost use Rattle.types.specs.declared.kind.Kind.TheVariants.{Nomination};
 ghost use Rattle.protocol.specs.Reach.{IsReach};
 ghost use Rattle.protocol.specs.Sets.{IsAscending, among};
 ghost use Rattle.compiled.specs.Moving.{AreMoved};
-ghost use Rattle.closure.specs.Searching.{ArePlacesBut};
+ghost use Rattle.reach.specs.Searching.{ArePlacesBut};
 ghost use Rattle.latest.specs.Places.{place_of_row};
 ghost use Rattle.view.specs.Regions.{AreRowPlaces, IsKeptRegion, IsOfExtent, IsPlaced, IsRegion};
 
 use crate::own::Own;
 use crate::region::{FormerRegion, KindPlaces, Placed, Region};
-use closure::{KnownNodes, reach_among, wider_reach};
 use compiled::place_near;
 use envstore::Places;
 use latest::{RowPlaces, Rows};
+use reach::{KnownNodes, reach_among, wider_reach};
 use std::alloc::{AllocError, Global};
 use types::NodeId;
 

@@ -17,10 +17,10 @@ use crate::changing::Extent;
 use crate::forms::{Candidates, Former, SlicesInReach};
 use crate::own::Own;
 use crate::reached::ReachedRows;
-use closure::{drops_none, keeps_reach, reach};
 use compiled::{CompiledSet, Form, compile, place_in_nodes};
 use envstore::Places;
 use latest::{RowPlace, RowPlaces, Rows};
+use reach::{drops_none, keeps_reach, reach};
 use std::alloc::{AllocError, Global};
 use types::{Envelope, Kind, Nested, NodeId};
 

@@ -8,8 +8,6 @@
 #[cfg(test)]
 mod fixtures;
 #[cfg(test)]
-mod of_closure;
-#[cfg(test)]
 mod of_compiled;
 #[cfg(test)]
 mod of_fedvote;
@@ -21,5 +19,7 @@ mod of_listening;
 mod of_nomination;
 #[cfg(test)]
 mod of_quorum;
+#[cfg(test)]
+mod of_reach;
 #[cfg(test)]
 mod of_view;

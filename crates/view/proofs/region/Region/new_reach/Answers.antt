@@ -1,5 +1,5 @@
 use Rattle.std.proofs.Common.{List, ℕ, subst, sym}
-use Rattle.closure.specs.Widening.{IsNarrow}
+use Rattle.reach.specs.Widening.{IsNarrow}
 use Rattle.view.specs.declared.changing.Extent.{Extent}
 use Rattle.view.specs.Regions.{IsOfExtent}
 use Rattle.view.proofs.region.Region.new_reach.Goals as goal

@@ -1,7 +1,7 @@
 use Rattle.std.proofs.Common.{List, ℕ, sym, subst}
 use Rattle.protocol.specs.Reach.{IsReach}
 use Rattle.protocol.specs.Rows.{with_row}
-use Rattle.closure.specs.Keeping.{KeepsReach}
+use Rattle.reach.specs.Keeping.{KeepsReach}
 use Rattle.view.proofs.RegionLaws.{region_kept}
 use Rattle.view.proofs.region.Region.stays.Goals as goal
 

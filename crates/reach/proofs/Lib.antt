@@ -1,0 +1,6 @@
+mod Noted
+mod Underway
+mod ReachKept
+mod Dropped
+mod Widening
+mod Finding

@@ -1,0 +1,4 @@
+pub mod Sweeps
+pub mod Keeping
+pub mod Widening
+pub mod Searching

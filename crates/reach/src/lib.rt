@@ -1,0 +1,15 @@
+//! Whom a node reaches: the nodes that its slices name, those that their slices name, and so on, as far as
+//! the rows of a table tell (this host's profile).
+//!
+//! What a node concludes from its table rests on the rows of these nodes alone. Rows of strangers
+//! stay in the table, since their senders may be reached later.
+#![tactic(auto)]
+
+mod keeping;
+mod of_table;
+mod search;
+mod sweep;
+
+pub use keeping::{drops_none, keeps_reach};
+pub use of_table::{reach, reach_among, wider_reach};
+pub use search::KnownNodes;
