@@ -1,7 +1,9 @@
--- Names looked up in a list of pairs, by the derived equality of names.
+-- Names looked up in a list of pairs, by the derived equality of names or by their derived order.
 use Rattle.std.proofs.Common.{◌≡◌, ℕ, Bool, true, false, cond, ◌||◌, ◌==◌, List, [], ◌∷◌, ◌++◌, ◌<◌, Option, Some, None, is_some, position, slice_get, MatchOption, length, get_or, refl, sym, ◌∙◌, ap, subst, if◌then◌else◌, arith, IsFalse}
 use Rattle.std.specs.List.{list_any}
+use Rattle.std.specs.BTreeMap.{is_at}
 use Rattle.std.specs.Map.{lookup, lookup_key, keys_of}
+use Rattle.std.specs.Ordering.{is_eq, nat_cmp}
 use Rattle.std.proofs.lemmas.Bool.{eqb-true, true≢false}
 use Rattle.std.proofs.lemmas.Option.{slice_get-get_or}
 use Rattle.std.proofs.lemmas.List.{length-map}
@@ -10,8 +12,9 @@ use Rattle.indexmap.specs.IndexMap.{insert_entry}
 use Rattle.indexmap.proofs.MapLemmas.{Found-position, Missing-position}
 use Rattle.std.proofs.Math.Path.{fun_ext}
 use Rattle.std.proofs.lemmas.Bool.Decides.{nat_tests}
+use Rattle.types.specs.contracts.node_id.NodeIdOrd.TheImpl.{ghosts as ord}
 use Rattle.types.specs.contracts.node_id.NodeIdPartialEq.TheImpl.{ghosts as equal}
-use Rattle.types.proofs.NameOrder.{name_eq_is}
+use Rattle.types.proofs.NameOrder.{name_cmp_is, name_eq_is}
 use Rattle.protocol.specs.Sets.{among}
 use Rattle.closure.specs.Announcing.{names_of}
 use Rattle.closure.specs.Turns.{PartyIndex, IsIndexedTo, found_by, with_member}
@@ -35,8 +38,17 @@ found_plain : (k : ℕ) (es : List (ℕ × ℕ)) → lookup (λ y. y == k) es �
 found_plain k [] = refl
 found_plain k (e ∷ es) = ap (λ (r : Option ℕ). cond (e.0 == k) (Some e.1) r) (found_plain k es)
 
-pub found_is : (k : ℕ) (es : List (ℕ × ℕ)) → lookup (equal.eq k) es ≡ found_by es k
+found_is : (k : ℕ) (es : List (ℕ × ℕ)) → lookup (equal.eq k) es ≡ found_by es k
 found_is k es = ap (λ (t : ℕ → Bool). lookup t es) (test_is k) ∙ found_plain k es
+
+order_is : (k : ℕ) → is_at (ord.cmp k) ≡ (λ y. y == k)
+order_is k = fun_ext (λ y. ap is_eq (name_cmp_is k y) ∙ same y)
+  where
+    same : (y : ℕ) → is_eq (nat_cmp k y) ≡ (y == k)
+    same y = grind (arith, nat_tests)
+
+pub found_in_order : (k : ℕ) (es : List (ℕ × ℕ)) → lookup (is_at (ord.cmp k)) es ≡ found_by es k
+found_in_order k es = ap (λ (t : ℕ → Bool). lookup t es) (order_is k) ∙ found_plain k es
 
 has_plain : (k : ℕ) (es : List (ℕ × ℕ)) → is_some (found_by es k) ≡ among (names_of es) k
 has_plain k [] = refl
@@ -91,8 +103,8 @@ added_is es k p h = go (among (names_of es) k) h
     go false e = added_last k p es h
 
 -- ---- a value put beside a name
-pub put_is : (k w : ℕ) (es fs : List (ℕ × ℕ)) (x : ℕ) → lookup (equal.eq k) fs ≡ cond (equal.eq w k) (Some x) (lookup (equal.eq k) es) → found_by fs k ≡ (if w == k then Some x else found_by es k)
-put_is k w es fs x h = sym (found_is k fs) ∙ (h ∙ both (name_eq_is w k) (found_is k es))
+pub put_is : (k w : ℕ) (es fs : List (ℕ × ℕ)) (x : ℕ) → lookup (is_at (ord.cmp k)) fs ≡ cond (is_at (ord.cmp w) k) (Some x) (lookup (is_at (ord.cmp k)) es) → found_by fs k ≡ (if w == k then Some x else found_by es k)
+put_is k w es fs x h = sym (found_in_order k fs) ∙ (h ∙ both (ap (λ (t : ℕ → Bool). t k) (order_is w) ∙ flips k w) (found_in_order k es))
   where
     both : {a b : Bool} {o q : Option ℕ} → a ≡ b → o ≡ q → cond a (Some x) o ≡ (if b then Some x else q)
     both e f = λ j. cond (e j) (Some x) (f j)
@@ -109,10 +121,10 @@ pub linked_none : (old new : PartyIndex) (sender before : Option ℕ) → sender
 linked_none old new None before s b l e = (l, subst (λ o. new.earlier ≡ old.earlier ++ o ∷ []) b e)
 linked_none old new (Some w) before s b l e = cc
 
-pub linked_some : (old new : PartyIndex) (w : ℕ) (sender before : Option ℕ) → sender ≡ Some w → before ≡ lookup (equal.eq w) old.latest
-    → ((u : ℕ) → lookup (equal.eq u) new.latest ≡ cond (equal.eq w u) (Some (length old.earlier)) (lookup (equal.eq u) old.latest)) → new.earlier ≡ old.earlier ++ before ∷ [] → IsIndexedTo old new sender
+pub linked_some : (old new : PartyIndex) (w : ℕ) (sender before : Option ℕ) → sender ≡ Some w → before ≡ lookup (is_at (ord.cmp w)) old.latest
+    → ((u : ℕ) → lookup (is_at (ord.cmp u)) new.latest ≡ cond (is_at (ord.cmp w) u) (Some (length old.earlier)) (lookup (is_at (ord.cmp u)) old.latest)) → new.earlier ≡ old.earlier ++ before ∷ [] → IsIndexedTo old new sender
 linked_some old new w sender before s b l e =
     subst (λ o. IsIndexedTo old new o) (sym s) (
       λ u. put_is u w old.latest new.latest (length old.earlier) (l u),
-      e ∙ ap (λ (o : Option ℕ). old.earlier ++ o ∷ []) (b ∙ found_is w old.latest),
+      e ∙ ap (λ (o : Option ℕ). old.earlier ++ o ∷ []) (b ∙ found_in_order w old.latest),
     )

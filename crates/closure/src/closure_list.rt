@@ -13,6 +13,10 @@ use types::NodeId;
 
 /// The members of a closure, in the order in which they were found, each with the place of the member
 /// that named it. Places count from 0; the first member names itself.
+///
+/// Members are found by hash, and the hasher has a fixed seed, so whoever picks many names can give them one
+/// hash. No stranger does: the first name is the one that was asked for, and each other one stands in the
+/// configured slices of a member or in slices that a member announced. A stranger is only looked up.
 #[derive(Drop)]
 pub struct ClosureList {
     members: IndexMap<NodeId, usize>,

@@ -5,16 +5,19 @@ ghost use Rattle.closure.specs.Announcing.{announced_at};
 ghost use Rattle.closure.specs.Turns.{AreIndexed, IsIndexedTo, found_by, receiver_at, sender_at};
 
 use crate::announcing::Announcements;
-use indexmap::IndexMap;
 use std::alloc::{AllocError, Global};
+use std::collections::BTreeMap;
 use std::marker::Model;
 use types::NodeId;
 
 /// The last announcement of each party, and for each entry the last announcement before it of the same party:
 /// whoever follows these numbers sees all announcements of a party, and no other.
+///
+/// Strangers are parties too, and pick their names: the map is ordered, so that a party takes a number of steps
+/// that is logarithmic in how many there are, whatever their names.
 #[derive(Drop)]
 pub struct Links {
-    latest: IndexMap<NodeId, usize>,
+    latest: BTreeMap<NodeId, usize>,
     earlier: Vec<Option<usize>>,
 }
 
@@ -32,7 +35,7 @@ impl Links {
         ensures { result ≡ record { latest = []; earlier = [] } }
     {
         Links {
-            latest: IndexMap::new(alloc),
+            latest: BTreeMap::new(alloc),
             earlier: Vec::new(alloc),
         }
     }

@@ -1,6 +1,7 @@
 use Rattle.std.proofs.Common.{◌≡◌, ◌∙◌, ap, ℕ, List, Option, cond, Some, length, ◌++◌, ◌∷◌, []}
+use Rattle.std.specs.BTreeMap.{is_at}
 use Rattle.std.specs.Map.{lookup}
-use Rattle.types.specs.contracts.node_id.NodeIdPartialEq.TheImpl.{ghosts as equal}
+use Rattle.types.specs.contracts.node_id.NodeIdOrd.TheImpl.{ghosts as ord}
 use Rattle.closure.specs.declared.deliveries.Links.TheInside.{Inside}
 use Rattle.closure.specs.Turns.{PartyIndex}
 use Rattle.closure.proofs.NameLookups.{linked_none, linked_some}
@@ -16,8 +17,8 @@ returns c =
           (ap (λ (x : Inside). x.latest.entries) w.self-inside-is ∙ latest_was)
           (c.in_ok-push.ensures.items ∙ ap (λ (xs : List (Option ℕ)). xs ++ c.match-party.before ∷ []) (ap (λ (x : Inside). x.earlier.items) w.self-inside-is ∙ earlier_was))
       | in-Some+in_ok-before-in-Some w ↦ linked_some c.args.self.now _ w.in-Some.party c.args.party c.match-party.before w.in-Some.is
-          (w.before-is ∙ (w.in_ok-before-in-Some.ensures.old ∙ ap (λ (xs : List (ℕ × ℕ)). lookup (equal.eq w.in-Some.party) xs) latest_was))
-          (λ u. ap (λ (x : Inside). lookup (equal.eq u) x.latest.entries) w.self-inside-is ∙ (w.in_ok-before-in-Some.ensures.updates.0 u
-          ∙ (λ j. cond (equal.eq w.in-Some.party u) (Some (let n : w.len.result ≡ length c.args.self.now.earlier = w.len.ensures ∙ (c.self.inside.earlier.ok.0 ∙ ap length earlier_was) in n j)) (lookup (equal.eq u) (latest_was j)))))
+          (w.before-is ∙ (w.in_ok-before-in-Some.ensures.old ∙ ap (λ (xs : List (ℕ × ℕ)). lookup (is_at (ord.cmp w.in-Some.party)) xs) latest_was))
+          (λ u. ap (λ (x : Inside). lookup (is_at (ord.cmp u)) x.latest.entries) w.self-inside-is ∙ (w.in_ok-before-in-Some.ensures.updates.0 u
+          ∙ (λ j. cond (is_at (ord.cmp w.in-Some.party) u) (Some (let n : w.len.result ≡ length c.args.self.now.earlier = w.len.ensures ∙ (c.self.inside.earlier.ok.0 ∙ ap length earlier_was) in n j)) (lookup (is_at (ord.cmp u)) (latest_was j)))))
           (c.in_ok-push.ensures.items ∙ ap (λ (xs : List (Option ℕ)). xs ++ c.match-party.before ∷ []) (ap (λ (x : Inside). x.earlier.items) w.self-inside-is ∙ earlier_was))
     ]
