@@ -8,7 +8,7 @@ ghost use Rattle.protocol.specs.Sets.{IsAscending, among};
 ghost use Rattle.compiled.specs.Moving.{AreMoved};
 ghost use Rattle.reach.specs.Searching.{ArePlacesBut};
 ghost use Rattle.latest.specs.Places.{place_of_row};
-ghost use Rattle.view.specs.Regions.{AreRowPlaces, IsKeptRegion, IsOfExtent, IsPlaced, IsRegion};
+ghost use Rattle.view.specs.Regions.{AreRowPlaces, IsKeptRegion, IsOfExtent, IsRegion};
 
 use crate::own::Own;
 use crate::region::{FormerRegion, KindPlaces, Placed, Region};
@@ -53,31 +53,15 @@ impl Region {
         requires extent { IsOfExtent own.name.now own.slices.now table.now by.sender.now self.now.nodes.items by.extent }
         ensures { IfOk result (λ r. IsRegion own.entry.name.now own.entry.slices.now table.now r) }
     {
-        let placed = self.new_placed(alloc, own, &*table, by)?;
-        let places = moved_places(alloc, &self.nodes, &placed.nodes)?;
+        let nodes = self.new_reach(alloc, own, &*table, by)?;
+        let places = moved_places(alloc, &self.nodes, &nodes)?;
+        let rows = kept_row_places(alloc, &*table, &nodes, self, by.sender)?;
         let former = FormerRegion {
             region: self,
             places: &places,
             sender: by.sender,
         };
-        Region::over(alloc, own, table, placed, Some(former))
-    }
-
-    /// Whom the node reaches, and where their rows stand. An error says that memory is short.
-    fn new_placed<S: Places>(
-        &self,
-        alloc: Global,
-        own: Own<'_>,
-        table: &Rows<'_, S>,
-        by: NewReach<'_>,
-    ) -> Result<Placed, AllocError>
-        requires kept { IsKeptRegion own.name.now own.slices.now table.now by.sender.now self.now }
-        requires extent { IsOfExtent own.name.now own.slices.now table.now by.sender.now self.now.nodes.items by.extent }
-        ensures { IfOk result (IsPlaced own.entry.name.now own.entry.slices.now table.now) }
-    {
-        let nodes = self.new_reach(alloc, own, table, by)?;
-        let rows = kept_row_places(alloc, table, &nodes, self, by.sender)?;
-        Ok(Placed { nodes, rows })
+        Region::over(alloc, own, table, Placed { nodes, rows }, Some(former))
     }
 
     /// Whom the node reaches. An error says that memory is short.
@@ -93,10 +77,7 @@ impl Region {
         ensures { IfOk result (λ v. IsReach own.entry.name.now own.entry.slices.now table.now v.items) }
     {
         match by.extent {
-            Extent::Wider => {
-                let nodes = wider_reach(alloc, table, &self.nodes, by.sender)?;
-                Ok(nodes)
-            }
+            Extent::Wider => wider_reach(alloc, table, &self.nodes, by.sender),
             Extent::Other => {
                 let known = KnownNodes {
                     nodes: &self.nodes,
@@ -119,13 +100,23 @@ fn moved_places(alloc: Global, nodes: &[NodeId], all: &[NodeId]) -> Result<Vec<u
     let mut places = Vec::with_capacity(alloc, nodes.len())?;
     let mut next = 0;
     for node in nodes {
-        let place = place_near(all, next, node);
+        let place = place_behind(all, &mut next, node);
         places.push(place.unwrap_or(next))?;
-        if let Some(place) = place {
-            next = place + 1;
-        }
     }
     Ok(places)
+}
+
+/// The place of a node, which is looked for behind the one that was found last, before it is searched for.
+fn place_behind(nodes: &[NodeId], next: &mut usize, node: &NodeId) -> Option<usize>
+    requires { IsAscending nodes.now }
+    ensures exactly { is_some result ≡ among nodes.now node.now }
+    ensures place { IfSome result (λ i. (i < length nodes.now) × (get_or nodes.now i 0 ≡ node.now)) }
+{
+    let place = place_near(nodes, *next, node);
+    if let Some(place) = place {
+        *next = place + 1;
+    }
+    place
 }
 
 /// Where the rows that the nodes have stand in the table: as the region has it of those that are in it, save for the
@@ -145,10 +136,7 @@ fn kept_row_places<S: Places>(
     let mut found = KindPlaces::with_capacity(alloc, nodes.len())?;
     let mut next = 0;
     for node in nodes {
-        let place = place_near(&region.nodes, next, node);
-        if let Some(place) = place {
-            next = place + 1;
-        }
+        let place = place_behind(&region.nodes, &mut next, node);
         found.push(places_of(table, node, region, place, sender))?;
     }
     Ok(found)

@@ -7,7 +7,6 @@ ghost use Rattle.protocol.specs.Sets.{IsAscending, among, within};
 ghost use Rattle.compiled.specs.Met.{IsCompiled};
 ghost use Rattle.view.specs.Forms.{AreAllForms, ArePart, IsFormOf, IsFormerOf, IsFound, IsFoundWithin, IsTwin};
 
-use crate::own::Own;
 use crate::reached::ReachedRows;
 use compiled::{Form, compile, has_places, place_in_nodes, relocate};
 use envstore::Places;
@@ -51,29 +50,13 @@ impl<'a> Former<'a> {
 /// nodes, where there is one.
 #[derive(Drop)]
 pub(crate) struct SlicesInReach<'a, S: Places> {
-    own: &'a NodeId,
-    slices: &'a Nested,
-    rows: ReachedRows<'a, S>,
-    former: Option<Former<'a>>,
+    pub own: &'a NodeId,
+    pub slices: &'a Nested,
+    pub rows: ReachedRows<'a, S>,
+    pub former: Option<Former<'a>>,
 }
 
 impl<'a, S: Places> SlicesInReach<'a, S> {
-    /// The nodes that the node with this name and these slices reaches, by their rows.
-    pub(crate) fn new(
-        own: Own<'a>,
-        rows: ReachedRows<'a, S>,
-        former: Option<Former<'a>>,
-    ) -> SlicesInReach<'a, S>
-        ensures { (result.own.now ≡ own.entry.name.now) × (result.slices.now ≡ own.entry.slices.now) × (result.rows ≡ rows.entry) × (result.former ≡ former.entry) }
-    {
-        SlicesInReach {
-            own: own.name,
-            slices: own.slices,
-            rows,
-            former,
-        }
-    }
-
     /// The slices of all, compiled, in the order of the nodes. An error says that memory is short.
     #[tactic(auto, using(crate::proofs::FormLaws::part_empty, crate::proofs::FormLaws::part_whole))]
     pub(crate) fn forms(&self, alloc: Global) -> Result<Vec<Option<Form>>, AllocError>
@@ -162,8 +145,7 @@ impl<'a, S: Places> SlicesInReach<'a, S> {
             None => new_form(alloc, slices, nodes, place),
             Some(form) => {
                 let set = relocate(alloc, form.set(), former.places)?;
-                let again = Form::new(alloc, place, set)?;
-                Ok(again)
+                Form::new(alloc, place, set)
             }
         }
     }

@@ -1,7 +1,6 @@
 //! Whether some row speaks of a ballot.
 
 ghost use Rattle.std.specs.Prelude.{◌≡◌, flat_map, option_to_list};
-ghost use Rattle.protocol.specs.Sameness.{same_ballot};
 ghost use Rattle.fedvote.specs.Mentions.{mentioned_by, mentioned_in};
 ghost use Rattle.view.specs.Listing.{is_one_of};
 ghost use Rattle.view.specs.Watching.{rows_of_others};
@@ -59,13 +58,6 @@ fn is_it(one: &Option<LentBallot>, ballot: &LentBallot) -> bool
 {
     match one {
         None => false,
-        Some(one) => is_same(one, ballot),
+        Some(one) => one.counter() == ballot.counter() && one.value().is_same(ballot.value()),
     }
-}
-
-/// Whether two ballots are one.
-fn is_same(one: &LentBallot, other: &LentBallot) -> bool
-    ensures { result ≡ same_ballot one.now other.now }
-{
-    one.counter() == other.counter() && one.value().is_same(other.value())
 }

@@ -199,7 +199,12 @@ impl Region {
     {
         let kind = envelope.body().kind();
         let rows = ReachedRows::by_look_up(alloc, &self.nodes, table, kind);
-        let reached = SlicesInReach::new(own, rows, None);
+        let reached = SlicesInReach {
+            own: own.name,
+            slices: own.slices,
+            rows,
+            former: None,
+        };
         let there = Candidates {
             forms: self.forms(kind),
             places: (self.place, self.latest),
@@ -363,7 +368,12 @@ fn forms_by<'a, S: Places>(
     requires former { IfSome former (IsFormerOf rows.nodes (slices_by own.name.now own.slices.now rows.table rows.kind)) }
     ensures { IfOk result (λ v. AreAllForms rows.entry.nodes (slices_by own.entry.name.now own.entry.slices.now rows.entry.table rows.entry.kind) v.items) }
 {
-    let reached = SlicesInReach::new(own, rows, former);
+    let reached = SlicesInReach {
+        own: own.name,
+        slices: own.slices,
+        rows,
+        former,
+    };
     reached.forms(alloc)
 }
 

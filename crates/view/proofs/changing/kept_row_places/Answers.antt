@@ -1,5 +1,14 @@
+use Rattle.std.proofs.Common.{◌≡◌, ◌<◌, IfSome, List, ℕ, get_or, length, subst, sym}
+use Rattle.protocol.specs.Sets.{IsAscending}
 use Rattle.view.proofs.PlaceLaws.{both_all, both_more}
 use Rattle.view.proofs.changing.kept_row_places.Goals as goal
+
+pub place_behind-place-requires : goal.place_behind-place-requires
+place_behind-place-requires g c = subst (λ (us : List ℕ). IsAscending us) (sym c.deref.ensures.value) c.requires.ascending
+
+pub places_of-requires-clause-place : goal.places_of-requires-clause-place
+places_of-requires-clause-place g c =
+    subst (λ (us : List ℕ). IfSome c.place_behind-place.result (λ i. (i < length us) × (get_or us i 0 ≡ c.node-item.result))) c.deref.ensures.value c.place_behind-place.ensures.place
 
 pub loop-node-preserved : goal.loop-node-preserved
 loop-node-preserved g c =

@@ -2,6 +2,7 @@ use Rattle.std.proofs.Common.{◌≡◌, ◌==◌, ◌∙◌, IfSome, Option, ap
 use Rattle.std.proofs.lemmas.Bool.{eq-eqb}
 use Rattle.std.proofs.lemmas.List.{get_or_default}
 use Rattle.std.proofs.lemmas.List.Folds.{list_any_at}
+use Rattle.std.proofs.lemmas.Result.{IfOk-weaker}
 use Rattle.protocol.specs.Backing.{slices_by}
 use Rattle.compiled.specs.Met.{IsCompiled}
 use Rattle.compiled.specs.Places.{Compiled, Numbered}
@@ -10,8 +11,8 @@ use Rattle.view.specs.Forms.{IsFormOf, IsFormerOf}
 use Rattle.view.proofs.FormLaws.{form_again}
 use Rattle.view.proofs.forms.SlicesInReach.new_form_at.Goals as goal
 
-pub returns-in_ok-again-in-Some-form_of : goal.returns-in_ok-again-in-Some-form_of
-returns-in_ok-again-in-Some-form_of g c =
+pub returns-in_ok-set-in-Some-form_of : goal.returns-in_ok-set-in-Some-form_of
+returns-in_ok-set-in-Some-form_of g c =
     let s = c.args.self.now in
     let all = s.rows.nodes in
     let slices_at = slices_by s.own.now s.slices.now s.rows.table s.rows.kind in
@@ -26,4 +27,4 @@ returns-in_ok-again-in-Some-form_of g c =
     let again = form_again all f.nodes.now f.places.now slices_at f.forms.now f.sender.now former u q is.place form is.inside is.node is.another is.there c.requires.its (list_any_at (λ y. y == u) all c.args.place 0 c.requires.inside (eq-eqb u u refl)) in
     let old : IsCompiled false f.nodes.now q c.set.result.now = subst (λ (x : Compiled). IsCompiled false f.nodes.now q x) (sym c.set.ensures) again.0 in
     let new : IsCompiled false all q c.in_ok-set-in-Some-form_of.set = c.in_ok-set-in-Some-form_of.ensures f.nodes.now all q former.moved again.1 again.2 old in
-    (ap (λ (x : Numbered). x.number) c.in_ok-again-in-Some-form_of.ensures, subst (λ (x : Compiled). IsCompiled false all q x) (sym (ap (λ (x : Numbered). x.set) c.in_ok-again-in-Some-form_of.ensures)) new)
+    IfOk-weaker c.new.result _ _ (λ x made. (ap (λ (y : Numbered). y.number) made, subst (λ (y : Compiled). IsCompiled false all q y) (sym (ap (λ (y : Numbered). y.set) made)) new)) c.new.ensures
