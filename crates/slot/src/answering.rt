@@ -15,7 +15,7 @@ use crate::stirring::Stirred;
 use fedvote::Sight;
 use listening::Configured;
 use std::alloc::{AllocError, Global};
-use types::{Inputs, Out, Votes};
+use types::{Inputs, Votes};
 
 /// What a node has at one moment beside its rows.
 #[derive(Clone, Copy)]
@@ -37,17 +37,10 @@ pub(crate) struct Start<'a> {
     pub stirred: Stirred,
 }
 
-/// The votes after an event, and what the node gives out.
-#[derive(Drop)]
-pub(crate) struct Answer {
-    pub votes: Votes,
-    pub outs: Vec<Out>,
-}
-
 /// The votes after an event, where it changed them, and what the node gives out, each emitted envelope filed, with whole
 /// copies.
 #[derive(Drop)]
-pub(crate) struct FiledAnswer {
+pub(crate) struct Answer {
     pub votes: Option<Votes>,
     pub given_out: GivenOut,
 }
@@ -81,16 +74,13 @@ pub(crate) fn settled_votes<'a, S: Sight>(
     settle_from(alloc, &context, start.votes, start.stirred)
 }
 
-/// The votes that settled, a copy of those before where they stay. An error says that they have too many owners.
-pub(crate) fn votes_or(settled: Option<Votes>, before: &Votes) -> Result<Votes, AllocError>
-    ensures { IfOk result (λ w. w ≡ unwrap_or settled before.now) }
+/// The votes that settled, or those before where they stay.
+pub(crate) fn votes_or<'a>(settled: &'a Option<Votes>, before: &'a Votes) -> &'a Votes
+    ensures { result.now ≡ unwrap_or settled.now before.now }
 {
     match settled {
-        None => {
-            let same = before.try_copy()?;
-            Ok(same)
-        }
-        Some(votes) => Ok(votes),
+        None => before,
+        Some(votes) => votes,
     }
 }
 

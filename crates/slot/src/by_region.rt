@@ -1,9 +1,10 @@
 //! What a node makes of what its listener has: passes by what is known of the reach, and outs.
 
 ghost use Rattle.std.specs.Prelude.{◌≡◌, IfOk, IsTrue, List, OnOk, Some, box_value, unwrap_or};
-ghost use Rattle.envstore.specs.Archives.{AreFiled};
+ghost use Rattle.envstore.specs.Archives.{AreFiled, Keeps};
 ghost use Rattle.listening.specs.Listening.{IsKnownOf};
 ghost use Rattle.protocol.specs.Nodes.{most_passes, outs, after_pass, settle};
+ghost use Rattle.slot.specs.Filings.{AreFiledOuts, HasCopies, outs_of};
 ghost use Rattle.slot.specs.Listening.{node_of};
 ghost use Rattle.slot.specs.Stirrings.{IsStart, is_listed};
 ghost use Rattle.slot.specs.NodeParts.{node_from_parts};
@@ -11,43 +12,51 @@ ghost use Rattle.types.specs.Statements.{Sent};
 ghost use Rattle.view.specs.Knowing.{IsKnown};
 
 use crate::answering::{Answer, Start, State, rests, settled_votes, votes_or};
-use crate::outs::outs;
+use crate::filing::give_out;
 use crate::stirring::Stirred;
-use envstore::{Archive, Places};
+use envstore::{Archive, Places, Shelf};
 use latest::Rows;
 use listening::Listener;
 use std::alloc::{AllocError, Global};
 use types::{Phase, Votes};
 use view::{KnownReach, Own, View};
 
-/// What passes make of a node with these rows from this start on, and what it gives out since the old
-/// state. What contracts see of the listener stays as it was, and an error says that memory is short.
-pub(crate) fn answer<S: Places>(
+/// What passes make of a node with these rows from this start on, and what it gives out since the old state, with so
+/// many whole copies. What contracts see of the listener stays as it was, and an error says that memory is short.
+pub(crate) fn answer<S: Shelf>(
     alloc: Global,
-    archive: &Archive<S>,
+    archive: &mut Archive<S>,
     listener: &mut Listener,
     old: &State<'_>,
     start: &Start<'_>,
+    copies: usize,
 ) -> Result<Answer, AllocError>
-    requires rows { AreFiled archive.now listener.old.table }
+    requires rows { AreFiled archive.old listener.old.table }
     requires start { IsStart start.now.stirred (node_of listener.old start.now.inputs.now start.now.votes.now) }
-    ensures votes { IfOk result (λ a. settle most_passes (after_pass (node_of listener.old start.now.inputs.now start.now.votes.now)) start.now.votes.now ≡ Some a.votes) }
-    ensures outs { IfOk result (λ a. (before after : List Sent) → a.outs.items ≡ outs (node_from_parts listener.old.configured old.now.inputs.now old.now.votes.now before) (node_from_parts listener.old.configured start.now.inputs.now a.votes after)) }
+    ensures votes { IfOk result (λ a. settle most_passes (after_pass (node_of listener.old start.now.inputs.now start.now.votes.now)) start.now.votes.now ≡ Some (unwrap_or a.votes start.now.votes.now)) }
+    ensures outs { IfOk result (λ a. (before after : List Sent) → outs_of a.given_out.outs.items ≡ outs (node_from_parts listener.old.configured old.now.inputs.now old.now.votes.now before) (node_from_parts listener.old.configured start.now.inputs.now (unwrap_or a.votes start.now.votes.now) after)) }
     ensures same { listener.new ≡ listener.old }
+    ensures filed { IfOk result (λ a. AreFiledOuts archive.new a.given_out.outs.items) }
+    ensures copies { IfOk result (λ a. HasCopies copies a.given_out) }
+    ensures kept { Keeps archive.old archive.new }
 {
-    let settled = votes_after(alloc, archive, listener, start)?;
-    let votes = votes_or(settled, start.votes)?;
+    let votes = votes_after(alloc, archive, listener, start)?;
     let new = State {
         inputs: start.inputs,
-        votes: &votes,
+        votes: votes_or(&votes, start.votes),
     };
-    let outs = outs(alloc, listener.configuration(), old, &new)?;
-    Ok(Answer { votes, outs })
+    match give_out(alloc, archive, listener.configuration(), old, &new, copies) {
+        Ok(given_out) => Ok(Answer { votes, given_out }),
+        Err(error) => {
+            drop(votes);
+            Err(error)
+        }
+    }
 }
 
 /// The votes after passes from this start on, by the rows; `None` where they stay. Where a value is externalized no rule
 /// reads any row.
-pub(crate) fn votes_after<S: Places>(
+fn votes_after<S: Places>(
     alloc: Global,
     archive: &Archive<S>,
     listener: &mut Listener,
@@ -136,11 +145,15 @@ fn votes_within<S: Places>(
     match start.stirred {
         Stirred::Nominations => {
             let view = View::in_place(alloc, own, leaders, &rows, reach);
-            settled_votes(alloc, configured, &view, start)
+            let settled = settled_votes(alloc, configured, &view, start);
+            drop(view);
+            settled
         }
         Stirred::All | Stirred::Ballots => {
             let view = View::of(alloc, own, leaders, &rows, reach)?;
-            settled_votes(alloc, configured, &view, start)
+            let settled = settled_votes(alloc, configured, &view, start);
+            drop(view);
+            settled
         }
     }
 }

@@ -2,17 +2,23 @@
 //!
 //! Where a function here answers an error, memory is short.
 
-ghost use Rattle.std.specs.Prelude.{[], ◌≡◌, ℕ, IfOk, map, replicate};
+ghost use Rattle.std.specs.Prelude.{[], ◌≡◌, ℕ, IfOk, List, map, replicate};
 ghost use Rattle.envstore.specs.Archives.{Keeps};
+ghost use Rattle.protocol.specs.Nodes.{outs};
 ghost use Rattle.slot.specs.Filings.{AreFiledOuts, HasCopies, IsFiledOut, copies_of, out_of, outs_of};
+ghost use Rattle.slot.specs.NodeParts.{SendWellFormed, node_from_parts};
+ghost use Rattle.types.specs.Statements.{Sent};
 
+use crate::answering::State;
 use crate::filed::{FiledOut, GivenOut};
+use crate::outs::outs;
 use envstore::{Archive, Shelf};
+use listening::Configured;
 use std::alloc::{AllocError, Global};
 use types::Out;
 
 /// The same, each emitted envelope filed. With an error some envelopes may be filed.
-pub(crate) fn file_all<S: Shelf>(
+fn file_all<S: Shelf>(
     alloc: Global,
     archive: &mut Archive<S>,
     outs: Vec<Out>,
@@ -46,19 +52,23 @@ fn file<S: Shelf>(archive: &mut Archive<S>, out: Out) -> Result<FiledOut, AllocE
     }
 }
 
-/// The same, each emitted envelope filed, with so many whole copies, which are made before. With an error some
-/// envelopes may be filed.
-pub(crate) fn file_copied<S: Shelf>(
+/// What is given out where an event led from one state to another, each emitted envelope filed, with so many whole
+/// copies, which are made before. With an error some envelopes may be filed.
+pub(crate) fn give_out<S: Shelf>(
     alloc: Global,
     archive: &mut Archive<S>,
-    outs: Vec<Out>,
+    configured: &Configured,
+    old: &State<'_>,
+    new: &State<'_>,
     copies: usize,
 ) -> Result<GivenOut, AllocError>
-    ensures outs { IfOk result (λ v. outs_of v.outs.items ≡ outs.items) }
+    requires { SendWellFormed new.now.votes.now }
+    ensures outs { IfOk result (λ v. (before after : List Sent) → outs_of v.outs.items ≡ outs (node_from_parts configured.now old.now.inputs.now old.now.votes.now before) (node_from_parts configured.now new.now.inputs.now new.now.votes.now after)) }
     ensures filed { IfOk result (λ v. AreFiledOuts archive.new v.outs.items) }
     ensures copies { IfOk result (HasCopies copies) }
     ensures kept { Keeps archive.old archive.new }
 {
+    let outs = outs(alloc, configured, old, new)?;
     let copies = copies_of(alloc, &outs, copies)?;
     let outs = file_all(alloc, archive, outs)?;
     Ok(GivenOut { outs, copies })

@@ -1,29 +1,28 @@
 //! A node at a slot.
 
-ghost use Rattle.std.specs.Prelude.{[], ◌≡◌, IfOk, IsFalse, IsTrue, List, None, OnErr, OnOk, Some, is_ok, unwrap_or};
+ghost use Rattle.std.specs.Prelude.{[], ◌≡◌, IfOk, IsFalse, IsTrue, None, OnErr, OnOk, Some, is_ok};
 ghost use Rattle.std.specs.List.{Contains};
-ghost use Rattle.protocol.specs.Nodes.{Calm, change, fresh, outs, after_pass, settle, step, most_passes};
+ghost use Rattle.protocol.specs.Nodes.{Calm, change, fresh, step};
 ghost use Rattle.protocol.specs.Claims.{IsQuiet};
 ghost use Rattle.protocol.specs.Reach.{HoldsReach};
 ghost use Rattle.protocol.specs.Limits.{ComesOfEvents};
 ghost use Rattle.protocol.specs.Sets.{Names, among};
 ghost use Rattle.envstore.specs.Archives.{AreFiled, IsFiled, Keeps, sent_of};
 ghost use Rattle.slot.specs.Filings.{AreFiledOuts, HasCopies, IsFiledEvent, event_of, outs_of};
-ghost use Rattle.slot.specs.Listening.{AddsRowAlone, node_of};
-ghost use Rattle.slot.specs.Stirrings.{IsStart};
-ghost use Rattle.slot.specs.NodeParts.{ChangesTo, IsSentBy, node_from_parts};
+ghost use Rattle.slot.specs.Listening.{AddsRowAlone};
+ghost use Rattle.slot.specs.NodeParts.{ChangesTo, IsSentBy};
 ghost use Rattle.types.specs.Statements.{Sent};
 ghost use Rattle.types.specs.declared.event.NodeEvent.{NodeEvent};
 ghost use Rattle.types.specs.declared.event.Out.TheVariants.{Emit};
 
-use crate::answering::{FiledAnswer, Start, State, set_settled};
-use crate::by_region::{answer, votes_after};
+use crate::answering::{Answer, Start, State, set_settled};
+use crate::by_region::answer;
 use crate::changes::{
     Changed, in_next_round, is_counter_live, is_round_live, with_proposal, with_timeout,
 };
 use crate::filed::{FiledEvent, FiledOut, GivenOut};
-use crate::filing::{file_copied, nothing};
-use crate::outs::{is_externalized, outs};
+use crate::filing::nothing;
+use crate::outs::is_externalized;
 use crate::stirring::{Stirred, put_row};
 use envstore::{Archive, Filed, Places, Shelf};
 use latest::{Put, Table};
@@ -31,6 +30,7 @@ use listening::{Configured, Listener};
 use nomination::leads;
 use std::alloc::{AllocError, Global};
 use std::marker::Model;
+use std::mem;
 use types::{Inputs, Nested, NodeId, Value, Votes};
 
 /// One node at one slot, and all that it knows there.
@@ -296,13 +296,17 @@ impl Node {
         ensures kept { Keeps archive.old archive.new }
     {
         let old_slices = self.listener.exchange_slices(slices);
+        let old = State {
+            inputs: &self.inputs,
+            votes: &self.votes,
+        };
         let start = Start {
             inputs: &self.inputs,
             votes: &self.votes,
             stirred: Stirred::All,
         };
-        match answer_anew(alloc, archive, &mut self.listener, &start, copies) {
-            Ok(FiledAnswer { votes, given_out }) => {
+        match answer(alloc, archive, &mut self.listener, &old, &start, copies) {
+            Ok(Answer { votes, given_out }) => {
                 set_settled(&mut self.votes, votes);
                 Ok(given_out)
             }
@@ -355,13 +359,17 @@ impl Node {
             Put::Stale => Ok(nothing(alloc)),
             Put::NoMemory => Err(AllocError),
             Put::Added | Put::Replaced(_) => {
+                let old = State {
+                    inputs: &self.inputs,
+                    votes: &self.votes,
+                };
                 let start = Start {
                     inputs: &self.inputs,
                     votes: &self.votes,
                     stirred,
                 };
-                match answer_anew(alloc, archive, &mut self.listener, &start, copies) {
-                    Ok(FiledAnswer { votes, given_out }) => {
+                match answer(alloc, archive, &mut self.listener, &old, &start, copies) {
+                    Ok(Answer { votes, given_out }) => {
                         // The row stays, and the way back is let go.
                         drop(put);
                         set_settled(&mut self.votes, votes);
@@ -399,64 +407,30 @@ impl Node {
         let Some(changed) = changed else {
             return Ok(nothing(alloc));
         };
-        let Changed { inputs, votes } = changed;
         let old = State {
             inputs: &self.inputs,
             votes: &self.votes,
         };
         let start = Start {
-            inputs: &inputs,
-            votes: &votes,
+            inputs: &changed.inputs,
+            votes: &changed.votes,
             stirred: Stirred::All,
         };
-        let answered = answer(alloc, archive, &mut self.listener, &old, &start);
-        drop(votes);
-        let answer = answered?;
-        let given_out = file_copied(alloc, archive, answer.outs, copies)?;
-        self.inputs = inputs;
-        self.votes = answer.votes;
-        Ok(given_out)
+        match answer(alloc, archive, &mut self.listener, &old, &start, copies) {
+            Ok(Answer { votes, given_out }) => {
+                let Changed {
+                    inputs,
+                    votes: changed,
+                } = changed;
+                drop(mem::replace(&mut self.votes, changed));
+                drop(mem::replace(&mut self.inputs, inputs));
+                set_settled(&mut self.votes, votes);
+                Ok(given_out)
+            }
+            Err(error) => {
+                drop(changed);
+                Err(error)
+            }
+        }
     }
-}
-
-/// What passes make of a node whose rows or slices are other ones now, and what is given out since its votes
-/// settled, with so many whole copies: nothing where the votes stay. What contracts see of the listener stays as it
-/// was, and an error says that memory is short.
-fn answer_anew<S: Shelf>(
-    alloc: Global,
-    archive: &mut Archive<S>,
-    listener: &mut Listener,
-    start: &Start<'_>,
-    copies: usize,
-) -> Result<FiledAnswer, AllocError>
-    requires rows { AreFiled archive.old listener.old.table }
-    requires start { IsStart start.now.stirred (node_of listener.old start.now.inputs.now start.now.votes.now) }
-    ensures votes { IfOk result (λ a. settle most_passes (after_pass (node_of listener.old start.now.inputs.now start.now.votes.now)) start.now.votes.now ≡ Some (unwrap_or a.votes start.now.votes.now)) }
-    ensures outs { IfOk result (λ a. (before after : List Sent) → outs_of a.given_out.outs.items ≡ outs (node_from_parts listener.old.configured start.now.inputs.now start.now.votes.now before) (node_from_parts listener.old.configured start.now.inputs.now (unwrap_or a.votes start.now.votes.now) after)) }
-    ensures same { listener.new ≡ listener.old }
-    ensures filed { IfOk result (λ a. AreFiledOuts archive.new a.given_out.outs.items) }
-    ensures copies { IfOk result (λ a. HasCopies copies a.given_out) }
-    ensures kept { Keeps archive.old archive.new }
-{
-    let settled = votes_after(alloc, archive, listener, start)?;
-    let Some(votes) = settled else {
-        return Ok(FiledAnswer {
-            votes: None,
-            given_out: nothing(alloc),
-        });
-    };
-    let old = State {
-        inputs: start.inputs,
-        votes: start.votes,
-    };
-    let new = State {
-        inputs: start.inputs,
-        votes: &votes,
-    };
-    let outs = outs(alloc, listener.configuration(), &old, &new)?;
-    let given_out = file_copied(alloc, archive, outs, copies)?;
-    Ok(FiledAnswer {
-        votes: Some(votes),
-        given_out,
-    })
 }

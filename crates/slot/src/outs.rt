@@ -82,25 +82,25 @@ fn push_vote(
     requires { IfSome (sent_vote new.now) IsWellFormed }
     ensures { OnOk result (given_out.new.items ≡ given_out.old.items ++ emitted_by configured.now (sent_vote old.now) (sent_vote new.now)) }
 {
-    if old.is_same(new) {
-        return Ok(());
-    }
     let before = statement_of(&sent_vote(old))?;
-    let after = statement_of(&sent_vote(new))?;
-    push_changed(given_out, configured, &before, after)
+    let pushed = push_changed(given_out, configured, &before, new);
+    drop(before);
+    pushed
 }
 
-/// Adds what is sent now where it is not what would have been sent before.
+/// Adds the ballot statement where it is not what would have been sent before.
 fn push_changed(
     given_out: &mut Vec<Out>,
     configured: &Configured,
     before: &Option<Statement>,
-    after: Option<Statement>,
+    new: &Votes,
 ) -> Result<(), AllocError>
-    requires { IfSome after IsWellFormed }
-    ensures { OnOk result (given_out.new.items ≡ given_out.old.items ++ emitted_by configured.now before.now after) }
+    requires { IfSome (sent_vote new.now) IsWellFormed }
+    ensures { OnOk result (given_out.new.items ≡ given_out.old.items ++ emitted_by configured.now before.now (sent_vote new.now)) }
 {
+    let after = statement_of(&sent_vote(new))?;
     if is_same_sent(before, &after) {
+        drop(after);
         return Ok(());
     }
     push_new(given_out, configured, after)

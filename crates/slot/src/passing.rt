@@ -4,7 +4,7 @@
 
 ghost use Rattle.std.specs.Prelude.{◌≡◌, OnOk};
 ghost use Rattle.drafts.specs.Drafted.{after};
-ghost use Rattle.protocol.specs.Passes.{balloting, counting, pass_rules, voting};
+ghost use Rattle.protocol.specs.Passes.{balloting};
 ghost use Rattle.slot.specs.Stirrings.{part};
 
 use crate::stirring::Stirred;
@@ -29,7 +29,7 @@ pub(crate) struct PassContext<'a, S> {
 /// The part of a pass that is these rules, in their order, each with what the one before it made. In
 /// [`Phase::Externalized`] nothing changes (the Stellar Consensus Protocol draft; the order is this
 /// host's profile).
-#[tactic(auto, unfolding(protocol::specs::Passes::pass, protocol::specs::Passes::balloted_in, protocol::specs::Passes::nominated_in))]
+#[tactic(auto, unfolding(protocol::specs::Passes::pass, protocol::specs::Passes::pass_rules, protocol::specs::Passes::balloted_in, protocol::specs::Passes::nominated_in))]
 pub(crate) fn apply_part<S: Sight>(
     alloc: Global,
     context: &PassContext<'_, S>,
@@ -41,7 +41,10 @@ pub(crate) fn apply_part<S: Sight>(
     match draft.votes().phase {
         Phase::Externalized => Ok(()),
         Phase::Preparing | Phase::Committing => match rules {
-            Stirred::All => pass_rules(alloc, context, draft),
+            Stirred::All => {
+                nominate(alloc, context.own, context.sight, context.inputs, draft)?;
+                balloting(alloc, context.sight, context.inputs, draft)
+            }
             Stirred::Ballots => balloting(alloc, context.sight, context.inputs, draft),
             Stirred::Nominations => nominate(
                 alloc,
@@ -54,20 +57,9 @@ pub(crate) fn apply_part<S: Sight>(
     }
 }
 
-/// Nomination, and then balloting.
-#[tactic(auto, unfolding(protocol::specs::Passes::pass_rules))]
-fn pass_rules<S: Sight>(
-    alloc: Global,
-    context: &PassContext<'_, S>,
-    draft: &mut Draft<'_>,
-) -> Result<(), AllocError>
-    ensures { OnOk result (draft.new ≡ after (pass_rules context.now.own.now (S.seen context.now.sight.now) context.now.inputs.now) draft.old) }
-{
-    nominate(alloc, context.own, context.sight, context.inputs, draft)?;
-    balloting(alloc, context.sight, context.inputs, draft)
-}
-
-/// The first ballot, voting, and counters unless a value was externalized by then.
+/// The first ballot; then what is prepared and what is committed, each accepted and then confirmed; and unless a
+/// value was externalized by then the counters, raised first and then armed.
+#[tactic(auto, unfolding(protocol::specs::Passes::voting, protocol::specs::Passes::counting))]
 fn balloting<S: Sight>(
     alloc: Global,
     sight: &S,
@@ -77,34 +69,15 @@ fn balloting<S: Sight>(
     ensures { OnOk result (draft.new ≡ after (balloting (S.seen sight.now) inputs.now) draft.old) }
 {
     start(alloc, sight, draft)?;
-    voting(alloc, sight, draft)?;
-    match draft.votes().phase {
-        Phase::Externalized => Ok(()),
-        Phase::Preparing | Phase::Committing => counting(alloc, sight, inputs, draft),
-    }
-}
-
-/// What is prepared and what is committed: each accepted, then confirmed.
-#[tactic(auto, unfolding(protocol::specs::Passes::voting))]
-fn voting<S: Sight>(alloc: Global, sight: &S, draft: &mut Draft<'_>) -> Result<(), AllocError>
-    ensures { OnOk result (draft.new ≡ after (voting (S.seen sight.now)) draft.old) }
-{
     accept_prepared(alloc, sight, draft)?;
     confirm_prepared(alloc, sight, draft)?;
     accept_commit(alloc, sight, draft)?;
-    confirm_commit(alloc, sight, draft)
-}
-
-/// The counters: raised first, then armed.
-#[tactic(auto, unfolding(protocol::specs::Passes::counting))]
-fn counting<S: Sight>(
-    alloc: Global,
-    sight: &S,
-    inputs: &Inputs,
-    draft: &mut Draft<'_>,
-) -> Result<(), AllocError>
-    ensures { OnOk result (draft.new ≡ after (counting (S.seen sight.now) inputs.now) draft.old) }
-{
-    raise(alloc, sight, inputs, draft)?;
-    arm(alloc, sight, draft)
+    confirm_commit(alloc, sight, draft)?;
+    match draft.votes().phase {
+        Phase::Externalized => Ok(()),
+        Phase::Preparing | Phase::Committing => {
+            raise(alloc, sight, inputs, draft)?;
+            arm(alloc, sight, draft)
+        }
+    }
 }

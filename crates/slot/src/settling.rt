@@ -9,6 +9,7 @@ ghost use Rattle.protocol.specs.Stirring.{settle_after, settle_nominations};
 ghost use Rattle.slot.specs.Differences.{IsDifference};
 ghost use Rattle.slot.specs.Stirrings.{Stirs, part};
 
+use crate::answering::set_settled;
 use crate::passing::{PassContext, apply_part};
 use crate::stirring::Stirred;
 use drafts::Draft;
@@ -88,9 +89,16 @@ fn ballot_from<S: Sight>(
 ) -> Result<Votes, AllocError>
     ensures { IfOk result (λ w. w ≡ balloted_in (S.seen context.now.sight.now) context.now.inputs.now votes) }
 {
-    match difference_by(alloc, context, &votes, Stirred::Ballots)? {
-        None => Ok(votes),
-        Some(next) => Ok(next),
+    match difference_by(alloc, context, &votes, Stirred::Ballots) {
+        Ok(None) => Ok(votes),
+        Ok(Some(next)) => {
+            drop(votes);
+            Ok(next)
+        }
+        Err(error) => {
+            drop(votes);
+            Err(error)
+        }
     }
 }
 
@@ -120,11 +128,16 @@ fn settle_on<S: Sight>(
 {
     let mut settled = votes;
     for number in 1..MOST_PASSES {
-        let Some(next) = difference_by(alloc, context, &settled, Stirred::Ballots)? else {
-            return Ok(Some(settled));
-        };
-        settled = next;
+        match difference_by(alloc, context, &settled, Stirred::Ballots) {
+            Ok(None) => return Ok(Some(settled)),
+            Ok(Some(next)) => set_settled(&mut settled, Some(next)),
+            Err(error) => {
+                drop(settled);
+                return Err(error);
+            }
+        }
     }
+    drop(settled);
     Ok(None)
 }
 
@@ -138,10 +151,13 @@ fn difference_by<S: Sight>(
     ensures { IfOk result (IsDifference votes.now (part rules context.now.own.now (S.seen context.now.sight.now) context.now.inputs.now votes.now)) }
 {
     let mut draft = Draft::of(votes);
-    apply_part(alloc, context, rules, &mut draft)?;
-    let changed = draft.into_changed();
-    let difference = unless_same(changed, votes);
-    Ok(difference)
+    match apply_part(alloc, context, rules, &mut draft) {
+        Ok(()) => Ok(unless_same(draft.into_changed(), votes)),
+        Err(error) => {
+            drop(draft);
+            Err(error)
+        }
+    }
 }
 
 /// Votes that were changed, unless they are the same as before after all.
@@ -152,6 +168,7 @@ fn unless_same(changed: Option<Votes>, before: &Votes) -> Option<Votes>
         return None;
     };
     if changed.is_same(before) {
+        drop(changed);
         return None;
     }
     Some(changed)

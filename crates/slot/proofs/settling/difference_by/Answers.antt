@@ -5,12 +5,12 @@ use Rattle.slot.specs.Differences.{IsDifference}
 use Rattle.slot.specs.Stirrings.{part}
 use Rattle.slot.proofs.settling.difference_by.Goals as goal
 
-pub returns : goal.returns
-returns g c =
+pub returns-in-Ok : goal.returns-in-Ok
+returns-in-Ok g c =
     let w = c.args.votes.now in
     let f = part c.args.rules c.args.context.now.own.now (g.S.Sight.seen c.args.context.now.sight.now) c.args.context.now.inputs.now in
-    let done = c.in_ok-apply_part.ensures ∙ ap (after f) c.of-draft.ensures in
-    let P : Drafted → Type 0 = λ d. unwrap_or c.into_changed-changed.result d.before ≡ d.now in
-    let now : unwrap_or c.into_changed-changed.result w ≡ f w = subst P done c.into_changed-changed.ensures in
-    let Q : Votes → Type 0 = λ u. IsDifference w u c.unless_same-difference.result in
-    subst Q now c.unless_same-difference.ensures
+    let done = c.in-Ok.ensures ∙ ap (after f) c.of-draft.ensures in
+    let P : Drafted → Type 0 = λ d. unwrap_or c.into_changed.result d.before ≡ d.now in
+    let now : unwrap_or c.into_changed.result w ≡ f w = subst P done c.into_changed.ensures in
+    let Q : Votes → Type 0 = λ u. IsDifference w u c.unless_same.result in
+    subst Q now c.unless_same.ensures

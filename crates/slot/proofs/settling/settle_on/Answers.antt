@@ -6,19 +6,19 @@ use Rattle.slot.specs.Differences.{IsDifference}
 use Rattle.slot.proofs.Settles.{settle-same, settle-other, settle-end}
 use Rattle.slot.proofs.settling.settle_on.Goals as goal
 
-pub returns-in_default : goal.returns-in_default
-returns-in_default g c =
+pub returns-in-Ok-None : goal.returns-in-Ok-None
+returns-in-Ok-None g c =
     let f = balloted_in (g.S.Sight.seen c.args.context.now.sight.now) c.args.context.now.inputs.now in
     let w = c.loop-number.settled in
-    let same = subst (IsDifference w (f w)) c.in_default.is c.in_ok-next.ensures in
+    let same = subst (IsDifference w (f w)) c.in-Ok-None.field-0-is c.in-Ok-None.ensures in
     sym (settle-same c.loop-number.number f w (omega arith) same) ∙ c.loop-number.invariant
 
 pub loop-number-preserved : goal.loop-number-preserved
 loop-number-preserved g c =
     let f = balloted_in (g.S.Sight.seen c.args.context.now.sight.now) c.args.context.now.inputs.now in
     let w = c.loop-number.settled in
-    let made = subst (IsDifference w (f w)) c.in-Some.is c.in_ok-next.ensures in
-    ap (λ (u : Votes). settle (most_passes - (c.loop-number.number + 1)) f u) made.0 ∙ sym (settle-other c.loop-number.number f w (omega arith) made.1) ∙ c.loop-number.invariant
+    let made = subst (IsDifference w (f w)) c.in-Ok-Some.field-0-is c.in-Ok-Some.ensures in
+    ap (λ (u : Votes). settle (most_passes - (c.loop-number.number + 1)) f u) (c.set_settled.ensures ∙ made.0) ∙ sym (settle-other c.loop-number.number f w (omega arith) made.1) ∙ c.loop-number.invariant
 
 pub returns : goal.returns
 returns g c =
