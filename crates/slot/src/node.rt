@@ -88,10 +88,12 @@ impl Node {
         requires { AreFiled archive.now self.now.rows }
         ensures { IfOk result (λ n. n ≡ self.now) }
     {
+        let inputs = self.inputs.try_copy(alloc)?;
+        let votes = self.votes.try_copy()?;
         Ok(Node {
             listener: self.listener.try_copy(alloc, archive)?,
-            inputs: self.inputs.try_copy(alloc)?,
-            votes: self.votes.try_copy()?,
+            inputs,
+            votes,
         })
     }
 
@@ -214,8 +216,13 @@ impl Node {
         ensures kept { Keeps archive.old archive.new }
     {
         let mut node = self.try_copy(alloc, archive)?;
-        let GivenOut { outs, copies: _ } = node.advance(alloc, archive, event, 0)?;
-        Ok((node, outs))
+        match node.advance(alloc, archive, event, 0) {
+            Ok(GivenOut { outs, copies: _ }) => Ok((node, outs)),
+            Err(error) => {
+                drop(node);
+                Err(error)
+            }
+        }
     }
 
     /// A law: events led to it.
