@@ -90,11 +90,18 @@ impl Node {
     {
         let inputs = self.inputs.try_copy(alloc)?;
         let votes = self.votes.try_copy()?;
-        Ok(Node {
-            listener: self.listener.try_copy(alloc, archive)?,
-            inputs,
-            votes,
-        })
+        match self.listener.try_copy(alloc, archive) {
+            Ok(listener) => Ok(Node {
+                listener,
+                inputs,
+                votes,
+            }),
+            Err(error) => {
+                drop(inputs);
+                drop(votes);
+                Err(error)
+            }
+        }
     }
 
     /// Its name.

@@ -53,6 +53,11 @@ pub(crate) fn envelope_of(
     requires { IsWellFormed statement }
     ensures { IfOk result (λ e. e ≡ sent_by configured.now statement) }
 {
-    let slices = configured.slices.try_copy()?;
-    Ok(Envelope::of(configured.name, configured.slot, slices, statement))
+    match configured.slices.try_copy() {
+        Ok(slices) => Ok(Envelope::of(configured.name, configured.slot, slices, statement)),
+        Err(error) => {
+            drop(statement);
+            Err(error)
+        }
+    }
 }
