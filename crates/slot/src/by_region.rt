@@ -12,7 +12,7 @@ ghost use Rattle.types.specs.Statements.{Sent};
 ghost use Rattle.view.specs.Knowing.{IsKnown};
 
 use crate::answering::{Answer, Start, State, rests, settled_votes, votes_or};
-use crate::filing::give_out;
+use crate::filing::{give_out, nothing};
 use crate::stirring::Stirred;
 use envstore::{Archive, Places, Shelf};
 use latest::Rows;
@@ -47,6 +47,50 @@ pub(crate) fn answer<S: Shelf>(
     };
     match give_out(alloc, archive, listener.configuration(), old, &new, copies) {
         Ok(given_out) => Ok(Answer { votes, given_out }),
+        Err(error) => {
+            drop(votes);
+            Err(error)
+        }
+    }
+}
+
+/// The same where the rows or the slices alone are other ones: where the votes stay nothing is compared, since nothing is
+/// given out.
+pub(crate) fn answer_anew<S: Shelf>(
+    alloc: Global,
+    archive: &mut Archive<S>,
+    listener: &mut Listener,
+    start: &Start<'_>,
+    copies: usize,
+) -> Result<Answer, AllocError>
+    requires rows { AreFiled archive.old listener.old.table }
+    requires start { IsStart start.now.stirred (node_of listener.old start.now.inputs.now start.now.votes.now) }
+    ensures votes { IfOk result (λ a. settle most_passes (after_pass (node_of listener.old start.now.inputs.now start.now.votes.now)) start.now.votes.now ≡ Some (unwrap_or a.votes start.now.votes.now)) }
+    ensures outs { IfOk result (λ a. (before after : List Sent) → outs_of a.given_out.outs.items ≡ outs (node_from_parts listener.old.configured start.now.inputs.now start.now.votes.now before) (node_from_parts listener.old.configured start.now.inputs.now (unwrap_or a.votes start.now.votes.now) after)) }
+    ensures same { listener.new ≡ listener.old }
+    ensures filed { IfOk result (λ a. AreFiledOuts archive.new a.given_out.outs.items) }
+    ensures copies { IfOk result (λ a. HasCopies copies a.given_out) }
+    ensures kept { Keeps archive.old archive.new }
+{
+    let Some(votes) = votes_after(alloc, archive, listener, start)? else {
+        return Ok(Answer {
+            votes: None,
+            given_out: nothing(alloc),
+        });
+    };
+    let old = State {
+        inputs: start.inputs,
+        votes: start.votes,
+    };
+    let new = State {
+        inputs: start.inputs,
+        votes: &votes,
+    };
+    match give_out(alloc, archive, listener.configuration(), &old, &new, copies) {
+        Ok(given_out) => Ok(Answer {
+            votes: Some(votes),
+            given_out,
+        }),
         Err(error) => {
             drop(votes);
             Err(error)

@@ -16,7 +16,7 @@ ghost use Rattle.types.specs.declared.event.NodeEvent.{NodeEvent};
 ghost use Rattle.types.specs.declared.event.Out.TheVariants.{Emit};
 
 use crate::answering::{Answer, Start, State, set_settled};
-use crate::by_region::answer;
+use crate::by_region::{answer, answer_anew};
 use crate::changes::{
     Changed, in_next_round, is_counter_live, is_round_live, with_proposal, with_timeout,
 };
@@ -310,16 +310,12 @@ impl Node {
         ensures kept { Keeps archive.old archive.new }
     {
         let old_slices = self.listener.exchange_slices(slices);
-        let old = State {
-            inputs: &self.inputs,
-            votes: &self.votes,
-        };
         let start = Start {
             inputs: &self.inputs,
             votes: &self.votes,
             stirred: Stirred::All,
         };
-        match answer(alloc, archive, &mut self.listener, &old, &start, copies) {
+        match answer_anew(alloc, archive, &mut self.listener, &start, copies) {
             Ok(Answer { votes, given_out }) => {
                 set_settled(&mut self.votes, votes);
                 Ok(given_out)
@@ -373,16 +369,12 @@ impl Node {
             Put::Stale => Ok(nothing(alloc)),
             Put::NoMemory => Err(AllocError),
             Put::Added | Put::Replaced(_) => {
-                let old = State {
-                    inputs: &self.inputs,
-                    votes: &self.votes,
-                };
                 let start = Start {
                     inputs: &self.inputs,
                     votes: &self.votes,
                     stirred,
                 };
-                match answer(alloc, archive, &mut self.listener, &old, &start, copies) {
+                match answer_anew(alloc, archive, &mut self.listener, &start, copies) {
                     Ok(Answer { votes, given_out }) => {
                         // The row stays, and the way back is let go.
                         drop(put);

@@ -23,20 +23,20 @@ changed g c =
       is = change-slices i.listener c.exchange_slices-old_slices.new.self i.inputs i.votes c.args.self.now.node c.args.slices (ap node_in c.self.view_is) c.exchange_slices-old_slices.ensures.now;
     }
 
-pub answer-requires-clause-start : goal.answer-requires-clause-start
-answer-requires-clause-start g c = start-all _ (changed g (goal.at.answer-requires-clause-start g c).After-exchange_slices-old_slices)
+pub answer_anew-requires-clause-start : goal.answer_anew-requires-clause-start
+answer_anew-requires-clause-start g c = start-all _ (changed g (goal.at.answer_anew-requires-clause-start g c).After-exchange_slices-old_slices)
 
 pub invariant_of-self : goal.invariant_of-self
 invariant_of-self g c =
     let i = c.self.inside in
     let d = changed g (goal.at.invariant_of-self g c).After-exchange_slices-old_slices in
-    reached-after c.exchange_slices-old_slices.new.self i.inputs i.votes d c.answer.new.listener c.set_settled.new.votes (unwrap_or c.in-Ok.field-0.votes i.votes) c.in-Ok.ensures.votes c.answer.ensures.same c.set_settled.ensures
+    reached-after c.exchange_slices-old_slices.new.self i.inputs i.votes d c.answer_anew.new.listener c.set_settled.new.votes (unwrap_or c.in-Ok.field-0.votes i.votes) c.in-Ok.ensures.votes c.answer_anew.ensures.same c.set_settled.ensures
 
 pub returns-in-Ok-clause-node : goal.returns-in-Ok-clause-node
 returns-in-Ok-clause-node g c =
     let i = c.self.inside in
     let d = changed g (goal.at.returns-in-Ok-clause-node g c).After-exchange_slices-old_slices in
-    node-after c.exchange_slices-old_slices.new.self i.inputs i.votes d c.answer.new.listener c.set_settled.new.votes (unwrap_or c.in-Ok.field-0.votes i.votes) c.in-Ok.ensures.votes c.answer.ensures.same c.set_settled.ensures
+    node-after c.exchange_slices-old_slices.new.self i.inputs i.votes d c.answer_anew.new.listener c.set_settled.new.votes (unwrap_or c.in-Ok.field-0.votes i.votes) c.in-Ok.ensures.votes c.answer_anew.ensures.same c.set_settled.ensures
 
 pub returns-in-Ok-clause-outs : goal.returns-in-Ok-clause-outs
 returns-in-Ok-clause-outs g c =
@@ -48,5 +48,5 @@ pub returns-in-Ok-clause-rows : goal.returns-in-Ok-clause-rows
 returns-in-Ok-clause-rows g c =
     let i = c.self.inside in
     let before = subst (λ (h : Held). AreFiled c.args.archive.now h.rows) (sym c.self.view_is) c.requires.rows in
-    let kept = keeps_all c.args.archive.now c.answer.new.archive i.listener.table c.answer.ensures.kept before in
-    subst (λ (h : ListenerState). AreFiled c.answer.new.archive h.table) (sym (c.answer.ensures.same ∙ c.exchange_slices-old_slices.ensures.now)) kept
+    let kept = keeps_all c.args.archive.now c.answer_anew.new.archive i.listener.table c.answer_anew.ensures.kept before in
+    subst (λ (h : ListenerState). AreFiled c.answer_anew.new.archive h.table) (sym (c.answer_anew.ensures.same ∙ c.exchange_slices-old_slices.ensures.now)) kept

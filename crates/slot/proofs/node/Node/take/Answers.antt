@@ -60,19 +60,19 @@ changed g c =
       is = change-put i.listener c.put_row-put.new.listener i.inputs i.votes c.args.self.now.node (sent_of c.args.envelope) c.put_row-put.result.0 (ap node_in c.self.view_is) c.put_row-put.ensures.put c.put_row-put.ensures.same c.in-Added.is;
     }
 
-pub answer-requires-clause-start : goal.answer-requires-clause-start
-answer-requires-clause-start g c =
+pub answer_anew-requires-clause-start : goal.answer_anew-requires-clause-start
+answer_anew-requires-clause-start g c =
     let i = c.self.inside in
     let x = sent_of c.args.envelope in
     let taken = put-takes i.listener.table c.put_row-put.new.listener.table x c.put_row-put.result.0 c.put_row-put.ensures.put c.in-Added.is in
-    let d = changed g (goal.at.answer-requires-clause-start g c).In-Added in
+    let d = changed g (goal.at.answer_anew-requires-clause-start g c).In-Added in
     start-row i.listener c.put_row-put.new.listener i.inputs i.votes x c.put_row-put.result.1 c.self.invariant c.put_row-put.ensures.same taken.1 d c.put_row-put.ensures.stirs
 
 pub invariant_of-self-in-Ok : goal.invariant_of-self-in-Ok
 invariant_of-self-in-Ok g c =
     let i = c.self.inside in
     let d = changed g (goal.at.invariant_of-self-in-Ok g c).In-Added in
-    reached-after c.put_row-put.new.listener i.inputs i.votes d c.answer.new.listener c.set_settled.new.votes (unwrap_or c.in-Ok.field-0.votes i.votes) c.in-Ok.ensures.votes c.answer.ensures.same c.set_settled.ensures
+    reached-after c.put_row-put.new.listener i.inputs i.votes d c.answer_anew.new.listener c.set_settled.new.votes (unwrap_or c.in-Ok.field-0.votes i.votes) c.in-Ok.ensures.votes c.answer_anew.ensures.same c.set_settled.ensures
 
 pub returns-in-Stale-clause-node : goal.returns-in-Stale-clause-node
 returns-in-Stale-clause-node g c =
@@ -88,7 +88,7 @@ pub returns-in-Ok-clause-node : goal.returns-in-Ok-clause-node
 returns-in-Ok-clause-node g c =
     let i = c.self.inside in
     let d = changed g (goal.at.returns-in-Ok-clause-node g c).In-Added in
-    node-after c.put_row-put.new.listener i.inputs i.votes d c.answer.new.listener c.set_settled.new.votes (unwrap_or c.in-Ok.field-0.votes i.votes) c.in-Ok.ensures.votes c.answer.ensures.same c.set_settled.ensures
+    node-after c.put_row-put.new.listener i.inputs i.votes d c.answer_anew.new.listener c.set_settled.new.votes (unwrap_or c.in-Ok.field-0.votes i.votes) c.in-Ok.ensures.votes c.answer_anew.ensures.same c.set_settled.ensures
 
 pub returns-in-Ok-clause-outs : goal.returns-in-Ok-clause-outs
 returns-in-Ok-clause-outs g c =
