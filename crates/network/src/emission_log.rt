@@ -134,10 +134,10 @@ impl EmissionLog {
         let alloc = *self.room.allocator();
         let mut marks = mem::replace(&mut self.room, Vec::new(alloc));
         marks.clear();
-        marks.reserve(MOST_EMISSIONS)?;
-        self.emitted.reserve(MOST_EMISSIONS)?;
-        self.places.nominations.reserve(MOST_EMISSIONS)?;
-        self.places.ballots.reserve(MOST_EMISSIONS)?;
+        let Ok(()) = make_room(&mut self.emitted, &mut self.places, &mut marks) else {
+            drop(event);
+            return Err(AllocError);
+        };
         let given_out = node.advance(alloc, archive, event, copies)?;
         log_outs(
             archive,
@@ -152,6 +152,24 @@ impl EmissionLog {
             copies: given_out.copies,
         })
     }
+}
+
+/// Makes room for the emissions of one event.
+fn make_room(
+    emitted: &mut Vec<Filed>,
+    places: &mut PlacesByKind,
+    marks: &mut Vec<u64>,
+) -> Result<(), AllocError>
+    ensures emitted { emitted.new.items ≡ emitted.old.items }
+    ensures nominations { places.new.nominations.items ≡ places.old.nominations.items }
+    ensures ballots { places.new.ballots.items ≡ places.old.ballots.items }
+    ensures marks { marks.new.items ≡ marks.old.items }
+    ensures room { OnOk result (HaveRoom 2 emitted.new places.new marks.new) }
+{
+    marks.reserve(MOST_EMISSIONS)?;
+    emitted.reserve(MOST_EMISSIONS)?;
+    places.nominations.reserve(MOST_EMISSIONS)?;
+    places.ballots.reserve(MOST_EMISSIONS)
 }
 
 /// The numbers, where there are any; the room of none is kept.

@@ -1,11 +1,13 @@
 //! What is to be done where an envelope reaches a node, delivered or heard, or why it is refused.
 
-ghost use Rattle.std.specs.Prelude.{◌≡◌, IfOk, Some, length, ℕ};
+ghost use Rattle.std.specs.Prelude.{◌≡◌, IfOk, MatchResult, Some, length, ℕ};
 ghost use Rattle.protocol.specs.Networks.Reading.{Read};
 ghost use Rattle.protocol.specs.Networks.Step.{Delivers, Hears};
 ghost use Rattle.configuration.specs.Configs.{index_of_name};
 ghost use Rattle.network.specs.Decoding.{reading};
-ghost use Rattle.network.specs.Deeds.{IsPairRoom, IsPaired, IsPlanned, IsSlotThere};
+ghost use Rattle.network.specs.Deeds.{IsPairRoom, IsPaired, IsPlan, IsPlanned, IsSlotThere};
+ghost use Rattle.network.specs.Standing.{IsRefusal, machine_of};
+ghost use Rattle.network.specs.declared.plan.Deed.TheVariants.{Hand};
 
 use crate::network::Network;
 use crate::plan::{Deed, Drawn, Emission, Plan, Spot};
@@ -25,21 +27,37 @@ impl<S: Shelf> Network<S> {
             Err(_) => Err(Refusal::NoMemory),
             Ok(Reading::Faulty(number)) => Err(Refusal::BadEnvelope(number)),
             Ok(Reading::Says(envelope)) => {
-                self.plan_envelope(node_at, node, envelope, bytes.len() as u64)
+                let size = bytes.len() as u64;
+                match self.envelope_room(node_at, node, &envelope, size) {
+                    Err(refusal) => {
+                        drop(envelope);
+                        Err(refusal)
+                    }
+                    Ok((slot_at, drawn)) => Ok(Plan {
+                        deed: Deed::Hand {
+                            slot_at,
+                            node_at,
+                            envelope,
+                        },
+                        drawn,
+                        size,
+                    }),
+                }
             }
         }
     }
 
-    /// What is to be done where an envelope of so many bytes reaches a node.
-    fn plan_envelope(
+    /// The place of the slot of an envelope of so many bytes that reaches a node, and on what it draws, where
+    /// nothing refuses it.
+    fn envelope_room(
         &self,
         node_at: usize,
         node: &NodeId,
-        envelope: Envelope,
+        envelope: &Envelope,
         size: u64,
-    ) -> Result<Plan, Refusal>
+    ) -> Result<(usize, Drawn), Refusal>
         requires { index_of_name self.now.config.nodes node.now ≡ Some node_at }
-        ensures { IsPlanned self.now (Delivers node.now size (Read envelope)) result }
+        ensures { MatchResult result (λ r. IsPlan self.now (Delivers node.now size (Read envelope.now)) (record { deed = Hand r.0 node_at envelope.now; drawn = r.1; size = size })) (IsRefusal (machine_of self.now) (Delivers node.now size (Read envelope.now))) }
     {
         let _slots = &self.slots;
         if self.config.place(envelope.sender()).is_some() {
@@ -49,15 +67,7 @@ impl<S: Shelf> Network<S> {
         let spot = Spot { slot_at, node_at };
         let drawn = self.pair_room(&spot, node, envelope.sender())?;
         self.has_room_for_bytes(&drawn, size)?;
-        Ok(Plan {
-            deed: Deed::Hand {
-                slot_at,
-                node_at,
-                envelope,
-            },
-            drawn,
-            size,
-        })
+        Ok((slot_at, drawn))
     }
 
     /// What is to be done where a node hears what another one has emitted.

@@ -126,7 +126,10 @@ impl Instance {
             own,
             heard,
         } = self;
-        heard.make_room(&terms.charge.drawn)?;
+        let Ok(()) = heard.make_room(&terms.charge.drawn) else {
+            drop(event);
+            return Err(AllocError);
+        };
         let noted = emitted.advance(archive, node, event, terms.copies)?;
         count(own, heard, &terms.charge);
         Ok(noted)

@@ -29,7 +29,7 @@ pub(crate) enum Deed {
 }
 
 /// On what an event draws, by places.
-#[derive(Drop)]
+#[derive(Clone, Copy)]
 pub(crate) enum Drawn {
     /// The budgets of the network.
     Budgets,
@@ -56,14 +56,14 @@ pub(crate) struct Spot {
 }
 
 /// On what an event draws, and the bytes that count as delivered by it.
-#[derive(Drop)]
+#[derive(Clone, Copy)]
 pub(crate) struct Charge {
     pub drawn: Drawn,
     pub size: u64,
 }
 
 /// The terms of a deed: what it is charged, and how many whole copies of what it gives out are asked for.
-#[derive(Drop)]
+#[derive(Clone, Copy)]
 pub(crate) struct Terms {
     pub charge: Charge,
     pub copies: usize,

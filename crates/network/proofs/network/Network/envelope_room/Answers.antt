@@ -2,19 +2,17 @@ use Rattle.std.proofs.Common.{rules, ◌≡◌, ◌∙◌, true, false, None, is
 use Rattle.configuration.specs.Configs.{index_of_name}
 use Rattle.network.specs.Lodgings.{slot_of}
 use Rattle.types.specs.declared.event.Refusal.TheVariants.{SlotNotOpen}
-use Rattle.protocol.specs.Networks.Reading.{Read}
-use Rattle.protocol.specs.Networks.Step.{Delivers}
-use Rattle.network.specs.Deeds.{IsPlanned, index_of_slot}
+use Rattle.network.specs.Deeds.{index_of_slot}
 use Rattle.network.specs.Standing.{IsStanding, machine_of}
 use Rattle.network.proofs.Handings.{envelope-closed, envelope-full, envelope-large, envelope-plan, reaching, sender-hosted-so, sender-room}
 use Rattle.network.proofs.Openings.{none-so}
-use Rattle.network.proofs.network.Network.plan_envelope.Goals as goal
+use Rattle.network.proofs.network.Network.envelope_room.Goals as goal
 
 pub returns-then-is_some : goal.returns-then-is_some
 returns-then-is_some g c =
     let m = c.args.self.now in
     let u = c.args.node.now in
-    let env = c.args.envelope in
+    let env = c.args.envelope.now in
     let t : is_some (index_of_name m.config.nodes env.sender) ≡ true = search rules in
     sender-hosted-so m u c.args.node_at c.args.size env c.requires t
 
@@ -22,34 +20,34 @@ pub returns-in_err-slot_at : goal.returns-in_err-slot_at
 returns-in_err-slot_at g c =
     let m = c.args.self.now in
     let u = c.args.node.now in
-    let env = c.args.envelope in
+    let env = c.args.envelope.now in
     let f : is_some (index_of_name m.config.nodes env.sender) ≡ false = search rules in
     let free = none-so (index_of_name m.config.nodes env.sender) f in
     let e : c.from_residual.result ≡ Err SlotNotOpen = search rules in
     let closed : index_of_slot (map slot_of (machine_of m).slots) env.slot ≡ None = ap (λ i. index_of_slot (map slot_of (machine_of m).slots) i) (sym c.slot.ensures) ∙ c.in_err-slot_at.ensures.1 in
-    subst (IsPlanned m (Delivers u c.args.size (Read env))) (sym e) (envelope-closed m u c.args.node_at c.args.size env c.requires free closed)
+    rw e (envelope-closed m u c.args.node_at c.args.size env c.requires free closed)
 
 pub returns-in_err-drawn : goal.returns-in_err-drawn
 returns-in_err-drawn g c =
     let a = c.args in
-    let reach = reaching a.self.now a.node.now a.node_at c.in_ok-slot_at.slot_at c.slot.result a.envelope c.requires (search rules) c.slot.ensures c.in_ok-slot_at.ensures in
+    let reach = reaching a.self.now a.node.now a.node_at c.in_ok-slot_at.slot_at c.slot.result a.envelope.now c.requires (search rules) c.slot.ensures c.in_ok-slot_at.ensures in
     let r = c.in_err-drawn.field-0.0 in
     let e : c.from_residual-in_err-drawn.result ≡ Err r = search rules in
     let full = sender-room reach (Err r) c.sender-2.ensures.value c.in_err-drawn.ensures.room in
-    subst (IsPlanned a.self.now (Delivers a.node.now a.size (Read a.envelope))) (sym e) (envelope-full a.size r reach full)
+    rw e (envelope-full a.size r reach full)
 
 pub returns-in_err-has_room_for_bytes : goal.returns-in_err-has_room_for_bytes
 returns-in_err-has_room_for_bytes g c =
     let a = c.args in
-    let reach = reaching a.self.now a.node.now a.node_at c.in_ok-slot_at.slot_at c.slot.result a.envelope c.requires (search rules) c.slot.ensures c.in_ok-slot_at.ensures in
+    let reach = reaching a.self.now a.node.now a.node_at c.in_ok-slot_at.slot_at c.slot.result a.envelope.now c.requires (search rules) c.slot.ensures c.in_ok-slot_at.ensures in
     let room = sender-room reach (Ok c.in_ok-drawn.drawn) c.sender-2.ensures.value c.in_ok-drawn.ensures.room in
     let r = c.in_err-has_room_for_bytes.field-0.0 in
     let e : c.from_residual-in_err-has_room_for_bytes.result ≡ Err r = search rules in
-    subst (IsPlanned a.self.now (Delivers a.node.now a.size (Read a.envelope))) (sym e) (envelope-large a.size c.in_ok-drawn.drawn r reach room c.in_err-has_room_for_bytes.ensures)
+    rw e (envelope-large a.size c.in_ok-drawn.drawn r reach room c.in_err-has_room_for_bytes.ensures)
 
 pub returns : goal.returns
 returns g c =
     let a = c.args in
-    let reach = reaching a.self.now a.node.now a.node_at c.in_ok-slot_at.slot_at c.slot.result a.envelope c.requires (search rules) c.slot.ensures c.in_ok-slot_at.ensures in
+    let reach = reaching a.self.now a.node.now a.node_at c.in_ok-slot_at.slot_at c.slot.result a.envelope.now c.requires (search rules) c.slot.ensures c.in_ok-slot_at.ensures in
     let room = sender-room reach (Ok c.in_ok-drawn.drawn) c.sender-2.ensures.value c.in_ok-drawn.ensures.room in
     envelope-plan a.size c.in_ok-drawn.drawn (subst IsStanding c.self.view_is c.self.invariant) reach room c.in_ok-has_room_for_bytes.ensures
