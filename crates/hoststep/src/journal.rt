@@ -145,17 +145,26 @@ impl<S: Shelf> Journal<S> {
         let number = self.entries.len();
         let Ok(copy) = event.try_copy(self.alloc) else {
             // Memory: the copy has none; a refusal that applies comes first.
-            return Err(self.refusal(&event));
+            let refusal = self.refusal(&event);
+            drop(event);
+            return Err(refusal);
         };
-        let entered = self.enter(copy, 2)?;
-        let (outs, answer) = both_copies(entered.copies);
-        Ok(Recorded {
-            number,
-            event,
-            outs,
-            marks: entered.marks,
-            answer,
-        })
+        match self.enter(copy, 2) {
+            Err(refusal) => {
+                drop(event);
+                Err(refusal)
+            }
+            Ok(entered) => {
+                let (outs, answer) = both_copies(entered.copies);
+                Ok(Recorded {
+                    number,
+                    event,
+                    outs,
+                    marks: entered.marks,
+                    answer,
+                })
+            }
+        }
     }
 
     /// One event, entered where it is not refused, with so many whole copies of what it gives out. An error
@@ -171,19 +180,28 @@ impl<S: Shelf> Journal<S> {
             || self.room.make(self.alloc, &event).is_err()
         {
             // Memory: the entry has no room; a refusal that applies comes first.
-            return Err(self.refusal(&event));
+            let refusal = self.refusal(&event);
+            drop(event);
+            return Err(refusal);
         }
-        let applied = self.network.apply(&event, copies)?;
-        let Outcome {
-            outs,
-            marks,
-            copies,
-            delivered,
-        } = applied;
-        let event = kept_event(self.network.config(), &mut self.room, event, delivered);
-        let outs = KeptOuts::put(&mut self.given, self.entries.len(), outs);
-        self.entries.push_reserved(StoredEntry { event, outs });
-        Ok(Entered { marks, copies })
+        match self.network.apply(&event, copies) {
+            Err(refusal) => {
+                drop(event);
+                Err(refusal)
+            }
+            Ok(applied) => {
+                let Outcome {
+                    outs,
+                    marks,
+                    copies,
+                    delivered,
+                } = applied;
+                let event = kept_event(self.network.config(), &mut self.room, event, delivered);
+                let outs = KeptOuts::put(&mut self.given, self.entries.len(), outs);
+                self.entries.push_reserved(StoredEntry { event, outs });
+                Ok(Entered { marks, copies })
+            }
+        }
     }
 
     /// The entry of this number, made from the places of its envelopes: the event, a delivery with its bytes,
@@ -198,9 +216,9 @@ impl<S: Shelf> Journal<S> {
         match entry_at(&self.network, &self.given, &self.entries, number) {
             None => Ok(None),
             Some(kept) => {
-                let event = whole_event(alloc, &self.network, kept.event)?;
                 let mut outs = Vec::with_capacity(alloc, kept.outs.len())?;
                 push_whole_outs(alloc, &self.network, kept.outs, &mut outs)?;
+                let event = whole_event(alloc, &self.network, kept.event)?;
                 Ok(Some((event, outs)))
             }
         }

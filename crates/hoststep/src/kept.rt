@@ -122,7 +122,9 @@ pub(crate) fn kept_event(
     if is_large(&event) {
         return KeptEvent::Large(room.fill(event));
     }
-    kept_small(config, &event, delivered)
+    let kept = kept_small(config, &event, delivered);
+    drop(event);
+    kept
 }
 
 /// An event that is not large, as it is kept.

@@ -63,7 +63,9 @@ impl<S: Shelf> NetMachine<S> {
         ensures err { IfErr result (IsRefusal self.old (step_of event)) }
         ensures same { OnErr result (self.new ≡ self.old) }
     {
-        let applied = self.network.apply(&event, 1)?;
+        let applied = self.network.apply(&event, 1);
+        drop(event);
+        let applied = applied?;
         Ok(only_copy(applied.copies))
     }
 }
