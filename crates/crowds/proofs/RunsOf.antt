@@ -16,7 +16,7 @@ use Rattle.protocol.proofs.Runs.Hosts.{answers-run, applied-journal, steps_to}
 use Rattle.closure.proofs.Places.{front_at}
 use Rattle.network.specs.Decoding.{reading, step_of}
 use Rattle.hoststep.specs.Logs.{IsEntered, IsRefused, Log, with_entry}
-use Rattle.hoststep.proofs.Histories.{journal-snoc, steps-snoc}
+use Rattle.world.proofs.Histories.{journal-snoc, steps-snoc}
 use Rattle.crowds.specs.Replies.{IsAnswer}
 use Rattle.crowds.specs.Submitted.{concerning_steps_in, concerns_members}
 

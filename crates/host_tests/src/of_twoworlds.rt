@@ -3,7 +3,6 @@
 use codec::encode;
 use configuration::{Budgets, HostedNode, NetConfig};
 use envstore::VecShelf;
-use hoststep::World;
 use std::alloc::Global;
 use std::test::Fail;
 use twoworlds::{MemberOuts, Verdict, compare, compare_all};
@@ -11,6 +10,7 @@ use types::{
     Ballot, Bytes, Envelope, Event, Member, Nested, NodeId, Out, SliceSet, Statement, Subject,
     Value,
 };
+use world::World;
 
 type TestWorld = World<VecShelf>;
 

@@ -47,7 +47,6 @@ use Rattle.hoststep.specs.contracts.kept.KeptEvent as KeptEvent
 use Rattle.hoststep.specs.contracts.kept.StoredEntry as StoredEntry
 use Rattle.hoststep.specs.contracts.outs_list.EntryOuts as EntryOuts
 use Rattle.hoststep.specs.contracts.journal.Journal as Journal
-use Rattle.hoststep.specs.contracts.world.World as World
 
 -- slices that copies share
 pub nested_sync : IsSync (Nested.the_row)
@@ -232,6 +231,3 @@ module _ (S P : RattleType) (g : Ghosts S.Denot P.Denot) where
 
   pub journal_send : IsSend S → IsSend P → IsSend (Journal.the_row S P g)
   journal_send s p = let a = network_send s p in search (sendable, crosses, kept_send, entry_outs_send, room_send) depth 40
-
-  pub world_sync : IsSync S → IsSync P → IsSync (World.the_row S P g)
-  world_sync s p = let a = journal_sync s p in search (sendable, crosses) depth 40

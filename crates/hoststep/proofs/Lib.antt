@@ -2,9 +2,6 @@ mod Begins
 mod Listing
 pub mod Growing
 mod Spelled
-pub mod Histories
-mod Inserting
-mod ByNumber
 mod OutsAt
 mod Configured
 pub mod SlicesThen

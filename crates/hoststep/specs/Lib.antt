@@ -4,6 +4,5 @@ pub mod Boxing
 pub mod Giving
 pub mod Keeping
 pub mod Entering
-pub mod Worlds
 pub mod Lending
 pub mod Deciding

@@ -1,9 +1,7 @@
-//! The networks of a host: each event by the network's rules, its journal, and the journals of many networks
-//! by number (this host's profile).
+//! A network of a host: each event by the network's rules, and its journal (this host's profile).
 //!
 //! A [`NetMachine`] is one network without its journal. A [`Journal`] is a network with the entries that
-//! led to it, and a [`World`] has the journals of many networks by number. All envelopes of a network lie in
-//! one archive; no contract speaks of their numbers here.
+//! led to it. All envelopes of a network lie in one archive; no contract speaks of their numbers here.
 #![tactic(auto)]
 
 mod announcing;
@@ -18,7 +16,6 @@ mod node_place;
 mod outs_list;
 mod recorded;
 mod sizes;
-mod world;
 
 pub use configuration::{Budgets, ConfigError, HostedNode, NetConfig, Reservation, Roster, Shares};
 pub use journal::Journal;
@@ -26,4 +23,3 @@ pub use lent_decision::LentDecision;
 pub use lent_event::LentEvent;
 pub use machine::NetMachine;
 pub use recorded::Recorded;
-pub use world::{MAX_NETWORKS, World, WorldError};

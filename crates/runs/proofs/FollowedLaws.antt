@@ -22,8 +22,8 @@ use Rattle.configuration.specs.Configs.{names_of}
 use Rattle.configuration.proofs.Names.{names-differ}
 use Rattle.network.specs.Decoding.{step_of}
 use Rattle.hoststep.specs.Logs.{Log, with_entry}
-use Rattle.hoststep.specs.Worlds.{IsAnsweredAt, items_of, log_at, logs_set, logs_with}
-use Rattle.hoststep.proofs.Histories.{has-number}
+use Rattle.world.specs.Worlds.{IsAnsweredAt, items_of, log_at, logs_set, logs_with}
+use Rattle.world.proofs.Histories.{has-number}
 use Rattle.hoststep.proofs.Growing.{run-grows}
 use Rattle.runs.specs.Outlines.{Outlined, IsConfigOf, IsRevised, Waiting, fresh, waiting_at, waiting_without}
 use Rattle.runs.specs.Emissions.{OpenSlot, OpenSlots, at_number, changed_at, handed_on}

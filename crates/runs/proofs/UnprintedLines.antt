@@ -6,7 +6,7 @@ use Rattle.std.specs.Global.{Global}
 use Rattle.types.specs.declared.event.Event.{Event}
 use Rattle.types.specs.declared.event.Out.{Out}
 use Rattle.types.specs.declared.event.Refusal.{Refusal}
-use Rattle.hoststep.specs.Worlds.{items_of}
+use Rattle.world.specs.Worlds.{items_of}
 use Rattle.scripts.specs.Script.{Bytes}
 use Rattle.scripts.specs.Words.{word_counter}
 use Rattle.runs.specs.declared.requests.Request.{Request}

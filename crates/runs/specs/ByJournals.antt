@@ -15,7 +15,7 @@ use Rattle.hoststep.specs.Deciding.{decisions_by}
 use Rattle.network.specs.declared.plan.Emission.{Emission}
 use Rattle.runs.specs.declared.emissions.Speaker.{Speaker}
 use Rattle.hoststep.specs.Logs.{Log}
-use Rattle.hoststep.specs.Worlds.{log_at}
+use Rattle.world.specs.Worlds.{log_at}
 use Rattle.scripts.specs.Script.{Bytes}
 use Rattle.scripts.specs.Runs.{HasRun}
 use Rattle.runs.specs.Outlines.{Waiting, waiting_at}

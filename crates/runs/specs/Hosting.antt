@@ -6,7 +6,7 @@ use Rattle.types.specs.declared.event.Event.{Event}
 use Rattle.types.specs.declared.event.Out.{Out}
 use Rattle.types.specs.declared.event.Refusal.{Refusal}
 use Rattle.hoststep.specs.Logs.{Log}
-use Rattle.hoststep.specs.Worlds.{IsAnswered, items_of, log_at, logs_with}
+use Rattle.world.specs.Worlds.{IsAnswered, items_of, log_at, logs_with}
 use Rattle.runs.specs.Outlines.{Waiting, waiting_at}
 use Rattle.runs.specs.Followed.{Followed, also_followed, followed_after, turn_of}
 use Rattle.runs.specs.Joining.{HaveJoined, NetworkIsNamed, Joins}

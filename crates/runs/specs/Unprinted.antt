@@ -7,7 +7,7 @@ use Rattle.types.specs.declared.event.Out.{Out}
 use Rattle.types.specs.declared.event.Refusal.{Refusal}
 use Rattle.types.specs.declared.event.Refusal.TheVariants.{NoMemory}
 use Rattle.hoststep.specs.Logs.{Log}
-use Rattle.hoststep.specs.Worlds.{log_at}
+use Rattle.world.specs.Worlds.{log_at}
 use Rattle.runs.specs.Hosting.{Hosting, IsApplied, IsBegun, IsFinished}
 use Rattle.runs.specs.Running.{RefusesLine, Tells}
 use Rattle.runs.specs.Running.Tells.{declared, answered, settled}

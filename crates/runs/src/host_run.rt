@@ -16,12 +16,12 @@ use crate::nets::Nets;
 use crate::replies::{line_of_refusal, reply};
 use crate::requests::{Request, request_of};
 use envstore::VecShelf;
-use hoststep::World;
 use network::Emission;
 use scripts::{LineError, LineRunner};
 use std::alloc::{AllocError, Global};
 use std::marker::Model;
 use types::{Event, NodeId, Out, Refusal};
+use world::World;
 
 /// The networks of one script: what their lines have declared, and the journals of those that an event has
 /// named.

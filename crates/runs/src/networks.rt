@@ -5,8 +5,8 @@ ghost use Rattle.std.specs.Prelude.{◌≡◌, OnOk};
 use configuration::NetConfig;
 use crowds::Submission;
 use envstore::VecShelf;
-use hoststep::{MAX_NETWORKS, World};
 use std::alloc::{AllocError, Global};
+use world::{MAX_NETWORKS, World};
 
 /// What the networks of a script join when an event names them, or after the last line. `joins` says what it
 /// is with one network more.

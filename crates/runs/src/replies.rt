@@ -2,7 +2,7 @@
 
 ghost use Rattle.std.specs.Prelude.{◌≡◌, ◌++◌, IfOk, OnOk, codes, string_bytes};
 ghost use Rattle.std.specs.List.{flat_map};
-ghost use Rattle.hoststep.specs.Worlds.{items_of};
+ghost use Rattle.world.specs.Worlds.{items_of};
 ghost use Rattle.runs.specs.Replies.{IsReply, answer_of, behind_space, refusal_text, text_of_out};
 
 use crate::refusals::{name_of, number_of};

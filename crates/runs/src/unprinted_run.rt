@@ -7,10 +7,10 @@ ghost use Rattle.runs.specs.Unprinted.{IsFinishedUnprinted, origin_in, trace_aft
 use crate::host_run::HostRun;
 use crate::trace::Trace;
 use envstore::VecShelf;
-use hoststep::World;
 use scripts::{LineError, LineRunner};
 use std::alloc::{AllocError, Global};
 use std::marker::Model;
+use world::World;
 
 /// The networks of one script, whose lines are run as a [`HostRun`] runs them and print nothing. Where one of
 /// their events is refused for want of memory, that is no answer of a line: memory is short, and the run ends.

@@ -3,7 +3,7 @@ use Rattle.std.specs.Prelude.{◌≡◌, ℕ, false, List, Option, string_bytes}
 use Rattle.protocol.specs.Sets.{among}
 use Rattle.closure.specs.Announcing.{IsClosureList, names_of, slices_then}
 use Rattle.hoststep.specs.Logs.{Log}
-use Rattle.hoststep.specs.Worlds.{log_at}
+use Rattle.world.specs.Worlds.{log_at}
 use Rattle.twoworlds.specs.Meanings.{entries_in, nodes_in}
 use Rattle.explorer.specs.Reports.{AreHosted, Shown}
 use Rattle.explorer.specs.Texts.{text_of_report}

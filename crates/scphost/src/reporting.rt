@@ -1,7 +1,7 @@
 //! The report of a closure after a script.
 
 ghost use Rattle.std.specs.Prelude.{◌≡◌, IfOk, string_bytes};
-ghost use Rattle.hoststep.specs.Worlds.{log_at};
+ghost use Rattle.world.specs.Worlds.{log_at};
 ghost use Rattle.explorer.specs.Texts.{text_of_report};
 ghost use Rattle.scphost.specs.Reporting.{IsReport, IsReportOf};
 

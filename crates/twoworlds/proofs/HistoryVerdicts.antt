@@ -8,7 +8,7 @@ use Rattle.protocol.specs.Verdicts.{IsVerdict, Verdict}
 use Rattle.protocol.specs.Verdicts.Verdict.{CastDiffers, InputsDiffer, Same}
 use Rattle.network.specs.Decoding.{reading}
 use Rattle.hoststep.specs.Logs.{Log}
-use Rattle.hoststep.specs.Worlds.{AreJournalsOf, log_at}
+use Rattle.world.specs.Worlds.{AreJournalsOf, log_at}
 use Rattle.protocol.proofs.Runs.KeptWithin.{closure-start}
 use Rattle.twoworlds.specs.Meanings.{IsVerdictBetween, IsVerdictOn, entries_in, nodes_in, defined_verdict}
 use Rattle.twoworlds.specs.declared.verdict.Verdict as code

@@ -4,7 +4,7 @@ use Rattle.std.specs.List.{AllZip}
 use Rattle.types.specs.declared.subject.Subject.{Subject}
 use Rattle.protocol.specs.Hosts.{History}
 use Rattle.hoststep.specs.Logs.{Log}
-use Rattle.hoststep.specs.Worlds.{AreJournalsOf}
+use Rattle.world.specs.Worlds.{AreJournalsOf}
 use Rattle.twoworlds.proofs.HistoryVerdicts.{verdict_of_histories}
 use Rattle.twoworlds.specs.Questions.{AreVerdictsBetween, AreVerdictsOn}
 use Rattle.twoworlds.specs.declared.verdict.Verdict.{Verdict}

@@ -4,7 +4,7 @@ use Rattle.std.specs.List.{All, AllZip}
 use Rattle.types.specs.declared.subject.Subject.{Subject}
 use Rattle.protocol.specs.Hosts.{History}
 use Rattle.hoststep.specs.Logs.{Log}
-use Rattle.hoststep.specs.Worlds.{log_at}
+use Rattle.world.specs.Worlds.{log_at}
 use Rattle.twoworlds.specs.Meanings.{AreIsolated, IsVerdictBetween, IsVerdictOn}
 use Rattle.twoworlds.specs.declared.verdict.Verdict.{Verdict}
 

@@ -2,7 +2,7 @@
 
 ghost use Rattle.std.specs.Prelude.{IfOk, Some, option_map};
 ghost use Rattle.protocol.specs.Hosts.{History};
-ghost use Rattle.hoststep.specs.Worlds.{AreJournalsOf, log_at};
+ghost use Rattle.world.specs.Worlds.{AreJournalsOf, log_at};
 ghost use Rattle.twoworlds.specs.Meanings.{AreIsolated, IsVerdictBetween, IsVerdictOn};
 
 use crate::cast::least_unlike;
@@ -11,9 +11,10 @@ use crate::outs::{hosted_members, outs_of_each};
 use crate::verdict::Verdict;
 use closure::{Announcements, closure};
 use envstore::Shelf;
-use hoststep::{Journal, World};
+use hoststep::Journal;
 use std::alloc::{AllocError, Global};
 use types::{NodeId, Subject};
+use world::World;
 
 /// Compares what concerned a subject in two worlds, a node of a network at a slot, by the closure of the node
 /// in the first of them. A world that lacks the network hosts nobody there. The worlds may keep their envelopes on

@@ -2,18 +2,18 @@
 
 ghost use Rattle.std.specs.Prelude.{IfOk};
 ghost use Rattle.protocol.specs.Hosts.{History};
-ghost use Rattle.hoststep.specs.Worlds.{AreJournalsOf, log_at};
+ghost use Rattle.world.specs.Worlds.{AreJournalsOf, log_at};
 ghost use Rattle.twoworlds.specs.Meanings.{IsVerdictOn};
 ghost use Rattle.twoworlds.specs.Questions.{AreAllIsolated, AreVerdictsBetween, AreVerdictsOn};
 
 use crate::comparing::{are_isolated_at, compare};
 use crate::verdict::Verdict;
 use envstore::Shelf;
-use hoststep::World;
 use rayon::prelude::*;
 use std::alloc::{AllocError, Global};
 use std::thread::Threads;
 use types::Subject;
+use world::World;
 
 /// Answers many questions about the same two worlds, each of which is of a subject: of each the verdict of
 /// [`compare`](crate::compare), in the order of the subjects. A subject may stand there more than once, and is

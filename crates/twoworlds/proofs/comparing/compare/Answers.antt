@@ -1,6 +1,6 @@
 use Rattle.std.proofs.Common.{Option, Some, sym, subst}
 use Rattle.hoststep.specs.Logs.{Log}
-use Rattle.hoststep.specs.Worlds.{log_at}
+use Rattle.world.specs.Worlds.{log_at}
 use Rattle.twoworlds.specs.Meanings.{IsVerdictOn}
 use Rattle.twoworlds.proofs.HistoryVerdicts.{verdict_without_network, verdict_of_histories}
 use Rattle.twoworlds.proofs.comparing.compare.Goals as goal

@@ -1,17 +1,17 @@
 use denote.Param.{param}
 use denote.Param.Send.{IsSync, sendable}
-use Rattle.hoststep.specs.contracts.world.World as World
+use Rattle.world.specs.contracts.world.World as World
 use Rattle.std.proofs.Crossing.{crosses}
 use Rattle.std.proofs.Common.{◌∙◌, ap, subst, List, IfOk}
 use Rattle.rayon.proofs.ToStd.{slice-AllZip}
 use Rattle.hoststep.specs.Logs.{Log}
-use Rattle.hoststep.specs.Worlds.{log_at}
+use Rattle.world.specs.Worlds.{log_at}
 use Rattle.twoworlds.specs.Meanings.{IsVerdictOn}
 use Rattle.twoworlds.specs.Questions.{AreVerdictsOn}
 use Rattle.twoworlds.specs.declared.verdict.Verdict.{Verdict}
 use Rattle.types.proofs.subject.Subject.TheSendSync as subject
 use Rattle.types.specs.declared.subject.Subject.{Subject}
-use Rattle.hoststep.proofs.Crossing.{world_sync}
+use Rattle.world.proofs.Crossing.{world_sync}
 use Rattle.twoworlds.proofs.Crossing.{global_sync, verdict_send}
 use Rattle.twoworlds.proofs.ManyLaws.{all_ok}
 use Rattle.twoworlds.proofs.many.verdicts_of.Goals as goal

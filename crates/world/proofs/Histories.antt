@@ -15,7 +15,7 @@ use Rattle.protocol.specs.Runs.{net_after, refusal_of, state_of}
 use Rattle.protocol.proofs.Runs.Hosts.{applied-journal, steps_to}
 use Rattle.network.specs.Decoding.{reading, step_of}
 use Rattle.hoststep.specs.Logs.{IsEntered, IsRefused, Log, with_entry}
-use Rattle.hoststep.specs.Worlds.{IsAnswered, IsAnsweredAt, AreJournalsOf, items_of, with_history_of, and_then, configs_with, with_new_network, log_at, logs_set, logs_with}
+use Rattle.world.specs.Worlds.{IsAnswered, IsAnsweredAt, AreJournalsOf, items_of, with_history_of, and_then, configs_with, with_new_network, log_at, logs_set, logs_with}
 
 equal : (a b : ℕ) → a ≡ b → (a == b) ≡ true
 equal a b e = grind (arith, nat_tests, e)

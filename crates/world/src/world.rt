@@ -3,11 +3,11 @@
 ghost use Rattle.std.specs.Prelude.{◌≡◌, ◌<◌, ◌≢◌, [], Err, IfErr, None, OnErr, OnOk, ◌∷◌, length, option_map};
 ghost use Rattle.protocol.specs.Hosts.{History};
 ghost use Rattle.types.specs.declared.event.Refusal.TheVariants.{NoMemory};
-ghost use Rattle.hoststep.specs.Worlds.{IsAnswered, IsNotAdded, IsPlaceOf, AreJournalsOf, with_history_of, and_then, with_new_network, log_at, logs_with};
+ghost use Rattle.world.specs.Worlds.{IsAnswered, IsNotAdded, IsPlaceOf, AreJournalsOf, with_history_of, and_then, with_new_network, log_at, logs_with};
 
-use crate::journal::Journal;
 use configuration::NetConfig;
 use envstore::Shelf;
+use hoststep::Journal;
 use std::alloc::Global;
 use std::marker::Model;
 use types::{Event, Out, Refusal};
@@ -44,7 +44,7 @@ impl<S: Shelf> Model for World<S> {
     ghost use Rattle.std.specs.Prelude.{◌≡◌, List};
     ghost use Rattle.types.specs.Trees.{members_code};
     ghost use Rattle.hoststep.specs.Logs.{Log};
-    ghost use Rattle.hoststep.specs.Worlds.{AreByNumber, numbers_of};
+    ghost use Rattle.world.specs.Worlds.{AreByNumber, numbers_of};
 
     ghost Value = { List Log };
 

@@ -1,9 +1,9 @@
 use Rattle.std.proofs.Common.{◌≡◌, ◌<◌, Err, Ok, List, length, ◌∙◌, ap, subst, arith}
 use Rattle.protocol.specs.Hosts.{Config}
 use Rattle.hoststep.specs.Logs.{Log}
-use Rattle.hoststep.specs.Worlds.{IsPlaceOf}
-use Rattle.hoststep.proofs.ByNumber.{missing, there}
-use Rattle.hoststep.proofs.world.World.join.Goals as goal
+use Rattle.world.specs.Worlds.{IsPlaceOf}
+use Rattle.world.proofs.ByNumber.{missing, there}
+use Rattle.world.proofs.world.World.join.Goals as goal
 
 pub returns-in-Ok-clause-err : goal.returns-in-Ok-clause-err
 returns-in-Ok-clause-err g c =

@@ -6,7 +6,7 @@ use Rattle.std.specs.List.Sorted.{IsBinarySearchResult}
 use Rattle.std.specs.Ordering.{nat_cmp}
 use Rattle.std.proofs.lemmas.Bool.Decides.{nat_tests}
 use Rattle.protocol.specs.Sets.{IsAscending}
-use Rattle.hoststep.proofs.Inserting.{IsPlace, ascending_insert, is_place}
+use Rattle.world.proofs.Inserting.{IsPlace, ascending_insert, is_place}
 use Rattle.configuration.specs.Configs.{index_in}
 use Rattle.configuration.proofs.Names.{place-found, place-nowhere}
 use Rattle.std.specs.Global.{Global}
@@ -21,8 +21,8 @@ use Rattle.types.specs.declared.event.Refusal.{Refusal}
 use Rattle.protocol.specs.Networks.{Step}
 use Rattle.network.specs.Decoding.{step_of}
 use Rattle.hoststep.specs.Logs.{IsEntered, IsRefused, Log, with_entry}
-use Rattle.hoststep.specs.Worlds.{AreByNumber, IsAnswered, IsPlaceOf, log_at, logs_set, logs_with, numbers_of}
-use Rattle.hoststep.proofs.Histories.{has-number}
+use Rattle.world.specs.Worlds.{AreByNumber, IsAnswered, IsPlaceOf, log_at, logs_set, logs_with, numbers_of}
+use Rattle.world.proofs.Histories.{has-number}
 
 numbers-length : (ls : List Log) → length (numbers_of ls) ≡ length ls
 numbers-length [] = refl

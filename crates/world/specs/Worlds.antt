@@ -11,8 +11,8 @@ use Rattle.protocol.specs.Hosts.{Config, History, entries}
 use Rattle.configuration.specs.Configs.{index_in}
 use Rattle.network.specs.Decoding.{reading, step_of}
 use Rattle.hoststep.specs.Logs.{IsEntered, IsRefused, Log, with_entry}
-use Rattle.hoststep.specs.declared.world.WorldError.{WorldError}
-use Rattle.hoststep.specs.declared.world.WorldError.TheVariants.{NetTwice, TooManyNets, NoMemory}
+use Rattle.world.specs.declared.world.WorldError.{WorldError}
+use Rattle.world.specs.declared.world.WorldError.TheVariants.{NetTwice, TooManyNets, NoMemory}
 
 -- the numbers of networks
 abbrev pub numbers_of : List Log → List ℕ

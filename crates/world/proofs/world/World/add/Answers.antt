@@ -1,8 +1,8 @@
 use Rattle.std.proofs.Common.{◌≡◌, ap, sym, subst, ◌∙◌, List, None}
 use Rattle.hoststep.specs.Logs.{Log}
-use Rattle.hoststep.specs.Worlds.{AreJournalsOf, with_new_network, log_at, logs_with}
-use Rattle.hoststep.proofs.Histories.{history-joined}
-use Rattle.hoststep.proofs.world.World.add.Goals as goal
+use Rattle.world.specs.Worlds.{AreJournalsOf, with_new_network, log_at, logs_with}
+use Rattle.world.proofs.Histories.{history-joined}
+use Rattle.world.proofs.world.World.add.Goals as goal
 
 pub returns-in-Ok-clause-history : goal.returns-in-Ok-clause-history
 returns-in-Ok-clause-history g c = λ h own_is.

@@ -1,9 +1,9 @@
 use Rattle.std.proofs.Common.{◌∙◌, subst}
 use Rattle.std.specs.Ordering.{nat_cmp}
 use Rattle.std.specs.List.Sorted.{IsBinarySearchResult}
-use Rattle.hoststep.specs.Worlds.{IsPlaceOf}
-use Rattle.hoststep.proofs.ByNumber.{place-is}
-use Rattle.hoststep.proofs.world.World.place.Goals as goal
+use Rattle.world.specs.Worlds.{IsPlaceOf}
+use Rattle.world.proofs.ByNumber.{place-is}
+use Rattle.world.proofs.world.World.place.Goals as goal
 
 pub returns : goal.returns
 returns g c =

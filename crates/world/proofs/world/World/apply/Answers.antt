@@ -1,11 +1,11 @@
 use Rattle.std.proofs.Common.{◌≡◌, ◌<◌, List, Some, length, set, refl, sym, subst}
 use Rattle.configuration.specs.Configs.{index_in}
 use Rattle.hoststep.specs.Logs.{Log}
-use Rattle.hoststep.specs.Worlds.{IsAnswered, IsPlaceOf, numbers_of}
-use Rattle.hoststep.proofs.ByNumber.{Changed, changed, missing}
-use Rattle.hoststep.proofs.Histories.{history-answered}
-use Rattle.hoststep.proofs.world.World.apply.Given.{Over}
-use Rattle.hoststep.proofs.world.World.apply.Goals as goal
+use Rattle.world.specs.Worlds.{IsAnswered, IsPlaceOf, numbers_of}
+use Rattle.world.proofs.ByNumber.{Changed, changed, missing}
+use Rattle.world.proofs.Histories.{history-answered}
+use Rattle.world.proofs.world.World.apply.Given.{Over}
+use Rattle.world.proofs.world.World.apply.Goals as goal
 
 all-of : (g : Over) (c : goal.After-self-1 g) → Changed c.self.inside.numbers.items c.self.inside.journals.items c.args.number c.in-Ok.at c.apply.new.self c.args.event c.apply.result
 all-of g c =

@@ -1,8 +1,8 @@
 use Rattle.std.proofs.Common.{◌≡◌, List, get_or, sym, subst}
 use Rattle.hoststep.specs.Logs.{Log}
-use Rattle.hoststep.specs.Worlds.{IsPlaceOf}
-use Rattle.hoststep.proofs.ByNumber.{missing, stands}
-use Rattle.hoststep.proofs.world.World.journal.Goals as goal
+use Rattle.world.specs.Worlds.{IsPlaceOf}
+use Rattle.world.proofs.ByNumber.{missing, stands}
+use Rattle.world.proofs.world.World.journal.Goals as goal
 
 pub returns-in-Ok : goal.returns-in-Ok
 returns-in-Ok g c =

@@ -2,9 +2,9 @@ use Rattle.std.proofs.Common.{◌≡◌, ◌<◌, Err, List, length, refl, sym, 
 use Rattle.std.specs.List.{insert}
 use Rattle.protocol.specs.Hosts.{Config}
 use Rattle.hoststep.specs.Logs.{Log}
-use Rattle.hoststep.specs.Worlds.{IsPlaceOf}
-use Rattle.hoststep.proofs.ByNumber.{joins}
-use Rattle.hoststep.proofs.world.World.put_at.Goals as goal
+use Rattle.world.specs.Worlds.{IsPlaceOf}
+use Rattle.world.proofs.ByNumber.{joins}
+use Rattle.world.proofs.world.World.put_at.Goals as goal
 
 pub invariant_of-self-in-Err : goal.invariant_of-self-in-Err
 invariant_of-self-in-Err g c = rw (c.reserve.ensures.items, c.in-Err.ensures.items) c.self.invariant

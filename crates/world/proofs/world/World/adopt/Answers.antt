@@ -1,8 +1,8 @@
 use Rattle.std.proofs.Common.{sym, subst, List}
 use Rattle.hoststep.specs.Logs.{Log}
-use Rattle.hoststep.specs.Worlds.{AreJournalsOf, with_history_of}
-use Rattle.hoststep.proofs.Histories.{history-adopted}
-use Rattle.hoststep.proofs.world.World.adopt.Goals as goal
+use Rattle.world.specs.Worlds.{AreJournalsOf, with_history_of}
+use Rattle.world.proofs.Histories.{history-adopted}
+use Rattle.world.proofs.world.World.adopt.Goals as goal
 
 pub returns-in-Ok-clause-history : goal.returns-in-Ok-clause-history
 returns-in-Ok-clause-history g c = λ h own own_is mine.

@@ -1,0 +1,4 @@
+pub mod Histories
+mod Inserting
+mod ByNumber
+pub mod Crossing
