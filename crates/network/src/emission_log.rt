@@ -103,8 +103,8 @@ impl EmissionLog {
         ensures { result ≡ slice_get (places_of_kind kind (sents_of self.now)) number }
     {
         match kind {
-            Kind::Nomination => place_at(&self.places.nominations, number),
-            Kind::Ballot => place_at(&self.places.ballots, number),
+            Kind::Nomination => self.places.nominations.get(number).copied(),
+            Kind::Ballot => self.places.ballots.get(number).copied(),
         }
     }
 
@@ -278,16 +278,6 @@ fn note(places: &mut PlacesByKind, kind: Kind, place: usize) -> u64
             places.ballots.push_reserved(place);
             places.ballots.len() as u64
         }
-    }
-}
-
-/// The place that stands there.
-fn place_at(places: &[usize], number: usize) -> Option<usize>
-    ensures { result ≡ slice_get places.now number }
-{
-    match places.get(number) {
-        None => None,
-        Some(place) => Some(*place),
     }
 }
 

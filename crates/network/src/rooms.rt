@@ -7,7 +7,6 @@ ghost use Rattle.configuration.specs.Configs.{index_of_name};
 ghost use Rattle.network.specs.Deeds.{HasNoRoomForBytes, HasNoRoom, HasRoomForBytes, HasRoom, IsDrawn, IsDrawnThere, IsNodeThere, IsPaired, index_of_slot, own_source, pair_source};
 ghost use Rattle.network.specs.Lodgings.{slot_of};
 ghost use Rattle.network.specs.Standing.{machine_of};
-ghost use Rattle.network.specs.declared.plan.Drawn.TheVariants.{Own, Pair};
 
 use crate::network::Network;
 use crate::plan::Drawn;
@@ -81,31 +80,19 @@ impl<S: Shelf> Network<S> {
                 )
             }
             Drawn::Opens => keeps_within(self.opens, 1, self.shares().opens(), Refusal::ShareFull),
-            Drawn::Own { slot_at, node_at } => self.has_own_room(*slot_at, *node_at),
+            Drawn::Own { slot_at, node_at } => {
+                let used = self.instance(*slot_at, *node_at).own_events();
+                keeps_within(used, 1, self.shares().own(), Refusal::ShareFull)
+            }
             Drawn::Pair {
                 slot_at,
                 node_at,
                 from,
-            } => self.has_pair_room(*slot_at, *node_at, from),
+            } => {
+                let used = self.instance(*slot_at, *node_at).events_from(from);
+                keeps_within(used, 1, self.shares().pair(), Refusal::ShareFull)
+            }
         }
-    }
-
-    /// Whether there is room for one more event on the own share of the node at these places.
-    fn has_own_room(&self, slot_at: usize, node_at: usize) -> Result<(), Refusal>
-        requires { IsDrawnThere (machine_of self.now) (Own slot_at node_at) }
-        ensures { MatchResult result (λ _. HasRoom (machine_of self.now) (Own slot_at node_at)) (λ r. HasNoRoom (machine_of self.now) (Own slot_at node_at) r) }
-    {
-        let used = self.instance(slot_at, node_at).own_events();
-        keeps_within(used, 1, self.shares().own(), Refusal::ShareFull)
-    }
-
-    /// Whether there is room for one more event on what the node at these places gets from a name.
-    fn has_pair_room(&self, slot_at: usize, node_at: usize, from: &NodeId) -> Result<(), Refusal>
-        requires { IsDrawnThere (machine_of self.now) (Pair slot_at node_at from.now) }
-        ensures { MatchResult result (λ _. HasRoom (machine_of self.now) (Pair slot_at node_at from.now)) (λ r. HasNoRoom (machine_of self.now) (Pair slot_at node_at from.now) r) }
-    {
-        let used = self.instance(slot_at, node_at).events_from(from);
-        keeps_within(used, 1, self.shares().pair(), Refusal::ShareFull)
     }
 
     /// Whether there is room for so many bytes more on what is drawn by what comes to a node.
@@ -127,24 +114,12 @@ impl<S: Shelf> Network<S> {
                 slot_at,
                 node_at,
                 from,
-            } => self.has_pair_room_for_bytes(*slot_at, *node_at, from, size),
+            } => {
+                let used = self.instance(*slot_at, *node_at).bytes_from(from);
+                keeps_within(used, size, self.shares().bytes(), Refusal::ShareBytesFull)
+            }
             Drawn::Opens | Drawn::Own { .. } => unreachable!(),
         }
-    }
-
-    /// Whether there is room for so many bytes more on what the node at these places gets from a name.
-    fn has_pair_room_for_bytes(
-        &self,
-        slot_at: usize,
-        node_at: usize,
-        from: &NodeId,
-        size: u64,
-    ) -> Result<(), Refusal>
-        requires { IsDrawnThere (machine_of self.now) (Pair slot_at node_at from.now) }
-        ensures { MatchResult result (λ _. HasRoomForBytes (machine_of self.now) (Pair slot_at node_at from.now) size) (λ r. HasNoRoomForBytes (machine_of self.now) (Pair slot_at node_at from.now) size r) }
-    {
-        let used = self.instance(slot_at, node_at).bytes_from(from);
-        keeps_within(used, size, self.shares().bytes(), Refusal::ShareBytesFull)
     }
 
     /// The shares of the roster.
