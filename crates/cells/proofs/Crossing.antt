@@ -18,7 +18,6 @@ use Rattle.cells.specs.contracts.cell.Cell as Cell
 use Rattle.cells.specs.contracts.cell_state.CellState as CellState
 use Rattle.cells.specs.contracts.receipt.Receipt as Receipt
 use Rattle.cells.specs.contracts.seat.Seat as Seat
-use Rattle.cells.specs.contracts.watched.WatchedJournal as WatchedJournal
 
 pub envelope_send : IsSend (Envelope.the_row)
 envelope_send = search (sendable, crosses, name.the_send, nested_send, statement.the_field_send) depth 40
@@ -31,11 +30,8 @@ receipt_send = search (sendable, crosses, event_send, out_send) depth 40
 
 -- S is a shelf, P its places, and H the handle by which what was decided is published
 module _ (S H P : RattleType) (g : Ghosts S.Denot P.Denot) where
-  watched_send : IsSend S → IsSend H → IsSend P → IsSend (WatchedJournal.the_row S H P g)
-  watched_send s h p = let a = journal_send S P g s p in search (sendable, crosses, publisher.the_send) depth 40
-
   cell_state_send : IsSend S → IsSend H → IsSend P → IsSend (CellState.the_row S H P g)
-  cell_state_send s h p = let a = watched_send s h p in search (sendable, crosses) depth 40
+  cell_state_send s h p = let a = journal_send S P g s p in search (sendable, crosses, publisher.the_send) depth 40
 
   pub seat_send : IsSend S → IsSend H → IsSend P → IsSend (Seat.the_row S H P g)
   seat_send s h p = let a = cell_state_send s h p in search (sendable, crosses, pass.the_send, receipt_send) depth 40

@@ -1,8 +1,9 @@
 -- What is published, waits, and is still in the journal alone, with each step.
-use Rattle.std.proofs.Common.{◌≡◌, ℕ, suc, ◌+◌, ◌<◌, ◌≤◌, List, [], ◌∷◌, ◌++◌, length, map, sym, ap, ◌∙◌, subst, arith, append_assoc, length-append, Result, Ok, Err, is_ok, Bool, true, true≢false}
+use Rattle.std.proofs.Common.{◌≡◌, ℕ, suc, ◌+◌, ◌<◌, ◌≤◌, List, [], ◌∷◌, ◌++◌, length, map, sym, ap, ◌∙◌, subst, arith, append_assoc, length-append, Option, None, Some, is_some, option_map, option_to_list, Result, Ok, Err, is_ok, Bool, true, true≢false}
 use Rattle.std.specs.Prelude.{IfOk, OnErr, OnOk}
 use Rattle.std.proofs.lemmas.List.{append-nil, length-map, map-append}
 use mathlib.Core.List.{IsPrefix}
+use mir.Val.{bool_byte}
 use Rattle.types.specs.declared.event.Refusal.{Refusal}
 use Rattle.protocol.specs.Hosts.{Config, Entry}
 use Rattle.protocol.specs.Networks.{Step}
@@ -81,6 +82,11 @@ few_wait config entries n p run h =
 -- how many there are from a number on
 pub count_next : (entries : List Entry) (n : ℕ) → n < length entries → length (decisions_from entries n) ≡ length (decisions_at entries n) + length (decisions_from entries (n + 1))
 count_next entries n lt = ap length (next entries n lt) ∙ length-append (decisions_at entries n) (decisions_from entries (n + 1))
+
+-- one or none at a number
+pub count_one : {T : Type 0} (f : T → ExternalizedValue) (o : Option T) (b : Bool) (ds : List ExternalizedValue) → b ≡ is_some o → option_to_list (option_map f o) ≡ ds → bool_byte b ≡ length ds
+count_one f None b ds is same = ap bool_byte is ∙ ap length same
+count_one f (Some x) b ds is same = ap bool_byte is ∙ ap length same
 
 -- what came of the attempt to append it
 pub appended : {T E : Type 0} (entries : List Entry) (n : ℕ) (p q : List Decision × List Decision) (d : ExternalizedValue) (x : Decision) (r : Result T E) (b : Bool) → IsPublished entries n p → n < length entries → d ∷ [] ≡ decisions_at entries n

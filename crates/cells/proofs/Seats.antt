@@ -8,6 +8,7 @@ use Rattle.std.proofs.Common.{get_or}
 use Rattle.std.proofs.lemmas.List.Elements.{All-from_recursion, All-push, recursion_from_All}
 use Rattle.std.specs.List.{All, AllByRecursion}
 use Rattle.atomic_table.specs.Seated.{TableId}
+use Rattle.crossbeam_queue.specs.Fifo.{Pushes}
 use Rattle.crossbeam_queue.specs.Passes.{Pass, view}
 use Rattle.types.specs.declared.event.Event.{Event}
 use Rattle.types.specs.declared.event.Out.{Out}
@@ -15,11 +16,12 @@ use Rattle.protocol.specs.Hosts.{Config, Entry}
 use Rattle.cells.specs.declared.refusal.CellRefusal.{CellRefusal}
 use Rattle.cells.specs.Receipts.{AppliedEvent, Extract, entry_of, extract, extract_of, receipt}
 use Rattle.cells.specs.Views.{Denial, CellStateSight, Knowledge}
-use Rattle.cells.specs.Rule.{denial, IsTaken, after_application, after_denial, after_look, after_stop, fresh}
+use Rattle.cells.specs.Rule.{HasCellState, Holds, denial, IsTaken, after_application, after_denial, after_look, after_stop, cell_state_at, fresh}
 use Rattle.cells.specs.Sights.{SeatSight}
 use Rattle.cells.specs.Sounds.{Stands, IsRight, IsWhy, AllStand, AllRight, IsRising, IsSound, IsFree, IsSeat}
 use Rattle.cells.specs.Cells.{AllFresh, IsSeatOf}
 use Rattle.hoststep.proofs.Growing.{slice_get-snoc}
+use Rattle.cells.proofs.Moves.{looks, stops}
 
 get_front : {A : Type 0} (xs ys : List A) (k : ℕ) (p : A) → slice_get xs k ≡ Some p → slice_get (xs ++ ys) k ≡ Some p
 get_front [] ys k p e = absurd (cc)
@@ -166,6 +168,28 @@ pub seat_looked : (p q r : Pass CellStateSight Knowledge) (n : ℕ) (rs : List A
 seat_looked p q r n rs x s t one two is =
     seat_back p q r n rs rs x (after_look (view q)) s t one two is (refl, refl, refl, refl, refl, refl) (receipts_there p q n rs x s t)
     (sound_seen (view p) x (view q) (view q).over (view q).stops s.free s.sound t (t.stopped s.free.live))
+
+-- what a seat took goes back, with this mark
+given : (v : Knowledge) (x : CellStateSight) (w : Knowledge) (m n : Bool) → IsTaken v x w → m ≡ n → record x { stopped = m } ≡ cell_state_at w.config w.seats w.all n
+given v x w m n t same = λ i. cell_state_at ((t.config ∙ sym (ap (λ (u : Knowledge). u.config) t.now)) i) ((t.seats ∙ sym (ap (λ (u : Knowledge). u.seats) t.now)) i) (sym (ap (λ (u : Knowledge). u.all) t.now) i) (same i)
+
+has_taken : (v : Knowledge) (x : CellStateSight) (w : Knowledge) → IsFree v → v.closed ≡ false → IsTaken v x w → HasCellState w
+has_taken v x w f open_yet t = record {
+  known = ap (λ (u : Knowledge). u.known) t.now ∙ f.known;
+  live = ap (λ (u : Knowledge). u.live) t.now ∙ f.live;
+  claims = ap (λ (u : Knowledge). u.claims) t.now ∙ f.claims;
+  opens = ap (λ (u : Knowledge). u.opens) t.now ∙ f.opens;
+  closed = ap (λ (u : Knowledge). u.closed) t.now ∙ open_yet;
+  holding = ap (λ (u : Knowledge). u.holding) t.now;
+}
+
+pub looks_taken : (id : ℕ) (v : Knowledge) (x : CellStateSight) (w : Knowledge) → IsFree v → v.closed ≡ false → IsTaken v x w → Pushes Holds 1 id w x (λ u. u ≡ after_look w)
+looks_taken id v x w f open_yet t =
+    subst (λ (y : CellStateSight). Pushes Holds 1 id w y (λ u. u ≡ after_look w)) (sym (given v x w x.stopped w.over t (sym (ap (λ (u : Knowledge). u.over) t.now)))) (looks id w (has_taken v x w f open_yet t))
+
+pub stops_taken : (id : ℕ) (v : Knowledge) (x : CellStateSight) (w : Knowledge) → IsFree v → v.closed ≡ false → IsTaken v x w → Pushes Holds 1 id w (record x { stopped = true }) (λ u. u ≡ after_stop w)
+stops_taken id v x w f open_yet t =
+    subst (λ (y : CellStateSight). Pushes Holds 1 id w y (λ u. u ≡ after_stop w)) (sym (given v x w true true t refl)) (stops id w (has_taken v x w f open_yet t))
 
 -- a seat that was made just now
 pub seat_fresh : (p : Pass CellStateSight Knowledge) (config : Config) (seats n : ℕ) → p.me.1 ≡ [] → view p ≡ fresh config seats n → IsSeat p n []

@@ -1,13 +1,15 @@
 //! What lies under the lock of a cell.
 
-ghost use Rattle.std.specs.Prelude.{◌≡◌, ◌++◌, ◌∷◌, [], IfErr, IfOk, false, true};
+ghost use Rattle.std.specs.Prelude.{◌≡◌, ◌++◌, ◌∷◌, [], IfErr, IfOk, OnErr, false, true};
 ghost use mathlib.Core.List.{IsPrefix};
+ghost use Rattle.network.specs.Decoding.{step_of};
+ghost use Rattle.hoststep.specs.Logs.{IsEntered, IsRecorded, IsRefused, with_entry};
 ghost use Rattle.cells.specs.Cells.{IsDenied, IsEnteredAt};
 ghost use Rattle.cells.specs.Publishing.{IsToldBut, decisions_known};
 
 use crate::receipt::Receipt;
 use crate::refusal::CellRefusal;
-use crate::watched::WatchedJournal;
+use crate::watched::{append_all, count_decisions, publish_waiting};
 use configuration::NetConfig;
 use decisions::{Board, Publisher, Watch};
 use envstore::Shelf;
@@ -18,10 +20,18 @@ use std::snapshot::Snapshot;
 use std::sync::Wait;
 use types::{Event, Out, Refusal};
 
-/// The journal of a network, the stop mark, and how many seats the cell has.
+/// The journal of a network, the publisher of its decisions, the stop mark, and how many seats the cell has. The
+/// decisions of the entries below a kept number were appended to the publisher; those of the others are found in
+/// the journal, so keeping them takes no memory.
+///
+/// What is published, then what waits to be, then what the other entries decided is all that the journal decided,
+/// in order. For example, where three entries decided x, nothing and y, and the kept number is 1, x was appended,
+/// and y is found in the journal.
 #[derive(Drop)]
 pub struct CellState<S: Shelf, H: Wait + Drop> {
-    journal: WatchedJournal<S, H>,
+    journal: Journal<S>,
+    publisher: Publisher<H>,
+    appended: usize,
     stopped: bool,
     seats: u64,
 }
@@ -29,6 +39,7 @@ pub struct CellState<S: Shelf, H: Wait + Drop> {
 impl<S: Shelf, H: Wait + Drop> Model for CellState<S, H> {
     ghost use Rattle.std.specs.Coded.{codes};
     ghost use Rattle.types.specs.Trees.{members_code};
+    ghost use Rattle.cells.specs.Publishing.{IsPublished};
     ghost use Rattle.cells.specs.Views.{CellStateSight};
 
     ghost Value = { CellStateSight };
@@ -36,6 +47,8 @@ impl<S: Shelf, H: Wait + Drop> Model for CellState<S, H> {
     ghost coded = { Prim.hlevel (codes, members_code) };
 
     ghost view = { λ d. record { log = d.journal; stopped = d.stopped; seats = d.seats } };
+
+    ghost invariant = { λ d. IsPublished d.journal.entries d.appended d.publisher };
 }
 
 /// What an applied event leaves: its receipt, which is known in contracts, and what it gave out.
@@ -43,13 +56,6 @@ impl<S: Shelf, H: Wait + Drop> Model for CellState<S, H> {
 pub struct Entered {
     pub(crate) made: Snapshot<Receipt>,
     pub(crate) answer: Vec<Out>,
-}
-
-/// What a refused event leaves: the event, which is known in contracts alone, and why.
-#[derive(Drop)]
-pub struct Refused {
-    pub(crate) asked: Snapshot<Event>,
-    pub(crate) refusal: CellRefusal,
 }
 
 impl<S: Shelf, H: Wait + Drop> CellState<S, H> {
@@ -66,7 +72,9 @@ impl<S: Shelf, H: Wait + Drop> CellState<S, H> {
         ensures { result ≡ record { log = record { config = config; entries = [] }; stopped = false; seats = seats } }
     {
         CellState {
-            journal: WatchedJournal::new(Journal::new(alloc, config, shelf), publisher),
+            journal: Journal::new(alloc, config, shelf),
+            publisher,
+            appended: 0,
             stopped: false,
             seats,
         }
@@ -86,10 +94,12 @@ impl<S: Shelf, H: Wait + Drop> CellState<S, H> {
     {
         let CellState {
             journal,
+            publisher,
+            appended: _,
             stopped: _,
             seats: _,
         } = self;
-        journal.into_parts()
+        (journal, publisher.take())
     }
 
     /// Publishes what the journal decided, as far as there is memory. It waits for watches that read.
@@ -98,11 +108,16 @@ impl<S: Shelf, H: Wait + Drop> CellState<S, H> {
     {
         let CellState {
             journal,
+            mut publisher,
+            appended,
             stopped,
             seats,
         } = self;
+        let appended = append_all(&journal, &mut publisher, appended);
         CellState {
-            journal: journal.publish(),
+            journal,
+            publisher: publish_waiting(publisher),
+            appended,
             stopped,
             seats,
         }
@@ -113,7 +128,20 @@ impl<S: Shelf, H: Wait + Drop> CellState<S, H> {
         ensures told { IsToldBut self.now.log.entries result watch.new }
         ensures grows { IsPrefix watch.old watch.new }
     {
-        self.journal.tell(rt, watch)
+        self.publisher.tell(rt, watch);
+        self.journal.replays();
+        count_decisions(&self.journal, self.appended, self.publisher.pending_count())
+    }
+
+    /// One event, as by [`Journal::apply_recorded`].
+    fn apply_recorded(&mut self, event: Event) -> Result<Recorded, Refusal>
+        ensures ok { IfOk result (λ r. IsEntered self.old.log (step_of event) r.outs.items) }
+        ensures entered { IfOk result (λ r. self.new ≡ record self.old { log = with_entry self.old.log (step_of event) r.outs.items }) }
+        ensures recorded { IfOk result (IsRecorded self.old.log event) }
+        ensures err { IfErr result (IsRefused self.old.log (step_of event)) }
+        ensures same { OnErr result (self.new ≡ self.old) }
+    {
+        self.journal.apply_recorded(event)
     }
 
     /// Applies an event, where there is no stop mark, and keeps its receipt behind those of a seat. An error
@@ -129,17 +157,31 @@ impl<S: Shelf, H: Wait + Drop> CellState<S, H> {
         ensures same { IfErr result (λ _. (self.new ≡ self.old) × (receipts.new.items ≡ receipts.old.items)) }
     {
         if self.stopped {
+            drop(event);
             return Err(CellRefusal::Closed);
         }
         if receipts.reserve(1).is_err() {
             // Memory: the receipt has no room; a refusal that applies comes first.
             let refusal = self.journal.refusal(&event);
+            drop(event);
             return Err(CellRefusal::Network(refusal));
         }
-        match self.journal.apply_recorded(event) {
+        match self.apply_recorded(event) {
             Ok(recorded) => {
-                let network = self.journal.config().number();
-                let (receipt, answer) = receipt_and_outs(network, recorded);
+                let Recorded {
+                    number,
+                    event,
+                    outs,
+                    marks,
+                    answer,
+                } = recorded;
+                let receipt = Receipt {
+                    network: self.journal.config().number(),
+                    number: number as u64,
+                    event,
+                    outs,
+                    marks,
+                };
                 let made = Snapshot::of(&receipt);
                 receipts.push_reserved(receipt);
                 Ok(Entered { made, answer })
@@ -147,26 +189,4 @@ impl<S: Shelf, H: Wait + Drop> CellState<S, H> {
             Err(refusal) => Err(CellRefusal::Network(refusal)),
         }
     }
-}
-
-/// The receipt of an entry of this network, and the outs for the answer.
-fn receipt_and_outs(network: u32, recorded: Recorded) -> (Receipt, Vec<Out>)
-    ensures receipt { result.0 ≡ record { network = network; number = recorded.number; event = recorded.event; outs = recorded.outs.items; marks = recorded.marks.items } }
-    ensures answer { result.1 ≡ recorded.answer }
-{
-    let Recorded {
-        number,
-        event,
-        outs,
-        marks,
-        answer,
-    } = recorded;
-    let receipt = Receipt {
-        network,
-        number: number as u64,
-        event,
-        outs,
-        marks,
-    };
-    (receipt, answer)
 }

@@ -12,11 +12,10 @@ ghost use Rattle.cells.specs.Rule.{closer_of, note_of, with_note, IsKnownAtEnd};
 ghost use Rattle.cells.specs.Sounds.{IsSound, IsWhy};
 
 use super::Cell;
-use crate::cell_state::{CellState, Refused};
-use crate::lock;
-use crate::lock::{add, closer, compare, deny, end, leave, mark, put_first, sit, take};
+use crate::cell_state::CellState;
+use crate::lock::{add, deny, give, take};
 use crate::refusal::CellRefusal;
-use crate::rule::{Lock, SeatPass};
+use crate::rule::{Checks, Closes, Ends, Lock, SeatPass, Shows, Sits};
 use crate::seat::Seat;
 use configuration::NetConfig;
 use decisions::{Board, Publisher, Watch};
@@ -75,7 +74,7 @@ fn closer_from<S: Shelf, H: Wait + Drop>(lock: &Lock<S, H>, seat: &mut Seat<S, H
     ensures same { seat.new ≡ seat.old }
     ensures pass { IsPassOf lock.now result × (view result ≡ closer_of seat.old.me) }
 {
-    closer(lock, &mut seat.pass)
+    lock.another::<Closes>(&mut seat.pass)
 }
 
 /// Ends a seat, and compares it with the cell state.
@@ -93,8 +92,9 @@ fn end_seat<S: Shelf, H: Wait + Drop>(
     ensures keeper { view keeper.new ≡ with_note (view keeper.old) (note_of seat.old.me) }
     ensures end_known { IsKnownAtEnd (view keeper.old).config (view keeper.old).all (view keeper.old).owners (view keeper.old).over (view keeper.old).stopper seat.new.me }
 {
-    let note = end(lock, &mut seat.pass);
-    compare(lock, keeper, note);
+    let note = lock.another::<Ends>(&mut seat.pass);
+    lock.absorb::<Shows>(keeper, note);
+    lock.learn_as::<Checks>(keeper);
 }
 
 /// Takes the cell state for good, and ends each seat.
@@ -118,19 +118,23 @@ fn gather<S: Shelf, H: Wait + Drop, R: Wait>(
     cell_state
 }
 
-/// So many watches of a publisher, which have seen nothing. An error says that memory is short.
-fn watches_of<H: Wait + Drop>(
+/// A publisher with nothing appended, and so many watches of it, which have seen nothing. An error says that memory
+/// is short.
+fn publisher_and_watches<H: Wait + Drop>(
+    rt: H,
     alloc: Global,
-    publisher: &Publisher<H>,
     count: usize,
-) -> Result<Vec<Watch>, AllocError>
-    ensures { IfOk result (λ v. v.items ≡ replicate count []) }
+) -> Result<(Publisher<H>, Vec<Watch>), AllocError>
+    requires { count ≤ 64 }
+    ensures publisher { IfOk result (λ r. (r.0.0 ≡ []) × (r.0.1 ≡ [])) }
+    ensures watches { IfOk result (λ r. r.1.items ≡ replicate count []) }
 {
+    let publisher = Publisher::new(alloc, rt, count + 1)?;
     let mut watches = Vec::new(alloc);
     for _ in 0..count {
         watches.push(publisher.watch()?)?;
     }
-    Ok(watches)
+    Ok((publisher, watches))
 }
 
 impl<S: Shelf + Drop, H: Wait + Drop> Cell<S, H> {
@@ -163,13 +167,12 @@ impl<S: Shelf + Drop, H: Wait + Drop + Copy> Cell<S, H> {
         let CellUsers { seats, watches } = users;
         let kept = config.try_copy(alloc)?;
         let mut all = Vec::with_capacity(alloc, seats as usize)?;
-        let publisher = Publisher::new(alloc, *rt, watches + 1)?;
-        let given = watches_of(alloc, &publisher, watches)?;
-        let (lock, mut opener) = lock::new(alloc)?;
+        let (lock, mut opener) = Lock::ruled(alloc, 1)?;
+        let (publisher, given) = publisher_and_watches(*rt, alloc, watches)?;
         let cell_state = CellState::new(alloc, config, shelf, seats, publisher);
-        put_first::<Brand, S, H, H>(rt, &lock, &mut opener, cell_state);
+        give::<Brand, S, H, H>(rt, &lock, &mut opener, cell_state);
         for number in 0..seats {
-            let pass = sit(&lock, &mut opener);
+            let pass = lock.another::<Sits>(&mut opener);
             all.push_reserved(Seat {
                 pass,
                 number,
@@ -239,8 +242,7 @@ impl<S: Shelf + Drop, H: Wait + Drop> Cell<S, H> {
                 Ok(entered.answer)
             }
             Err(refusal) => {
-                let refused = Refused { asked, refusal };
-                deny::<Brand, S, H, R>(rt, &self.lock, &mut seat.pass, cell_state, &refused);
+                deny::<Brand, S, H, R>(rt, &self.lock, &mut seat.pass, cell_state, &asked, refusal);
                 Err(refusal)
             }
         }
@@ -256,7 +258,7 @@ impl<S: Shelf + Drop, H: Wait + Drop> Cell<S, H> {
     {
         let mut cell_state = take(rt, &self.lock, &mut seat.pass);
         cell_state.stop();
-        mark::<Brand, S, H, R>(rt, &self.lock, &mut seat.pass, cell_state);
+        give::<Brand, S, H, R>(rt, &self.lock, &mut seat.pass, cell_state);
     }
 
     /// Publishes what the journal decided, as far as there is memory, and has a watch of this cell see all that is
@@ -274,7 +276,7 @@ impl<S: Shelf + Drop, H: Wait + Drop> Cell<S, H> {
     {
         let cell_state = take(rt, &self.lock, &mut seat.pass).publish();
         let missing = cell_state.tell(rt, watch);
-        leave::<Brand, S, H, R>(rt, &self.lock, &mut seat.pass, cell_state);
+        give::<Brand, S, H, R>(rt, &self.lock, &mut seat.pass, cell_state);
         missing
     }
 

@@ -1,5 +1,6 @@
 use Rattle.std.proofs.Common.{◌<◌, length, arith}
-use Rattle.cells.proofs.Published.{count_next}
+use Rattle.hoststep.specs.Deciding.{decided_by}
+use Rattle.cells.proofs.Published.{count_next, count_one}
 use Rattle.cells.proofs.watched.count_decisions.Goals as goal
 
 pub overflow_add-count : goal.overflow_add-count
@@ -8,7 +9,7 @@ overflow_add-count g c =
     let len = c.len-number-end.ensures in
     let lt : c.loop-number.number < length c.args.journal.now.entries = omega arith in
     let next = count_next c.args.journal.now.entries c.loop-number.number lt in
-    let mine = c.count_at-count.ensures in
+    let mine = count_one decided_by c.decision.result c.is_some.result _ c.is_some.ensures c.decision.ensures in
     let i = c.loop-number.invariant in
     let few = c.requires.few in
     let fits = c.loop-number.auto.number-end in
@@ -20,6 +21,6 @@ loop-number-preserved g c =
     let len = c.len-number-end.ensures in
     let lt : c.loop-number.number < length c.args.journal.now.entries = omega arith in
     let next = count_next c.args.journal.now.entries c.loop-number.number lt in
-    let mine = c.count_at-count.ensures in
+    let mine = count_one decided_by c.decision.result c.is_some.result _ c.is_some.ensures c.decision.ensures in
     let i = c.loop-number.invariant in
     omega arith

@@ -6,4 +6,4 @@ abbrev pub ghosts-add : goal.ghosts-add
 ghosts-add g a = record { next = after_application (view a.pass.now) a.made.now.value }
 
 abbrev pub ghosts-deny : goal.ghosts-deny
-ghosts-deny g a = record { next = after_denial (view a.pass.now) a.refused.now.asked.value a.refused.now.refusal }
+ghosts-deny g a = record { next = after_denial (view a.pass.now) a.asked.now.value a.refusal }

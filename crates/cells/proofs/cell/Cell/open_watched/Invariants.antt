@@ -4,8 +4,8 @@ use Rattle.cells.specs.Rule.{after_opening, fresh}
 use Rattle.cells.specs.Sights.{SeatSight}
 use Rattle.cells.proofs.cell.Cell.open_watched.Given as goal
 
-abbrev pub ghosts-put_first : goal.ghosts-put_first
-ghosts-put_first g a = record { next = after_opening a.cell_state.log.config a.cell_state.seats }
+abbrev pub ghosts-give : goal.ghosts-give
+ghosts-give g a = record { next = after_opening a.cell_state.log.config a.cell_state.seats }
 
 abbrev pub invariant-loop-number : goal.invariant-loop-number
 invariant-loop-number g l =

@@ -1,6 +1,6 @@
 use Rattle.network.specs.Decoding.{step_of}
 use Rattle.cells.proofs.Published.{after_event}
-use Rattle.cells.proofs.watched.WatchedJournal.apply_recorded.Goals as goal
+use Rattle.cells.proofs.cell_state.CellState.apply_recorded.Goals as goal
 
 pub invariant_of-self : goal.invariant_of-self
 invariant_of-self g c =

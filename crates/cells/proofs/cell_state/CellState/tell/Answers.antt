@@ -1,9 +1,9 @@
 use Rattle.std.proofs.Common.{ℕ, ◌+◌, length, subst, ap, ◌∙◌, arith}
 use Rattle.hoststep.specs.Deciding.{decisions_from}
-use Rattle.hoststep.specs.Logs.{Log}
 use Rattle.cells.specs.Publishing.{IsToldBut}
+use Rattle.cells.specs.Views.{CellStateSight}
 use Rattle.cells.proofs.Published.{few_wait, told_but}
-use Rattle.cells.proofs.watched.WatchedJournal.tell.Goals as goal
+use Rattle.cells.proofs.cell_state.CellState.tell.Goals as goal
 
 pub count_decisions-requires-clause-few : goal.count_decisions-requires-clause-few
 count_decisions-requires-clause-few g c =
@@ -13,6 +13,6 @@ count_decisions-requires-clause-few g c =
 
 pub returns-clause-told : goal.returns-clause-told
 returns-clause-told g c =
-    let w = c.self.inside in
-    subst (λ (l : Log). IsToldBut l.entries c.count_decisions.result c.tell.new.watch) c.self.view_is
-    (told_but w.journal.entries w.appended w.publisher c.tell.new.watch c.count_decisions.result c.self.invariant c.tell.ensures.told (c.count_decisions.ensures ∙ ap (λ (k : ℕ). k + length (decisions_from w.journal.entries w.appended)) c.pending_count.ensures))
+    let d = c.self.inside in
+    subst (λ (x : CellStateSight). IsToldBut x.log.entries c.count_decisions.result c.tell.new.watch) c.self.view_is
+    (told_but d.journal.entries d.appended d.publisher c.tell.new.watch c.count_decisions.result c.self.invariant c.tell.ensures.told (c.count_decisions.ensures ∙ ap (λ (k : ℕ). k + length (decisions_from d.journal.entries d.appended)) c.pending_count.ensures))

@@ -1,0 +1,12 @@
+use Rattle.std.proofs.Common.{List, sym, subst}
+use mathlib.Core.List.{IsPrefix}
+use Rattle.decisions.specs.declared.decision.Decision.{Decision}
+use Rattle.cells.specs.Publishing.{decisions_known}
+use Rattle.cells.specs.Views.{CellStateSight}
+use Rattle.cells.proofs.Published.{published_begins}
+use Rattle.cells.proofs.cell_state.CellState.into_parts.Goals as goal
+
+pub returns-clause-published : goal.returns-clause-published
+returns-clause-published g c =
+    let d = c.self.inside in
+    subst (λ (y : List Decision × CellStateSight). IsPrefix y.0 (decisions_known y.1.log.entries)) (λ i. (sym c.take.ensures i, c.self.view_is i)) (published_begins d.journal.entries d.appended d.publisher c.self.invariant)

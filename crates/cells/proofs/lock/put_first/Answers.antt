@@ -1,5 +1,0 @@
-use Rattle.cells.proofs.Moves.{opens, pushed_as}
-use Rattle.cells.proofs.lock.put_first.Goals as goal
-
-pub give-requires-clause-rule : goal.give-requires-clause-rule
-give-requires-clause-rule g c = pushed_as _ _ _ _ _ _ c.requires.cell_state c.requires.next (opens _ _ _ _ c.requires.opening)
