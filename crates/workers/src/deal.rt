@@ -1,7 +1,7 @@
 //! Seats dealt to workers, and given back.
 
 ghost use Rattle.std.specs.Prelude.{◌≡◌, ◌<◌, ◌≤◌, ◌+◌, IfOk, ◌∷◌, ◌++◌, vec_capacity, vec_len, length, []};
-ghost use Rattle.workers.specs.Spares.{AllFresh, AllHave, AllRoomy, IsWorkerRoom, IsDealt, IsDealtAll, IsDealtSeat, IsGiven, IsGivenSeat, IsSplit};
+ghost use Rattle.workers.specs.Spares.{AllFresh, AllHave, AllRoomy, IsWorkerRoom, IsDealt, IsDealtAll, IsDealtSeat, IsGiven, IsSplit};
 ghost use Rattle.workers.specs.declared.walk.Walk.{Walk};
 
 use crate::walk::Walk;
@@ -31,16 +31,6 @@ pub(crate) struct WorkerRoom<S: Shelf, H: Wait + Drop> {
     pub workers: Vec<Worker<S, H>>,
 }
 
-/// The less of a number and how many spare seats there are at a cell.
-fn lesser_count<S: Shelf, H: Wait + Drop>(spare: &SpareSeats<S, H>, most: usize) -> usize
-    requires { 0 < most }
-    ensures bound { (result ≤ most) × (result ≤ length spare.now.seats.items) }
-    ensures some { 0 < length spare.now.seats.items → 0 < result }
-{
-    let seats = spare.seats.len();
-    if seats < most { seats } else { most }
-}
-
 /// So many workers, or as many as the fewest seats of a cell.
 pub(crate) fn fewest_seats<S: Shelf, H: Wait + Drop>(
     spares: &[SpareSeats<S, H>],
@@ -53,7 +43,7 @@ pub(crate) fn fewest_seats<S: Shelf, H: Wait + Drop>(
 {
     let mut least = most;
     for spare in spares {
-        least = lesser_count(spare, least);
+        least = least.min(spare.seats.len());
     }
     least
 }
@@ -138,15 +128,6 @@ pub(crate) fn deal<S: Shelf, H: Wait + Drop>(
     workers
 }
 
-/// A seat goes back to the spare ones of its cell.
-fn give_seat<S: Shelf, H: Wait + Drop>(spare: &mut SpareSeats<S, H>, walk: Walk<S, H>)
-    requires { length spare.old.seats.items < vec_capacity spare.old.seats }
-    ensures { IsGivenSeat spare.old walk spare.new }
-{
-    let Walk { seat, place: _ } = walk;
-    spare.seats.push_reserved(seat);
-}
-
 /// The seats of one worker go back to the spare ones.
 pub(crate) fn give_back<S: Shelf, H: Wait + Drop>(
     spares: &mut Vec<SpareSeats<S, H>>,
@@ -163,6 +144,6 @@ pub(crate) fn give_back<S: Shelf, H: Wait + Drop>(
         refused: _,
     } = worker;
     while let Some(walk) = walks.pop() {
-        give_seat(&mut spares[walks.len()], walk);
+        spares[walks.len()].seats.push_reserved(walk.seat);
     }
 }

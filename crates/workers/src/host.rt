@@ -46,22 +46,6 @@ impl<S: Shelf, H: Wait + Drop> Model for Host<S, H> {
     ghost invariant = { λ h. IsHostState h.host_state };
 }
 
-/// All seats of a cell end, and its journal is handed over.
-fn close_net<S: Shelf + Drop, H: Wait + Drop, R: Wait>(
-    rt: &R,
-    cell: Cell<S, H>,
-    seats: Vec<Seat<S, H>>,
-) -> (Journal<S>, Vec<Seat<S, H>>)
-    requires { IsHosted cell seats.items }
-    ensures { IsClosedNet (record { cell = cell; seats = seats.items }) result.0 result.1.items }
-{
-    match cell.close(rt, seats) {
-        Ok(done) => done,
-        // All seats are there.
-        Err(_) => unreachable!(),
-    }
-}
-
 impl<S: Shelf + Drop, H: Wait + Drop> Host<S, H> {
     /// A host without networks. It takes no memory.
     pub fn new(alloc: Global) -> Host<S, H>
@@ -130,21 +114,26 @@ impl<S: Shelf + Drop, H: Wait + Drop> Host<S, H> {
             return None;
         }
         let (cell, seats) = self.host_state.remove_last();
-        Some(close_net(rt, cell, seats))
+        match cell.close(rt, seats) {
+            Ok(done) => Some(done),
+            // All seats are there.
+            Err(_) => unreachable!(),
+        }
     }
+
     /// The first so many networks, and the others, each as a host of their own. An error says that memory is
     /// short, and all networks are gone.
     pub fn split_at(self, count: usize) -> Result<(Host<S, H>, Host<S, H>), AllocError>
         requires { count ≤ length self }
         ensures { IfOk result (λ r. (r.0 ≡ take count self) × (r.1 ≡ drop count self)) }
     {
-        let Host { alloc, host_state } = self;
-        let (first, others) = host_state.split_at(count)?;
+        let Host {
+            alloc,
+            mut host_state,
+        } = self;
+        let others = host_state.split_off(count)?;
         Ok((
-            Host {
-                alloc,
-                host_state: first,
-            },
+            Host { alloc, host_state },
             Host {
                 alloc,
                 host_state: others,

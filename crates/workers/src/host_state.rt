@@ -67,37 +67,22 @@ impl<S: Shelf + Drop, H: Wait + Drop> HostState<S, H> {
         let SpareSeats { seats } = spare;
         (cell, seats)
     }
-    /// The first so many networks, with the queue, and the others. An error says that memory is short.
-    pub(crate) fn split_at(
-        self,
-        count: usize,
-    ) -> Result<(HostState<S, H>, HostState<S, H>), AllocError>
-        requires { (count ≤ length self.shared.numbers.items) × (count ≤ length self.shared.cells.items) × (count ≤ length self.spares.items) }
-        ensures { IfOk result (λ r. AreParts self count r.0 r.1) }
+
+    /// The networks behind the first so many leave, without the queue. An error says that memory is short.
+    pub(crate) fn split_off(&mut self, count: usize) -> Result<HostState<S, H>, AllocError>
+        requires { (count ≤ length self.old.shared.numbers.items) × (count ≤ length self.old.shared.cells.items) × (count ≤ length self.old.spares.items) }
+        ensures { IfOk result (λ r. AreParts self.old count self.new r) }
     {
-        let HostState { shared, mut spares } = self;
-        let Shared {
-            mut numbers,
-            mut cells,
-            queue,
-        } = shared;
-        let others = Shared {
-            numbers: numbers.split_off(count)?,
-            cells: cells.split_off(count)?,
-            queue: None,
-        };
-        let behind = spares.split_off(count)?;
-        let shared = Shared {
-            numbers,
-            cells,
-            queue,
-        };
-        Ok((
-            HostState { shared, spares },
-            HostState {
-                shared: others,
-                spares: behind,
+        let numbers = self.shared.numbers.split_off(count)?;
+        let cells = self.shared.cells.split_off(count)?;
+        let spares = self.spares.split_off(count)?;
+        Ok(HostState {
+            shared: Shared {
+                numbers,
+                cells,
+                queue: None,
             },
-        ))
+            spares,
+        })
     }
 }

@@ -6,7 +6,7 @@ ghost use Rattle.work.specs.Hands.{all_parts, weigh};
 ghost use Rattle.work.specs.Queues.{parts_by};
 ghost use Rattle.work.specs.declared.line.Queue.{Queue};
 ghost use Rattle.workers.specs.Numbers.{IsNumbered};
-ghost use Rattle.workers.specs.Sums.{AllPassing, AllReady, IsClosed, IsReady, IsSummed, IsThrough, at_rest, parts_of, passes_of};
+ghost use Rattle.workers.specs.Sums.{AllPassing, AllReady, IsClosed, IsReady, IsThrough, at_rest, parts_of, passes_of};
 ghost use Rattle.workers.specs.declared.worker.Worker.{Worker};
 
 use crate::gate::Gate;
@@ -44,25 +44,6 @@ where
             ensures { IsThrough shared.entry.now.cells.items shared.entry.now.queue w.old w.new }
         { w.work(&Workplace { rt, shared, gate }) },
     );
-}
-
-/// All workers work at once, until the queue is empty and all receipts were gone through.
-fn work_all<
-    S: Shelf + Drop + Send,
-    H: Wait + Drop + Send,
-    R: Threads + Wait + Sync,
-    G: Gate + Sync,
->(rt: &R, shared: &Shared<S, H>, workers: &mut [Worker<S, H>], gate: &G)
-where
-    S::Place: Send,
-    requires order { IsNumbered shared.now.numbers.items shared.now.cells.items }
-    requires some { 0 < length workers.old }
-    requires ready { AllReady shared.now.cells.items shared.now.queue workers.old }
-    ensures summed { IsSummed shared.now.cells.items workers.old workers.new }
-    ensures ready { AllReady shared.now.cells.items shared.now.queue workers.new }
-    ensures len { length workers.new ≡ length workers.old }
-{
-    start(rt, shared, workers, gate);
 }
 
 /// A worker hands over its pass.
@@ -133,6 +114,6 @@ where
     ensures ready { AllReady shared.old.cells.items None workers.new }
     ensures closed { IsClosed shared.old.cells.items passes.items workers.old workers.new }
 {
-    work_all(rt, shared, workers, gate);
+    start(rt, shared, workers, gate);
     finish(rt, shared, workers, passes, gate);
 }

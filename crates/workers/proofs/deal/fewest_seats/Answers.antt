@@ -10,11 +10,13 @@ loop-spare-preserved g c =
     let bs = c.args.spares.now in
     let n = c.loop-spare.spare-index in
     let x = c.spare-item.result in
-    let e = c.lesser_count-least.ensures in (
-      e.some (have_at 1 bs n x c.requires.seats c.loop-spare-test.true c.spare-item.is),
-      (let a = e.bound.0 in let b = i.1 in omega arith),
-      have_more c.loop-spare.least c.lesser_count-least.result bs n x i.2 e.bound.0 c.loop-spare-test.true c.spare-item.is e.bound.1,
-    )
+    let least = c.min-least.ensures in
+    let many = c.len.ensures in
+    let ok = x.seats.ok.0 in
+    let have = have_at 1 bs n x c.requires.seats c.loop-spare-test.true c.spare-item.is in
+    let some = i.0 in
+    let most = i.1 in
+    (omega arith, omega arith, have_more c.loop-spare.least c.min-least.result bs n x i.2 (omega arith) c.loop-spare-test.true c.spare-item.is (omega arith))
 
 pub returns-clause-seats : goal.returns-clause-seats
 returns-clause-seats g c =

@@ -1,4 +1,5 @@
 use Rattle.std.proofs.Common.{◌≡◌, List, arith, length, subst, sym, ap, ◌∙◌, get_or, slice_set}
+use Rattle.workers.specs.declared.deal.SpareSeats.{SpareSeats}
 use Rattle.workers.specs.declared.walk.Walk.{Walk}
 use Rattle.workers.proofs.Deals.{IsGivenFrom, given_from_all, given_from_at, given_from_less, given_from_lt}
 use Rattle.workers.proofs.deal.give_back.Goals as goal
@@ -15,12 +16,13 @@ index_mut-requires g c =
     let ok' = c.loop-walk.spares.ok.0 in
     let k = c.len.ensures in omega arith
 
-pub give_seat-requires : goal.give_seat-requires
-give_seat-requires g c =
+pub push_reserved-requires : goal.push_reserved-requires
+push_reserved-requires g c =
     let vs = c.pop.new.self.items in
     let all = subst (λ (l : List (Walk _ _ _)). IsGivenFrom l c.args.worker.walks.items c.args.spares.now.items c.loop-walk.spares.items) c.in-Some.ensures.items c.loop-walk.invariant in
     let n : c.len.result ≡ length vs = let ok = c.pop.new.self.ok.0 in let k = c.len.ensures in omega arith in
-    given_from_at vs c.args.worker.walks.items c.args.spares.now.items c.loop-walk.spares.items c.in-Some.walk c.index_mut.result.now all (c.index_mut.ensures.value ∙ ap (λ k. get_or c.loop-walk.spares.items k c.index_mut.result.now) n) c.requires.room
+    let room = given_from_at vs c.args.worker.walks.items c.args.spares.now.items c.loop-walk.spares.items c.in-Some.walk c.index_mut.result.now all (c.index_mut.ensures.value ∙ ap (λ k. get_or c.loop-walk.spares.items k c.index_mut.result.now) n) c.requires.room in
+    let many = c.index_mut.result.now.seats.ok.0 in omega arith
 
 pub loop-walk-preserved : goal.loop-walk-preserved
 loop-walk-preserved g c =
@@ -28,5 +30,7 @@ loop-walk-preserved g c =
     let ys = c.loop-walk.spares.items in
     let all = subst (λ (l : List (Walk _ _ _)). IsGivenFrom l c.args.worker.walks.items c.args.spares.now.items ys) c.in-Some.ensures.items c.loop-walk.invariant in
     let n : c.len.result ≡ length vs = let ok = c.pop.new.self.ok.0 in let k = c.len.ensures in omega arith in
-    subst (λ k. IsGivenFrom vs c.args.worker.walks.items c.args.spares.now.items (slice_set ys k c.give_seat.new.spare)) (sym n)
-    (given_from_less vs c.args.worker.walks.items c.args.spares.now.items ys c.in-Some.walk c.index_mut.result.now c.give_seat.new.spare all (c.index_mut.ensures.value ∙ ap (λ k. get_or ys k c.index_mut.result.now) n) c.give_seat.ensures)
+    let given : (SpareSeats _ _ _) = record { seats = c.push_reserved.new.self } in
+    let e = c.push_reserved.ensures in
+    subst (λ k. IsGivenFrom vs c.args.worker.walks.items c.args.spares.now.items (slice_set ys k given)) (sym n)
+    (given_from_less vs c.args.worker.walks.items c.args.spares.now.items ys c.in-Some.walk c.index_mut.result.now given all (c.index_mut.ensures.value ∙ ap (λ k. get_or ys k c.index_mut.result.now) n) (record { seats = e.items; capacity = e.capacity }))
