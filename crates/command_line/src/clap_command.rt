@@ -64,22 +64,22 @@ stand on one roster, and the same was submitted for them, applied or refused, so
 pub fn command_line<'a>(alloc: Global) -> Result<Command<'a>, AllocError>
     ensures { IfOk result (λ c. app_of c ≡ whole_command) }
 {
-    let table = table_command(alloc)?;
-    let run = run_command(alloc)?;
-    let closure = closure_command(alloc)?;
-    let compare = compare_command(alloc)?;
-    let crowd = crowd_command(alloc)?;
     let bare = Command::new(alloc, "scphost")
         .bin_name("scphost")?
         .about("A host of SCP validators")
         .version(VERSION)
         .no_binary_name(true)
         .subcommand_required(true);
-    bare.subcommand(table)?
-        .subcommand(run)?
-        .subcommand(closure)?
-        .subcommand(compare)?
-        .subcommand(crowd)
+    let table = table_command(alloc)?;
+    let with_table = bare.subcommand(table)?;
+    let run = run_command(alloc)?;
+    let with_run = with_table.subcommand(run)?;
+    let closure = closure_command(alloc)?;
+    let with_closure = with_run.subcommand(closure)?;
+    let compare = compare_command(alloc)?;
+    let with_compare = with_closure.subcommand(compare)?;
+    let crowd = crowd_command(alloc)?;
+    with_compare.subcommand(crowd)
 }
 
 /// `table FILE`.

@@ -41,17 +41,17 @@ returns c =
     ap app_of_fields c.no_binary_name.ensures ∙ ap without_name versioned_is in
     let bare_is : app_of c.subcommand_required-bare.result ≡ bare_command =
     ap app_of_fields c.subcommand_required-bare.ensures ∙ ap wanting_subcommand nameless_is in
-    let one_is : app_of c.in_ok-subcommand.field-0 ≡ with_subcommand bare_command table_command.top =
-    c.in_ok-subcommand.ensures.shape (no_third _ _ _ _ (ap (λ (a : App). a.top.is_plain) table_is))
+    let one_is : app_of c.in_ok-with_table.with_table ≡ with_subcommand bare_command table_command.top =
+    c.in_ok-with_table.ensures.shape (no_third _ _ _ _ (ap (λ (a : App). a.top.is_plain) table_is))
     ∙ ap₂ with_subcommand bare_is (ap (λ (a : App). a.top) table_is) in
-    let two_is : app_of c.in_ok-subcommand-2.field-0 ≡ with_subcommand (with_subcommand bare_command table_command.top) run_command.top =
-    c.in_ok-subcommand-2.ensures.shape (no_third _ _ _ _ (ap (λ (a : App). a.top.is_plain) run_is))
+    let two_is : app_of c.in_ok-with_run.with_run ≡ with_subcommand (with_subcommand bare_command table_command.top) run_command.top =
+    c.in_ok-with_run.ensures.shape (no_third _ _ _ _ (ap (λ (a : App). a.top.is_plain) run_is))
     ∙ ap₂ with_subcommand one_is (ap (λ (a : App). a.top) run_is) in
-    let three_is : app_of c.in_ok-subcommand-3.field-0 ≡ with_subcommand (with_subcommand (with_subcommand bare_command table_command.top) run_command.top) closure_command.top =
-    c.in_ok-subcommand-3.ensures.shape (no_third _ _ _ _ (ap (λ (a : App). a.top.is_plain) closure_is))
+    let three_is : app_of c.in_ok-with_closure.with_closure ≡ with_subcommand (with_subcommand (with_subcommand bare_command table_command.top) run_command.top) closure_command.top =
+    c.in_ok-with_closure.ensures.shape (no_third _ _ _ _ (ap (λ (a : App). a.top.is_plain) closure_is))
     ∙ ap₂ with_subcommand two_is (ap (λ (a : App). a.top) closure_is) in
-    let four_is : app_of c.in_ok-subcommand-4.field-0 ≡ with_subcommand (with_subcommand (with_subcommand (with_subcommand bare_command table_command.top) run_command.top) closure_command.top) compare_command.top =
-    c.in_ok-subcommand-4.ensures.shape (no_third _ _ _ _ (ap (λ (a : App). a.top.is_plain) compare_is))
+    let four_is : app_of c.in_ok-with_compare.with_compare ≡ with_subcommand (with_subcommand (with_subcommand (with_subcommand bare_command table_command.top) run_command.top) closure_command.top) compare_command.top =
+    c.in_ok-with_compare.ensures.shape (no_third _ _ _ _ (ap (λ (a : App). a.top.is_plain) compare_is))
     ∙ ap₂ with_subcommand three_is (ap (λ (a : App). a.top) compare_is) in
     IfOk-weaker c.subcommand-5.result _ _
     (λ whole h. h.shape (no_third _ _ _ _ (ap (λ (a : App). a.top.is_plain) crowd_is)) ∙ ap₂ with_subcommand four_is (ap (λ (a : App). a.top) crowd_is))
