@@ -50,29 +50,34 @@ impl<R: Wait + Drop> OpenNetwork<R> {
         let OpenNetwork { cell, seats } = self;
         match host.add(cell, seats) {
             Ok(()) => Ok(()),
-            // Memory: the host has no room; numbers and their count were tested line by line.
-            Err(_) => Err(AllocError),
+            Err(back) => {
+                drop(back);
+                // Memory: the host has no room; numbers and their count were tested line by line.
+                Err(AllocError)
+            }
         }
     }
 }
 
-/// Opens a network with so many seats, over a handle on the store of all; its slots among those that are opened
-/// first, which stand ascending by network, are opened in order, refused or not. An error says that memory is
-/// short.
+/// Opens a network with so many seats, over a copy of a handle on the store of all; its slots among those that
+/// are opened first, which stand ascending by network, are opened in order, refused or not. An error says that
+/// memory is short.
 pub fn open_network<R: Wait + Drop + Copy>(
     rt: &R,
     alloc: Global,
-    network: (NetConfig, SharedHandle<R>, u64),
+    handle: &SharedHandle<R>,
+    network: (NetConfig, u64),
     opens: &[(u32, u64)],
 ) -> Result<OpenNetwork<R>, AllocError>
-    requires some { 0 < network.2 }
-    requires few { network.2 ≤ 64 }
+    requires some { 0 < network.1 }
+    requires few { network.1 ≤ 64 }
     requires rising { IsNonDecreasingBy (λ o. o.0) opens.now }
-    ensures { IfOk result (IsReady network.0 network.2 (slots_of network.0.number opens.now)) }
+    ensures { IfOk result (IsReady network.0 network.1 (slots_of network.0.number opens.now)) }
 {
-    let (config, handle, seats) = network;
+    let (config, seats) = network;
     let own = own_opens(config.number(), opens);
-    let (cell, mut seats) = Cell::open_on(rt, alloc, config, seats, handle)?;
+    let shelf = handle.try_copy()?;
+    let (cell, mut seats) = Cell::open_on(rt, alloc, config, seats, shelf)?;
     open_slots(rt, &cell, &mut seats[0], own);
     Ok(OpenNetwork { cell, seats })
 }

@@ -27,32 +27,22 @@ pub struct UnopenedNetworks<R: Wait + Drop> {
 }
 
 impl<R: Wait + Copy + Drop> UnopenedNetworks<R> {
-    /// The first half of the networks, and the others.
-    fn halves(self) -> Result<(UnopenedNetworks<R>, UnopenedNetworks<R>), AllocError>
-        ensures networks { IfOk result (λ r. self.configs.items ≡ r.0.configs.items ++ r.1.configs.items) }
-        ensures seats { IfOk result (λ r. (r.0.seats ≡ self.seats) × (r.1.seats ≡ self.seats)) }
-        ensures opens { IfOk result (λ r. (r.0.opens.items ≡ self.opens.items) × (r.1.opens.items ≡ self.opens.items)) }
+    /// The networks of the second half, which these lose.
+    fn split_half(&mut self) -> Result<UnopenedNetworks<R>, AllocError>
+        ensures networks { IfOk result (λ r. self.old.configs.items ≡ self.new.configs.items ++ r.configs.items) }
+        ensures seats { IfOk result (λ r. (self.new.seats ≡ self.old.seats) × (r.seats ≡ self.old.seats)) }
+        ensures opens { IfOk result (λ r. (self.new.opens.items ≡ self.old.opens.items) × (r.opens.items ≡ self.old.opens.items)) }
     {
-        let UnopenedNetworks {
-            mut configs,
-            handle,
-            seats,
-            opens,
-        } = self;
-        let count = configs.len() / 2;
-        let others = UnopenedNetworks {
-            configs: configs.split_off(count)?,
-            handle: handle.try_copy()?,
-            seats,
-            opens: opens.clone()?,
-        };
-        let first = UnopenedNetworks {
+        let opens = self.opens.clone()?;
+        let handle = self.handle.try_copy()?;
+        let count = self.configs.len() / 2;
+        let configs = self.configs.split_off(count)?;
+        Ok(UnopenedNetworks {
             configs,
             handle,
-            seats,
+            seats: self.seats,
             opens,
-        };
-        Ok((first, others))
+        })
     }
 }
 
@@ -74,7 +64,8 @@ pub fn open_by<R: Threads + Wait + Sync + Send + Copy + Drop>(
     if threads < 2 {
         return open_alone(rt, alloc, nets);
     }
-    let (low, high) = nets.halves()?;
+    let mut low = nets;
+    let high = low.split_half()?;
     let fewer = threads / 2;
     let more = threads - fewer;
     let open_low = move || -> Result<Vec<OpenNetwork<R>>, AllocError>
@@ -120,8 +111,7 @@ fn open_alone<R: Wait + Copy + Drop>(
     } = nets;
     let mut opened = Vec::with_capacity(alloc, configs.len())?;
     for config in configs {
-        let shelf = handle.try_copy()?;
-        let net = open_network(rt, alloc, (config, shelf, seats), &opens)?;
+        let net = open_network(rt, alloc, &handle, (config, seats), &opens)?;
         opened.push(net)?;
     }
     Ok(opened)

@@ -56,10 +56,14 @@ pub fn run_pool<R: Threads + Wait + Sync + Send + Copy + Drop>(
     ensures { IfOk result (λ text. IsPoolText submission.configs submission.calls opens.items workers (string_bytes text)) }
 {
     let (configs, calls) = submission.into_parts();
-    let mut host = host_networks(rt, alloc, configs, opens, workers)?;
     let jobs = jobs_of(alloc, calls)?;
+    let mut host = host_networks(rt, alloc, configs, opens, workers)?;
     let threads = workers as usize;
-    let reports = run_jobs(rt, alloc, &mut host, jobs, threads)?;
+    let Ok(reports) = run_jobs(rt, alloc, &mut host, jobs, threads) else {
+        drop(host);
+        // Memory: the queue has no room.
+        return Err(AllocError);
+    };
     write_all(rt, alloc, host, threads, reports)
 }
 
@@ -214,13 +218,16 @@ fn write_alone<R: Wait + Drop>(
 ) -> Result<JournalLines, AllocError>
     ensures { IfOk result (λ written. AreJournalLines host (string_bytes written.decided) (string_bytes written.lengths)) }
 {
-    let mut journals = close_all(rt, alloc, &mut host)?;
+    let closed = close_all(rt, alloc, &mut host);
+    drop(host);
+    let mut journals = closed?;
     let mut decided = String::new(alloc);
     let mut lengths = String::new(alloc);
     while let Some(journal) = journals.pop() {
-        write_journal(alloc, &journal, &mut decided, &mut lengths)?;
+        let written = write_journal(alloc, &journal, &mut decided, &mut lengths);
         // Piece by piece, into the heaps of the threads that took them, this cost a quarter of a run of four workers.
         forget(journal);
+        written?;
     }
     Ok(JournalLines { decided, lengths })
 }

@@ -8,7 +8,7 @@ loop-journal-init g c = part_none _ _ _ _ c.in_ok-journals.ensures (search rules
 
 pub loop-journal-preserved : goal.loop-journal-preserved
 loop-journal-preserved g c =
-    part_more c.args.host c.loop-journal.journals.items c.pop.new.self.items c.in-Some.journal _ _ _ _ (search rules) c.in_ok-write_journal.ensures c.loop-journal.invariant
+    part_more c.args.host c.loop-journal.journals.items c.pop.new.self.items c.in-Some.journal _ _ _ _ (search rules) c.in_ok-written.ensures c.loop-journal.invariant
 
 pub returns : goal.returns
 returns g c =
