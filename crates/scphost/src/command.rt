@@ -27,7 +27,11 @@ pub fn answer_words<
     ensures { HasAnsweredWords (map S.text words.now) (W.contents outputs.old.out) (W.contents outputs.new.out) result }
 {
     match read_call(rt.alloc(), words) {
-        Ok(call) => exit_status(open_and_perform(rt, &call, outputs)),
+        Ok(call) => {
+            let end = open_and_perform(rt, &call, outputs);
+            drop(call);
+            exit_status(end)
+        }
         Err(usage) => print_usage(&usage, outputs),
     }
 }

@@ -63,7 +63,9 @@ pub fn perform<
     let alloc = rt.alloc();
     match call {
         Call::Table { file } => {
-            let ran = run_script(alloc, &mut TableRun::new(), first, &mut outputs.out);
+            let mut run = TableRun::new();
+            let ran = run_script(alloc, &mut run, first, &mut outputs.out);
+            drop(run);
             print_end(ran, file.as_str(), &mut outputs.err)
         }
         Call::Run { script, workers } => perform_run(rt, *workers, script, first, outputs),
@@ -153,7 +155,9 @@ fn perform_run<
     match workers {
         None => {
             let alloc = rt.alloc();
-            let ran = run_script(alloc, &mut HostRun::new(alloc), script, &mut outputs.out);
+            let mut run = HostRun::new(alloc);
+            let ran = run_script(alloc, &mut run, script, &mut outputs.out);
+            drop(run);
             print_end(ran, file.as_str(), &mut outputs.err)
         }
         Some(workers) => perform_pool(rt, workers, file, script, outputs),
@@ -197,7 +201,9 @@ fn perform_closure<R: Read, W: Write, E: Write>(
         Ok(finished) => finished,
         Err(stop) => return print_stop(stop, request.file.as_str(), &mut outputs.err),
     };
-    match answer_closure(alloc, &finished, request.subject, request.format) {
+    let answered = answer_closure(alloc, &finished, request.subject, request.format);
+    drop(finished);
+    match answered {
         Ok(answer) => print_answer(&answer, outputs),
         Err(_) => print_stop(Stop::NoMemory, "", &mut outputs.err),
     }
@@ -221,7 +227,10 @@ fn perform_compare<R: Read, T: Read, W: Write, E: Write>(
     };
     let second = match FinishedScript::read_and_run(alloc, second, request.explain) {
         Ok(finished) => finished,
-        Err(stop) => return print_stop(stop, request.second.as_str(), &mut outputs.err),
+        Err(stop) => {
+            drop(first);
+            return print_stop(stop, request.second.as_str(), &mut outputs.err);
+        }
     };
     let sides = Sides {
         one: Side {
@@ -233,7 +242,10 @@ fn perform_compare<R: Read, T: Read, W: Write, E: Write>(
             script: &second,
         },
     };
-    match answer_compare(alloc, &sides, request.subject, request.explain) {
+    let answered = answer_compare(alloc, &sides, request.subject, request.explain);
+    drop(second);
+    drop(first);
+    match answered {
         Ok(answer) => print_answer(&answer, outputs),
         Err(_) => print_stop(Stop::NoMemory, "", &mut outputs.err),
     }
@@ -257,14 +269,20 @@ fn perform_crowd<R: Read, T: Read, W: Write, E: Write>(
     };
     let second = match read_submission(alloc, second) {
         Ok(run) => run,
-        Err(stop) => return print_stop(stop, request.second.as_str(), &mut outputs.err),
+        Err(stop) => {
+            drop(first);
+            return print_stop(stop, request.second.as_str(), &mut outputs.err);
+        }
     };
-    match answer_crowd(
+    let answered = answer_crowd(
         alloc,
         first.submission(),
         second.submission(),
         request.subject,
-    ) {
+    );
+    drop(second);
+    drop(first);
+    match answered {
         Ok(answer) => print_answer(&answer, outputs),
         Err(_) => print_stop(Stop::NoMemory, "", &mut outputs.err),
     }
@@ -285,14 +303,18 @@ pub fn perform_stream<
     let alloc = rt.alloc();
     match call {
         Call::Table { file } => {
-            let ran = run_stream(alloc, &mut TableRun::new(), input, &mut outputs.out);
+            let mut run = TableRun::new();
+            let ran = run_stream(alloc, &mut run, input, &mut outputs.out);
+            drop(run);
             print_end(ran, file.as_str(), &mut outputs.err)
         }
         Call::Run {
             script,
             workers: None,
         } => {
-            let ran = run_stream(alloc, &mut HostRun::new(alloc), input, &mut outputs.out);
+            let mut run = HostRun::new(alloc);
+            let ran = run_stream(alloc, &mut run, input, &mut outputs.out);
+            drop(run);
             print_end(ran, script.as_str(), &mut outputs.err)
         }
         Call::Run {

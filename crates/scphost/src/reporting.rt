@@ -22,10 +22,11 @@ pub fn answer_closure(
     ensures { IfOk result (IsReport format subject.now script.now.run.hosting.logs) }
 {
     let report = report_after(alloc, script, subject)?;
-    let text = format_report(alloc, &report, format)?;
+    let written = format_report(alloc, &report, format);
+    drop(report);
     Ok(Answer {
         differs: false,
-        text,
+        text: written?,
     })
 }
 
@@ -53,9 +54,9 @@ fn format_report(
 {
     let mut text = String::new(alloc);
     match format {
-        Format::Text => push_text(&mut text, report)?,
-        Format::Dot => push_dot(&mut text, report)?,
-        Format::Svg => push_svg(alloc, &mut text, report)?,
-    }
+        Format::Text => push_text(&mut text, report),
+        Format::Dot => push_dot(&mut text, report),
+        Format::Svg => push_svg(alloc, &mut text, report),
+    }?;
     Ok(text)
 }
