@@ -1,5 +1,5 @@
-//! Tests of values, words, runs of lines, bytes and timers, by what `types`, `scripts`, `codec` and `timers` show to anybody:
-//! they stand here so that those crates are proved once. It holds nothing else.
+//! Tests of values, words, runs of lines and bytes, by what `types`, `scripts` and `codec` show to anybody: they stand
+//! here so that those crates are proved once. It holds nothing else.
 #![tactic(auto)]
 
 #[cfg(test)]
@@ -8,7 +8,5 @@ mod of_codec;
 mod of_running;
 #[cfg(test)]
 mod of_scripts;
-#[cfg(test)]
-mod of_timers;
 #[cfg(test)]
 mod of_types;
