@@ -1,7 +1,9 @@
-//! Tests of stores, queues, watches, cells and workers, many of them with several threads, by what those crates
-//! show to anybody: they stand here so that those crates are proved once. It holds nothing else.
+//! Tests of stores, queues, watches, cells and workers, most of them with several threads, by what those crates show to
+//! anybody: they stand here so that those crates are proved once. It holds nothing else.
 #![tactic(auto)]
 
+#[cfg(test)]
+mod fixtures;
 #[cfg(test)]
 mod of_cells;
 #[cfg(test)]

@@ -1,67 +1,43 @@
-//! Networks of a few nodes that are to agree on one value, and what their journals have.
+//! Hosts of like networks, jobs for them, and what their journals have.
 
-ghost use Rattle.std.specs.Prelude.{◌≡◌, ◌<◌, ◌≤◌, IfSome};
-ghost use Rattle.work.specs.Queues.{AllPasses, IsOf, parts_by};
+ghost use Rattle.std.specs.Prelude.{◌<◌, ◌≤◌};
 
+use crate::fixtures::{config, proposal};
 use cells::{Cell, Seat};
-use configuration::{Budgets, HostedNode, NetConfig};
 use envstore::{SharedHandle, Shelf, VecShelf};
 use hoststep::Journal;
 use std::alloc::Global;
 use std::sync::Wait;
 use std::thread::Threads;
-use types::{Bytes, Event, Member, Nested, NodeId, Out, SliceSet};
-use work::{Job, Pass, Queue};
-use workers::{Gate, Host, Report, run};
+use types::{Event, Out};
+use work::{Job, Queue};
+use workers::{Gate, Host, Report, offer, run};
 
-/// How much the journals of a host have, and their seats.
+/// What was reported of jobs when they were offered, and when they were run.
+pub(super) type Reports = (Report, Report);
+
+/// How much the journals of a host have, and their seats; and how many journals are not those of one thread.
 #[derive(Clone, Copy)]
 pub(super) struct Tally {
+    pub unlike: u64,
     pub entries: u64,
     pub receipts: u64,
     pub emissions: u64,
     pub decisions: u64,
 }
 
-/// The name of a number.
-fn name(number: u64) -> NodeId {
-    NodeId::from_words(0, 0, 0, number)
-}
-
-/// Slices of which a majority of these many nodes is one.
-fn slices(alloc: Global, count: u64) -> Option<Nested> {
-    let mut members = Vec::new(alloc);
-    for number in 0..count {
-        members.push(Member::Node(name(number))).ok()?;
-    }
-    let majority = if count == 1 { 1 } else { 2 };
-    Nested::new(alloc, SliceSet::new(majority, members)).ok()?
-}
-
-/// A network of so many nodes, of which a majority is wanted.
-fn config(alloc: Global, number: u32, count: u64) -> Option<NetConfig> {
-    let mut nodes = Vec::new(alloc);
-    for node in 0..count {
-        nodes
-            .push(HostedNode::new(name(node), slices(alloc, count)?))
-            .ok()?;
-    }
-    NetConfig::new(alloc, number, nodes, Budgets::new(10_000, 0, 4)?).ok()
-}
-
-/// A network joins, given by its number, how many nodes it has, and how many seats its cell has. It says whether
-/// it was taken in.
-pub(super) fn join<R: Wait + Drop + Copy>(
+/// A network of so many nodes joins, whose cell has so many seats.
+fn join<R: Wait + Drop + Copy>(
     rt: &R,
     alloc: Global,
     host: &mut Host<SharedHandle<R>, R>,
     network: (u32, u64, u64),
-) -> Option<bool>
+) -> Option<()>
     requires { (0 < network.2) × (network.2 ≤ 64) }
 {
     let (number, count, seats) = network;
     match Cell::open(rt, alloc, config(alloc, number, count)?, seats) {
-        Ok((cell, seats)) => Some(host.add(cell, seats).is_ok()),
+        Ok((cell, seats)) => host.add(cell, seats).ok(),
         Err(_) => None,
     }
 }
@@ -78,14 +54,12 @@ pub(super) fn host_of_networks<R: Wait + Drop + Copy>(
 {
     let mut host = Host::new(alloc);
     for number in 0..networks {
-        if !join(
+        join(
             rt,
             alloc,
             &mut host,
             (number.saturating_add(1), count, seats),
-        )? {
-            return None;
-        }
+        )?;
     }
     Some(host)
 }
@@ -101,98 +75,49 @@ pub(super) fn openings(alloc: Global, networks: u32) -> Option<Vec<Job>> {
     Some(jobs)
 }
 
-/// A job by which a node is to propose `x` at slot 1.
-fn proposal(alloc: Global, network: u32, node: u64) -> Option<Job> {
-    let event = Event::Propose {
-        slot: 1,
-        node: name(node),
-        value: Bytes::new(vec![in alloc; b'x'].ok()?),
-    };
-    Some(Job { network, event })
-}
-
 /// For each node of each network a job by which it is to propose `x`.
 pub(super) fn proposals(alloc: Global, networks: u32, count: u64) -> Option<Vec<Job>> {
     let mut jobs = Vec::new(alloc);
     for node in 0..count {
         for number in 0..networks {
-            jobs.push(proposal(alloc, number.saturating_add(1), node)?)
-                .ok()?;
+            let network = number.saturating_add(1);
+            let event = proposal(alloc, 1, node)?;
+            jobs.push(Job { network, event }).ok()?;
         }
     }
     Some(jobs)
 }
 
-/// Jobs that are to be offered to a queue of so many places and passes.
-#[derive(Drop)]
-pub(super) struct Offer {
-    pub places: usize,
-    pub passes: usize,
-    pub jobs: Vec<Job>,
-}
-
-impl Offer {
-    /// These.
-    pub(super) fn new(places: usize, passes: usize, jobs: Vec<Job>) -> Offer
-        ensures { (result.places ≡ places) × (result.passes ≡ passes) }
-    {
-        Offer {
-            places,
-            passes,
-            jobs,
-        }
+/// A report of so many jobs, all of which were applied.
+pub(super) fn report(applied: u64) -> Report {
+    Report {
+        applied,
+        refused: 0,
+        unrun: 0,
     }
 }
 
-/// A queue to which the jobs were offered.
-pub(super) fn offer_jobs<R: Wait + Drop, G: Gate>(
-    rt: &R,
-    alloc: Global,
-    host: &mut Host<SharedHandle<R>, R>,
-    offer: Offer,
-    gate: &G,
-) -> Option<((Queue, Vec<Pass>), Report)>
-    requires { (0 < offer.places) × (offer.places ≤ 65536) × (0 < offer.passes) × (offer.passes ≤ 64) }
-    ensures { IfSome result (λ r. AllPasses (IsOf r.0.0) r.0.1.items × (parts_by r.0.1.items ≡ 64)) }
-{
-    match Queue::new(alloc, offer.places, offer.passes) {
-        Ok(queue) => Some(workers::offer(rt, host, queue, offer.jobs, gate)),
-        Err(_) => None,
-    }
-}
-
-/// What was offered is run by so many workers.
-pub(super) fn run_offered<R: Threads + Wait + Sync + Send + Drop, G: Gate + Sync>(
-    rt: &R,
-    host: &mut Host<SharedHandle<R>, R>,
-    queue: (Queue, Vec<Pass>),
-    workers: usize,
-    gate: &G,
-) -> Report
-    requires workers { (0 < workers) × (workers ≤ 64) }
-    requires passes { AllPasses (IsOf queue.0) queue.1.items × (parts_by queue.1.items ≡ 64) }
-{
-    run(rt, host, queue, workers, gate)
-}
-
-/// The jobs are offered to their queue, and run by as many workers as it has passes.
+/// The jobs are offered to a queue of so many places, and run by so many workers, which have a pass each. `None` where
+/// there was no memory for them.
 pub(super) fn run_jobs<R: Threads + Wait + Sync + Send + Drop, G: Gate + Sync>(
     rt: &R,
     alloc: Global,
     host: &mut Host<SharedHandle<R>, R>,
-    offer: Offer,
+    queue: (usize, usize),
+    jobs: Option<Vec<Job>>,
     gate: &G,
-) -> Option<Report>
-    requires { (0 < offer.places) × (offer.places ≤ 65536) × (0 < offer.passes) × (offer.passes ≤ 64) }
+) -> Option<Reports>
+    requires { (0 < queue.0) × (queue.0 ≤ 65536) × (0 < queue.1) × (queue.1 ≤ 64) }
 {
-    let threads = offer.passes;
-    let (queue, offered) = offer_jobs(rt, alloc, host, offer, gate)?;
-    let ran = run_offered(rt, host, queue, threads, gate);
-    Some(Report {
-        applied: offered.applied.saturating_add(ran.applied),
-        refused: offered.refused.saturating_add(ran.refused),
-        unrun: offered.unrun.saturating_add(ran.unrun),
-    })
+    let jobs = jobs?;
+    let (places, workers) = queue;
+    match Queue::new(alloc, places, workers) {
+        Ok(queue) => {
+            let (queue, offered) = offer(rt, host, queue, jobs, gate);
+            Some((offered, run(rt, host, queue, workers, gate)))
+        }
+        Err(_) => None,
+    }
 }
 
 /// Whether a node gives out the same in both; of what it emits, the sender and the statement.
@@ -228,19 +153,46 @@ fn count_outs(outs: &[Out], tally: &mut Tally) {
     }
 }
 
-/// Adds what a journal has, where one thread that applies its events in their order gives out the same.
-fn count_journal<S: Shelf>(alloc: Global, journal: &Journal<S>, tally: &mut Tally) -> Option<()> {
-    let config = journal.config().try_copy(alloc).ok()?;
-    let mut again = Journal::new(alloc, config, VecShelf::new(alloc));
+/// Adds what an entry of a journal has, where the same event gives out the same once more.
+fn count_entry<S: Shelf>(
+    alloc: Global,
+    journal: &Journal<S>,
+    number: usize,
+    again: &mut Journal<VecShelf>,
+    tally: &mut Tally,
+) -> Option<()> {
+    let (event, outs) = journal.entry(alloc, number).ok()??;
+    count_outs(&outs, tally);
+    let given = again.apply(event).ok();
+    let is_like = match &given {
+        Some(given) => are_same(&outs, given),
+        None => false,
+    };
+    if is_like { Some(()) } else { None }
+}
+
+/// Adds what a journal has, as far as one thread that applies its events in their order gives out the same.
+fn count_journal<S: Shelf>(
+    alloc: Global,
+    journal: &Journal<S>,
+    again: &mut Journal<VecShelf>,
+    tally: &mut Tally,
+) {
     for number in 0..journal.len() {
-        let (event, outs) = journal.entry(alloc, number).ok()??;
-        if !are_same(&outs, &again.apply(event).ok()?) {
-            return None;
+        if count_entry(alloc, journal, number, again, tally).is_none() {
+            tally.unlike = tally.unlike.saturating_add(1);
+            return;
         }
-        count_outs(&outs, tally);
         tally.entries = tally.entries.saturating_add(1);
     }
-    Some(())
+}
+
+/// Adds what a journal has, beside an empty one of the same network.
+fn replay<S: Shelf>(alloc: Global, journal: &Journal<S>, tally: &mut Tally) {
+    if let Ok(config) = journal.config().try_copy(alloc) {
+        let mut again = Journal::new(alloc, config, VecShelf::new(alloc));
+        count_journal(alloc, journal, &mut again, tally);
+    }
 }
 
 /// Adds the receipts of the seats.
@@ -250,34 +202,35 @@ fn count_seats<S: Shelf, H: Wait + Drop>(seats: &[Seat<S, H>], tally: &mut Tally
     }
 }
 
-/// What all journals and seats have. `None` where a journal is not that of one thread, or memory is short.
-pub(super) fn close_all<R: Wait + Drop>(
+/// Adds what all journals and seats have.
+fn close_each<R: Wait + Drop>(
     rt: &R,
     alloc: Global,
     host: &mut Host<SharedHandle<R>, R>,
+    tally: &mut Tally,
+) {
+    while let Some((journal, seats)) = host.close_last(rt) {
+        replay(alloc, &journal, tally);
+        count_seats(&seats, tally);
+    }
+}
+
+/// What all journals and seats have; each half of the networks is closed for itself. `None` where memory is short.
+pub(super) fn close_all<R: Wait + Drop>(
+    rt: &R,
+    alloc: Global,
+    host: Host<SharedHandle<R>, R>,
 ) -> Option<Tally> {
     let mut tally = Tally {
+        unlike: 0,
         entries: 0,
         receipts: 0,
         emissions: 0,
         decisions: 0,
     };
-    while let Some((journal, seats)) = host.close_last(rt) {
-        count_journal(alloc, &journal, &mut tally)?;
-        count_seats(&seats, &mut tally);
-    }
+    let count = host.len() / 2;
+    let (mut first, mut others) = host.split_at(count).ok()?;
+    close_each(rt, alloc, &mut first, &mut tally);
+    close_each(rt, alloc, &mut others, &mut tally);
     Some(tally)
-}
-
-/// The numbers of the networks of a host, in the order in which they close. `None` where memory is short.
-pub(super) fn numbers_closed<R: Wait + Drop>(
-    rt: &R,
-    alloc: Global,
-    host: &mut Host<SharedHandle<R>, R>,
-) -> Option<Vec<u32>> {
-    let mut numbers = Vec::new(alloc);
-    while let Some((journal, _seats)) = host.close_last(rt) {
-        numbers.push(journal.config().number()).ok()?;
-    }
-    Some(numbers)
 }

@@ -2,7 +2,7 @@ use denote.Param.Send.{sendable}
 use Rattle.std.proofs.Crossing.{crosses}
 use Rattle.std.proofs.alloc.Global.TheSendSync as heap
 use Rattle.cells.proofs.Crossing.{cell_sync, seat_send}
-use Rattle.thread_tests.proofs.of_cells.at_once.all_at_once.Goals as goal
+use Rattle.thread_tests.proofs.of_cells.all_at_once.Goals as goal
 
 pub for_each_mut-requires-send-T : goal.for_each_mut-requires-send-T
 for_each_mut-requires-send-T g c κs within = search (sendable, crosses, seat_send) depth 20
