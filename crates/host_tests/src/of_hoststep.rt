@@ -1,72 +1,37 @@
 //! That machines and journals answer where there is memory: no clause says so. What they answer is said by contracts.
 
+use crate::fixtures::{name, one_node, slices_of};
 use codec::encode;
 use envstore::VecShelf;
-use hoststep::{Budgets, HostedNode, Journal, NetConfig, NetMachine};
+use hoststep::{Budgets, Journal, NetConfig, NetMachine};
 use std::alloc::Global;
 use std::test::Fail;
-use types::{
-    Bytes, Envelope, Event, Member, Nested, NodeId, Refusal, SliceSet, Statement, Value, Values,
-};
+use types::{Bytes, Envelope, Event, Statement, Value, Values};
 
-/// The name of a number.
-fn name(number: u64) -> NodeId {
-    NodeId::from_words(0, 0, 0, number)
+/// A network of node 1, which needs node 2.
+fn config(alloc: Global) -> Option<NetConfig> {
+    let nodes = one_node(alloc, 1, 2)?;
+    NetConfig::new(alloc, 7, nodes, Budgets::new(100, 1000, 1)?).ok()
 }
 
-/// Slices of one name.
-fn slices(alloc: Global, number: u64) -> Option<Nested> {
-    let members = vec![in alloc; Member::Node(name(number))].ok()?;
-    Nested::new(alloc, SliceSet::new(1, members)).ok()?
-}
-
-/// Node 1 is hosted and needs node 2, which is not. There are so many events and one slot.
-fn config(alloc: Global, events: u64) -> Option<NetConfig> {
-    let nodes = vec![in alloc; HostedNode::new(name(1), slices(alloc, 2)?)].ok()?;
-    NetConfig::new(alloc, 7, nodes, Budgets::new(events, 1000, 1)?).ok()
-}
-
-/// The bytes by which node 2 votes for a value at slot 5.
-fn vote(alloc: Global) -> Option<Bytes> {
+/// Node 2's vote for a value at slot 5.
+fn vote(alloc: Global) -> Option<Envelope> {
+    let slices = slices_of(alloc, 2)?;
     let mut voted = Values::empty(alloc);
-    voted.push(Value::of(alloc, &[b'a']).ok()?).ok()?;
+    voted.push(Value::of(alloc, b"a").ok()?).ok()?;
     let body = Statement::Nominate {
         voted,
         accepted: Values::empty(alloc),
     };
-    let envelope = Envelope::new(name(2), 5, slices(alloc, 2)?, body)?;
-    Some(Bytes::new(encode(alloc, &envelope).ok()?))
+    Envelope::new(name(2), 5, slices, body)
 }
 
-/// The delivery of these bytes to node 1.
-fn delivery(bytes: Bytes) -> Event {
-    Event::Deliver {
-        node: name(1),
-        bytes,
-    }
-}
-
-/// A journal of at most so many events, with its slot open.
-fn open_journal(alloc: Global, events: u64) -> Option<Journal<VecShelf>> {
-    let config = config(alloc, events)?;
-    let journal = Journal::new(alloc, config, VecShelf::new(alloc));
-    with_event(journal, Event::OpenSlot { slot: 5 })
-}
-
-/// The journal with one more event, where it is not refused.
-fn with_event(mut journal: Journal<VecShelf>, event: Event) -> Option<Journal<VecShelf>> {
-    match journal.apply(event) {
-        Ok(_) => Some(journal),
-        Err(_) => None,
-    }
-}
-
-/// Whether a journal refuses an event by this refusal.
-fn is_refused(journal: &mut Journal<VecShelf>, event: Event, by: Refusal) -> bool {
-    match journal.apply(event) {
-        Ok(_) => false,
-        Err(refusal) => refusal == by,
-    }
+/// Its bytes.
+fn vote_bytes(alloc: Global) -> Option<Bytes> {
+    let vote = vote(alloc)?;
+    let encoded = encode(alloc, &vote);
+    drop(vote);
+    Some(Bytes::new(encoded.ok()?))
 }
 
 /// Whether an event is a delivery of these bytes to node 1.
@@ -79,69 +44,64 @@ fn delivers(event: &Event, wanted: &Bytes) -> bool {
     }
 }
 
-/// Whether the entry of this number delivers these bytes, and gave so many outs.
-fn reads_back(
-    alloc: Global,
-    journal: &Journal<VecShelf>,
-    number: usize,
-    wanted: &Bytes,
-    outs: usize,
-) -> Option<bool> {
-    let (event, given) = journal.entry(alloc, number).ok()??;
-    Some(delivers(&event, wanted) && given.len() == outs)
+/// Whether a delivery of these bytes is recorded as the second entry.
+fn records(alloc: Global, journal: &mut Journal<VecShelf>, bytes: &Bytes) -> Option<bool> {
+    let event = Event::Deliver {
+        node: name(1),
+        bytes: bytes.try_copy(alloc).ok()?,
+    };
+    let recorded = journal.apply_recorded(event).ok()?;
+    Some(recorded.number == 1 && delivers(&recorded.event, bytes))
 }
 
-/// How many outs a proposal gives, and how many stand in a list to which they are appended twice.
-fn append_twice(alloc: Global) -> Option<(usize, usize)> {
-    let mut journal = open_journal(alloc, 2)?;
-    let proposal = Event::Propose {
+/// Whether the second entry is read back as a delivery of these bytes, at which nothing was given out.
+fn reads_back(alloc: Global, journal: &Journal<VecShelf>, bytes: &Bytes) -> Option<bool> {
+    let (event, outs) = journal.entry(alloc, 1).ok()??;
+    Some(delivers(&event, bytes) && outs.is_empty())
+}
+
+/// Whether as many outs are appended as a proposal gave out, which is the third entry.
+fn appends(alloc: Global, journal: &mut Journal<VecShelf>) -> Option<bool> {
+    let event = Event::Propose {
         slot: 5,
         node: name(1),
         value: Bytes::new(Vec::from_slice(alloc, b"a").ok()?),
     };
-    let given = journal.apply(proposal).ok()?;
+    let given = journal.apply(event).ok()?.len();
     let mut outs = Vec::new(alloc);
-    journal.push_outs(alloc, 1, &mut outs).ok()?;
     journal.push_outs(alloc, 2, &mut outs).ok()?;
-    journal.push_outs(alloc, 1, &mut outs).ok()?;
-    Some((given.len(), outs.len()))
+    Some(given > 0 && outs.len() == given)
+}
+
+/// Whether a journal whose slot 5 is opened takes a delivery and a proposal, and has them.
+fn is_kept(alloc: Global, journal: &mut Journal<VecShelf>) -> Option<bool> {
+    let bytes = vote_bytes(alloc)?;
+    let opened = journal.apply(Event::OpenSlot { slot: 5 }).is_ok();
+    let kept = records(alloc, journal, &bytes)? && reads_back(alloc, journal, &bytes)?;
+    Some(opened && kept && appends(alloc, journal)?)
 }
 
 #[test]
-fn a_delivery_is_recorded_and_read_back(rt: HostRuntime) -> Result<(), Fail> {
+fn events_are_kept_where_there_is_memory(rt: HostRuntime) -> Result<(), Fail> {
     let alloc = rt.alloc();
-    let mut journal = open_journal(alloc, 2).ok_or("memory")?;
-    let bytes = vote(alloc).ok_or("memory")?;
-    let copy = bytes.try_copy(alloc)?;
-    let recorded = journal
-        .apply_recorded(delivery(copy))
-        .ok()
-        .ok_or("refused")?;
-    assert!(rt; recorded.number == 1 && delivers(&recorded.event, &bytes));
-    let read = reads_back(alloc, &journal, 1, &bytes, recorded.outs.len());
-    assert!(rt; read.ok_or("memory")?);
-    assert!(rt; journal.entry(alloc, 2)?.is_none());
-    let close = Event::CloseSlot { slot: 5 };
-    assert!(rt; is_refused(&mut journal, close, Refusal::JournalFull));
+    let config = config(alloc).ok_or("memory")?;
+    let mut journal = Journal::new(alloc, config, VecShelf::new(alloc));
+    let kept = is_kept(alloc, &mut journal);
+    drop(journal);
+    assert!(rt; kept.ok_or("memory")?);
     Ok(())
 }
 
 #[test]
-fn a_machine_gives_out_what_its_journal_says(rt: HostRuntime) -> Result<(), Fail> {
+fn a_machine_takes_an_event_where_there_is_memory(rt: HostRuntime) -> Result<(), Fail> {
     let alloc = rt.alloc();
-    let config = config(alloc, 2).ok_or("memory")?;
+    let config = config(alloc).ok_or("memory")?;
     let mut machine = NetMachine::new(alloc, config, VecShelf::new(alloc));
-    let outs = machine
-        .apply(Event::OpenSlot { slot: 5 })
-        .ok()
-        .ok_or("refused")?;
-    assert!(rt; outs.is_empty());
-    Ok(())
-}
-
-#[test]
-fn outs_are_appended(rt: HostRuntime) -> Result<(), Fail> {
-    let (given, appended) = append_twice(rt.alloc()).ok_or("memory")?;
-    assert!(rt; given > 0 && given < 10 && appended == 2 * given);
+    let silent = match machine.apply(Event::OpenSlot { slot: 5 }) {
+        Ok(outs) => outs.is_empty(),
+        Err(_) => false,
+    };
+    drop(machine);
+    assert!(rt; silent);
     Ok(())
 }

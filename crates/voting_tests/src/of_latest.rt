@@ -1,21 +1,37 @@
-//! That with memory a table takes rows and is copied: no clause says so. All else of an offer, a put and a copy
-//! follows from their clauses.
+//! That with memory a table takes a row and is copied: no clause says so. All else of an offer and a copy follows from
+//! their clauses.
+
+ghost use Rattle.envstore.specs.Archives.{AreFiled};
 
 use crate::fixtures::vote_of;
 use envstore::{Archive, VecShelf};
-use latest::{Offer, Put, Table};
+use latest::{Offer, Table};
+use std::alloc::Global;
 use std::test::Fail;
 
+/// What a vote becomes that is offered, and how many rows a copy has then.
+fn offered(
+    alloc: Global,
+    archive: &mut Archive<VecShelf>,
+    table: &mut Table,
+) -> Result<(Offer, usize), Fail>
+    requires { AreFiled archive.old table.old }
+{
+    let vote = vote_of(alloc, 2, 1, &[2])?;
+    let filed = archive.put(vote)?;
+    let offer = table.offer(archive, filed);
+    let copy = table.try_copy(alloc, archive)?;
+    Ok((offer, copy.len()))
+}
+
 #[test]
-fn takes_rows_where_there_is_memory(rt: HostRuntime) -> Result<(), Fail> {
+fn takes_a_row_where_there_is_memory(rt: HostRuntime) -> Result<(), Fail> {
     let alloc = rt.alloc();
     let mut archive = Archive::new(alloc, VecShelf::new(alloc));
-    let first = archive.put(vote_of(alloc, 2, 1, &[2])?)?;
-    let second = archive.put(vote_of(alloc, 3, 1, &[3])?)?;
     let mut table = Table::new(alloc);
-    assert!(rt; matches!(table.put(&archive, first), Put::Added));
-    assert!(rt; table.offer(&archive, second) == Offer::Replaced);
-    let copy = table.try_copy(alloc, &archive)?;
-    assert!(rt; copy.len() == 2);
+    let offered = offered(alloc, &mut archive, &mut table);
+    drop(table);
+    drop(archive);
+    assert!(rt; offered? == (Offer::Replaced, 1));
     Ok(())
 }

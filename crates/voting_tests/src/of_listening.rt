@@ -25,6 +25,36 @@ fn listener(alloc: Global) -> Result<Listener, Fail>
     Ok(Listener::new(alloc, configured))
 }
 
+/// An envelope reaches it.
+fn hear(
+    alloc: Global,
+    archive: &mut Archive<VecShelf>,
+    listener: &mut Listener,
+    envelope: Envelope,
+) -> Result<(), Fail>
+    requires { AreFiled archive.old listener.old.table }
+    ensures { AreFiled archive.new listener.new.table }
+{
+    let filed = archive.put(envelope)?;
+    listener.offer(alloc, archive, filed)?;
+    Ok(())
+}
+
+/// A vote of this node for the ballot with this counter reaches it, with slices of which these nodes are needed.
+fn hear_vote(
+    alloc: Global,
+    archive: &mut Archive<VecShelf>,
+    listener: &mut Listener,
+    vote: (u64, u32, &[u64]),
+) -> Result<(), Fail>
+    requires { AreFiled archive.old listener.old.table }
+    ensures { AreFiled archive.new listener.new.table }
+{
+    let (sender, counter, needed) = vote;
+    let envelope = vote_of(alloc, sender, counter, needed)?;
+    hear(alloc, archive, listener, envelope)
+}
+
 /// Node 2's vote for one value.
 fn nomination(alloc: Global) -> Result<Envelope, Fail> {
     let mut values = Values::empty(alloc);
@@ -37,70 +67,98 @@ fn nomination(alloc: Global) -> Result<Envelope, Fail> {
     envelope_from(2, slices, body)
 }
 
-#[test]
-fn what_is_listed_follows_rows(rt: HostRuntime) -> Result<(), Fail> {
-    let alloc = rt.alloc();
-    let mut archive = Archive::new(alloc, VecShelf::new(alloc));
-    let first = archive.put(vote_of(alloc, 2, 1, &[1, 2])?)?;
-    let raised = archive.put(vote_of(alloc, 2, 2, &[1, 2])?)?;
-    let nominated = archive.put(nomination(alloc)?)?;
-    let mut listener = listener(alloc)?;
-    listener.offer(alloc, &archive, first)?;
-    let mut reach = listener.take_reach(alloc, &archive)?;
-    let own = listener.configuration().own();
-    let rows = Rows::of(listener.table(), &archive);
-    reach.list_ballots(alloc, own, &rows)?;
-    reach.list_values(alloc, own, &rows)?;
-    listener.keep_reach(reach);
-    listener.offer(alloc, &archive, raised)?;
-    listener.offer(alloc, &archive, nominated)?;
-    let kept = listener.take_reach(alloc, &archive)?;
-    assert!(rt; kept.ballots.is_some());
-    assert!(rt; kept.values.is_some());
-    Ok(())
-}
-
-/// Has the listener be asked for its reach, so that it knows it.
+/// Has the listener be asked for its reach, and list what its rows speak of, so that it knows them.
 fn ask(alloc: Global, archive: &Archive<VecShelf>, listener: &mut Listener) -> Result<(), Fail>
     requires { AreFiled archive.now listener.old.table }
     ensures { listener.new ≡ listener.old }
 {
-    let reach = listener.take_reach(alloc, archive)?;
+    let mut reach = listener.take_reach(alloc, archive)?;
+    let own = listener.configuration().own();
+    let rows = Rows::of(listener.table(), archive);
+    reach.list_ballots(alloc, own, &rows)?;
+    reach.list_values(alloc, own, &rows)?;
     listener.keep_reach(reach);
     Ok(())
 }
 
-// Node 2 names node 3, and then node 4 in its place.
+/// Whether ballots and values are listed.
+fn is_listed(
+    alloc: Global,
+    archive: &Archive<VecShelf>,
+    listener: &mut Listener,
+) -> Result<bool, Fail>
+    requires { AreFiled archive.now listener.old.table }
+{
+    let reach = listener.take_reach(alloc, archive)?;
+    Ok(reach.ballots.is_some() && reach.values.is_some())
+}
+
+/// Whether they are listed after a first row, a newer one, a nomination, a row with other slices, and a stranger's.
+fn is_listed_throughout(
+    alloc: Global,
+    archive: &mut Archive<VecShelf>,
+    listener: &mut Listener,
+) -> Result<bool, Fail>
+    requires { AreFiled archive.old listener.old.table }
+{
+    ask(alloc, archive, listener)?;
+    hear_vote(alloc, archive, listener, (2, 1, &[1, 2]))?;
+    hear_vote(alloc, archive, listener, (2, 2, &[1, 2]))?;
+    let nominated = nomination(alloc)?;
+    hear(alloc, archive, listener, nominated)?;
+    hear_vote(alloc, archive, listener, (2, 3, &[2]))?;
+    hear_vote(alloc, archive, listener, (9, 1, &[1, 2]))?;
+    is_listed(alloc, archive, listener)
+}
+
+// Node 2 names nodes that are reached anyhow.
 #[test]
-fn what_is_known_follows_a_reach_that_changes(rt: HostRuntime) -> Result<(), Fail> {
+fn what_is_listed_follows_rows(rt: HostRuntime) -> Result<(), Fail> {
     let alloc = rt.alloc();
-    let mut archive = Archive::new(alloc, VecShelf::new(alloc));
-    let third = archive.put(vote_of(alloc, 2, 1, &[3])?)?;
-    let fourth = archive.put(vote_of(alloc, 2, 2, &[4])?)?;
     let mut listener = listener(alloc)?;
-    ask(alloc, &archive, &mut listener)?;
-    listener.offer(alloc, &archive, third)?;
-    assert!(rt; !listener.is_stranger(&name(3)));
-    assert!(rt; listener.is_stranger(&name(4)));
-    ask(alloc, &archive, &mut listener)?;
-    listener.offer(alloc, &archive, fourth)?;
-    assert!(rt; listener.is_stranger(&name(3)));
-    assert!(rt; !listener.is_stranger(&name(4)));
+    let mut archive = Archive::new(alloc, VecShelf::new(alloc));
+    let listed = is_listed_throughout(alloc, &mut archive, &mut listener);
+    drop(listener);
+    drop(archive);
+    assert!(rt; listed?);
     Ok(())
 }
 
-// The second row comes before anybody asked: whether anybody is a stranger is not known then.
+/// Whether nodes 3 and 4 are known to be strangers.
+fn strangers(listener: &Listener) -> [bool; 2] {
+    [
+        listener.is_stranger(&name(3)),
+        listener.is_stranger(&name(4)),
+    ]
+}
+
+/// The same where node 2 names node 3, then node 4 in its place, and then node 5, before anybody asked.
+fn strangers_throughout(
+    alloc: Global,
+    archive: &mut Archive<VecShelf>,
+    listener: &mut Listener,
+) -> Result<[[bool; 2]; 3], Fail>
+    requires { AreFiled archive.old listener.old.table }
+{
+    ask(alloc, archive, listener)?;
+    hear_vote(alloc, archive, listener, (2, 1, &[3]))?;
+    let first = strangers(listener);
+    ask(alloc, archive, listener)?;
+    hear_vote(alloc, archive, listener, (2, 2, &[4]))?;
+    let second = strangers(listener);
+    hear_vote(alloc, archive, listener, (2, 3, &[5]))?;
+    Ok([first, second, strangers(listener)])
+}
+
+// In the end nothing is known of the reach, and so of nobody that it is a stranger.
 #[test]
-fn what_nobody_asks_for_is_forgotten(rt: HostRuntime) -> Result<(), Fail> {
+fn what_is_known_follows_a_reach_that_changes(rt: HostRuntime) -> Result<(), Fail> {
     let alloc = rt.alloc();
-    let mut archive = Archive::new(alloc, VecShelf::new(alloc));
-    let third = archive.put(vote_of(alloc, 2, 1, &[3])?)?;
-    let fourth = archive.put(vote_of(alloc, 2, 2, &[4])?)?;
     let mut listener = listener(alloc)?;
-    ask(alloc, &archive, &mut listener)?;
-    listener.offer(alloc, &archive, third)?;
-    assert!(rt; listener.is_stranger(&name(9)));
-    listener.offer(alloc, &archive, fourth)?;
-    assert!(rt; !listener.is_stranger(&name(9)));
+    let mut archive = Archive::new(alloc, VecShelf::new(alloc));
+    let found = strangers_throughout(alloc, &mut archive, &mut listener);
+    drop(listener);
+    drop(archive);
+    assert!(rt; found? == [[false, true], [true, false], [false, false]]);
     Ok(())
 }

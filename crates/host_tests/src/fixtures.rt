@@ -1,0 +1,22 @@
+//! Names, slices and nodes of which tests make their networks.
+
+use configuration::HostedNode;
+use std::alloc::Global;
+use types::{Member, Nested, NodeId, SliceSet};
+
+/// The name of a number.
+pub fn name(number: u64) -> NodeId {
+    NodeId::from_words(0, 0, 0, number)
+}
+
+/// Slices of one name.
+pub fn slices_of(alloc: Global, number: u64) -> Option<Nested> {
+    let members = vec![in alloc; Member::Node(name(number))].ok()?;
+    Nested::new(alloc, SliceSet::new(1, members)).ok()?
+}
+
+/// The node of a number alone, which needs one other or itself.
+pub fn one_node(alloc: Global, number: u64, needed: u64) -> Option<Vec<HostedNode>> {
+    let slices = slices_of(alloc, needed)?;
+    vec![in alloc; HostedNode::new(name(number), slices)].ok()
+}
