@@ -6,7 +6,8 @@ use Rattle.protocol.specs.Networks.{Reply}
 use Rattle.crowds.specs.Replies.{reply_of}
 use Rattle.crowds.specs.declared.reply.Reply.{Reply as Replied}
 use Rattle.crowds.specs.declared.reply.Reply.TheVariants as replied
-use Rattle.runs.specs.Replies.{IsReply, answer_of}
+use Rattle.requests.specs.Replies.{IsReply}
+use Rattle.runs.specs.ReplyLines.{answer_of}
 use Rattle.answers.specs.Crowding.{line, line_of_replied, line_of_reply}
 
 pub line_of_one : (r : Replied) (text : Bytes) → IsReply (answer_of r) text → line text ≡ line_of_replied r

@@ -7,7 +7,7 @@ use Rattle.scripts.specs.Script.{Bytes}
 use Rattle.scripts.specs.Names.{text_of_name}
 use Rattle.hoststep.specs.Logs.{Log}
 use Rattle.world.specs.Worlds.{log_at}
-use Rattle.runs.specs.Replies.{behind_space}
+use Rattle.requests.specs.Replies.{behind_space}
 use Rattle.twoworlds.specs.Meanings.{IsVerdictOn}
 use Rattle.twoworlds.specs.declared.verdict.Verdict.{Verdict}
 use Rattle.twoworlds.specs.declared.verdict.Verdict.TheVariants.{CastDiffers, InputsDiffer, Same}

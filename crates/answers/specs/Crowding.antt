@@ -12,7 +12,7 @@ use Rattle.crowds.specs.declared.reply.Reply.{Reply as Replied}
 use Rattle.crowds.specs.declared.verdict.Crowd.{Crowd}
 use Rattle.crowds.specs.declared.verdict.Crowd.TheVariants.{CastDiffers, RosterDiffers, OutsideRoster}
 use Rattle.crowds.specs.declared.verdict.Crowd.TheVariants.{InputsDiffer, Same}
-use Rattle.runs.specs.Replies.{behind_space, refusal_text}
+use Rattle.requests.specs.Replies.{behind_space, refusal_text}
 use Rattle.scripts.specs.Script.{Bytes}
 use Rattle.answers.specs.declared.answer.Answer.{Answer}
 use Rattle.types.specs.declared.subject.Subject.{Subject}

@@ -8,7 +8,7 @@ ghost use Rattle.answers.specs.Comparisons.{IsComparison, IsExplained, is_differ
 use crate::answer::Answer;
 use crate::explaining::{push_nodes, push_steps};
 use crate::finished_script::FinishedScript;
-use runs::push_outs;
+use requests::push_outs;
 use scripts::push_name;
 use std::alloc::{AllocError, Global};
 use twoworlds::{MemberOuts, Verdict, compare};

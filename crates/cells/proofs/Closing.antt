@@ -64,10 +64,11 @@ one_history c n d seats g present =
       counted = as_many j.config n g.owners j.entries seats g.paired g.owned present receipts;
       receipts = receipts;
       seen = λ k d lt. (end_known k d lt).0.seen;
+      last = λ k d lt mark. ((end_known k d lt).0.stopped mark).1;
       stand = All-weaker P (λ s. AllStand j.config j.entries s.me.receipts) (λ s p. subst (λ (k : Config). AllStand k j.entries s.me.receipts) p.2 (stand_more s.me.config s.me.seen j.entries s.me.receipts p.0.seen p.1.stand)) seats end_known;
       right = All-weaker P (λ s. AllRight j.config j.entries s.me.stopped s.me.denials) (λ s p. subst (λ (k : Config). AllRight k j.entries s.me.stopped s.me.denials) p.2 (right_more s.me.config s.me.seen j.entries s.me.stopped s.me.stopped s.me.denials p.0.seen (λ h. h) p.1.right)) seats end_known;
       stops = λ k d lt mark.
-          let over = (end_known k d lt).0.stopped mark in
+          let over = ((end_known k d lt).0.stopped mark).0 in
           let there = present g.stopper (g.within over) in
           let one = subst P (get_or_from_slice_get seats there.0 there.1 there.1 there.2) (end_known there.0 there.1 (slice_get_within seats there.0 there.1 there.2)) in
           (there.0, there.1, there.2, one.0.stops over there.3);

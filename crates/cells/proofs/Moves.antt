@@ -137,7 +137,7 @@ same_claims : (h : History) (u w : Knowledge) → w.number ≡ u.number → w.se
 same_claims h u w number seen stopped receipts stops closed c = record {
   made = subst (λ (n : ℕ). n < h.made) (sym number) c.made;
   seen = subst (λ (l : List Entry). IsPrefix l h.entries) (sym seen) c.seen;
-  stopped = λ t. c.stopped (sym stopped ∙ t);
+  stopped = λ t. let k = c.stopped (sym stopped ∙ t) in (k.0, seen ∙ k.1);
   receipts = ap (map extract_of) receipts ∙ c.receipts ∙ ap (λ (n : ℕ). extracts_of h.config n h.owners h.entries) (sym number);
   stops = λ o n. subst (λ (k : ℕ). 0 < k) (sym stops) (c.stops o (sym number ∙ n));
   ended = closed ∙ c.ended ∙ ap h.ended (sym number);
@@ -189,7 +189,7 @@ takes id v known away x items views h at =
         owned = subst (λ (n : ℕ). AllBelow n g.past.owners) (sym (f.known known).1) (below_more g.past.made g.past.seats g.past.owners o.made o.owned);
         stopper = λ t. let a = o.stopper (sym over ∙ t) in let b = o.made in let c = (f.known known).1 in omega arith;
         seen = λ l. subst (λ (y : List Entry). IsPrefix v.seen y) (sym all) (f.live l).1.seen;
-        stopped = λ l s. over ∙ (f.live l).1.stopped s;
+        stopped = λ l s. over ∙ ((f.live l).1.stopped s).0;
       },
     ))
     (λ (taken : g.free ≡ false). let none = o.away taken in absurd (cc))
@@ -224,12 +224,12 @@ extracts_others config by o os e es len apart =
 abbrev grown : History → ℕ → Entry → History
 grown h by e = record h { entries = h.entries ++ e ∷ []; owners = h.owners ++ by ∷ [] }
 
--- what is said of another seat stays
-others_grow : (h : History) (by : ℕ) (e : Entry) (u : Knowledge) → length h.owners ≡ length h.entries → u.number ≢ by → Claims h u → Claims (grown h by e) u
-others_grow h by e u len apart c = record {
+-- what is said of another seat stays, where there is no mark
+others_grow : (h : History) (by : ℕ) (e : Entry) (u : Knowledge) → h.over ≡ false → length h.owners ≡ length h.entries → u.number ≢ by → Claims h u → Claims (grown h by e) u
+others_grow h by e u running len apart c = record {
   made = c.made;
   seen = prefix_more u.seen h.entries e c.seen;
-  stopped = c.stopped;
+  stopped = λ t. off (sym running ∙ (c.stopped t).0);
   receipts = c.receipts ∙ sym (extracts_others h.config u.number by h.owners e h.entries len (λ same. apart (sym same)));
   stops = c.stops;
   ended = c.ended;
@@ -310,8 +310,8 @@ gives id v x seen stop receipts denials stops entries owners over stopper s fits
       refl,
     )
 
-pub adds : (id : ℕ) (v : Knowledge) (r : AppliedEvent) → HasCellState v → extract_of r ≡ extract v.config v.all (entry_of r) → Pushes Holds 1 id v (cell_state_at v.config v.seats (v.all ++ entry_of r ∷ []) v.over) (λ w. w ≡ after_application v r)
-adds id v r s is =
+pub adds : (id : ℕ) (v : Knowledge) (r : AppliedEvent) → HasCellState v → v.over ≡ false → extract_of r ≡ extract v.config v.all (entry_of r) → Pushes Holds 1 id v (cell_state_at v.config v.seats (v.all ++ entry_of r ∷ []) v.over) (λ w. w ≡ after_application v r)
+adds id v r s running is =
     let e : Entry = entry_of r in
     gives id v (cell_state_at v.config v.seats (v.all ++ e ∷ []) v.over) (v.all ++ e ∷ []) v.over (v.receipts ++ r ∷ []) v.denials v.stops
     (λ past. past.entries ++ e ∷ []) (λ past. past.owners ++ v.number ∷ []) (λ past. past.over) (λ past. past.stopper) s
@@ -324,14 +324,14 @@ adds id v r s is =
       mine = record {
         made = c.made;
         seen = ([], append-nil (v.all ++ e ∷ []) ∙ ap (λ (y : List Entry). y ++ e ∷ []) has.all);
-        stopped = λ t. sym has.over ∙ t;
+        stopped = λ t. off (sym running ∙ t);
         receipts = map-append extract_of v.receipts (r ∷ []) ∙ ap (λ (l : List Extract). l ++ extract_of r ∷ []) c.receipts
             ∙ ap (λ (x : Extract). extracts_of past.config v.number past.owners past.entries ++ x ∷ []) (is ∙ (λ i. extract ((f.known s.known).0 i) (has.all i) e))
             ∙ sym (extracts_mine past.config v.number past.owners e past.entries o.paired);
         stops = c.stops;
         ended = c.ended;
       };
-      others = λ u apart k. others_grow past v.number e u o.paired apart k;
+      others = λ u apart k. others_grow past v.number e u (sym has.over ∙ running) o.paired apart k;
     })
 
 -- nothing was added, and the view has what else it wants
@@ -345,7 +345,7 @@ sees id v denials s =
       paired = o.paired;
       owned = o.owned;
       stopper = o.stopper;
-      mine = record { made = c.made; seen = ([], append-nil v.all ∙ has.all); stopped = λ t. sym has.over ∙ t; receipts = c.receipts; stops = c.stops; ended = c.ended };
+      mine = record { made = c.made; seen = ([], append-nil v.all ∙ has.all); stopped = λ t. (sym has.over ∙ t, has.all); receipts = c.receipts; stops = c.stops; ended = c.ended };
       others = λ u apart k. k;
     })
 
@@ -371,11 +371,11 @@ stops id v s =
       paired = o.paired;
       owned = o.owned;
       stopper = λ _. made;
-      mine = record { made = c.made; seen = ([], append-nil v.all ∙ has.all); stopped = λ t. refl; receipts = c.receipts; stops = λ _ _. omega arith; ended = c.ended };
+      mine = record { made = c.made; seen = ([], append-nil v.all ∙ has.all); stopped = λ t. (refl, has.all); receipts = c.receipts; stops = λ _ _. omega arith; ended = c.ended };
       others = λ u apart k. record {
         made = k.made;
         seen = k.seen;
-        stopped = λ _. refl;
+        stopped = λ t. (refl, (k.stopped t).1);
         receipts = k.receipts;
         stops = λ _ n. ⊎_elim
             (λ (t : past.over ≡ true). k.stops t (n ∙ ap (λ (b : Bool). if b then past.stopper else v.number) t))
@@ -578,7 +578,7 @@ agrees id v known holding claims items views h at =
     let m = f.holding holding in
     record {
       seen = subst (λ (l : List Entry). IsPrefix v.seen l) (sym m.all) k.seen;
-      stopped = λ t. m.over ∙ k.stopped t;
+      stopped = λ t. let s = k.stopped t in (m.over ∙ s.0, s.1 ∙ sym m.all);
       receipts = k.receipts ∙ (λ i. extracts_of (sym (f.known known).0 i) v.number (sym m.owners i) (sym m.all i));
       stops = λ t n. k.stops (sym m.over ∙ t) (n ∙ m.stopper);
     }

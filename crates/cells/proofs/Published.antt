@@ -1,6 +1,6 @@
 -- What is published, waits, and is still in the journal alone, with each step.
 use Rattle.std.proofs.Common.{◌≡◌, ℕ, suc, ◌+◌, ◌<◌, ◌≤◌, List, [], ◌∷◌, ◌++◌, length, map, sym, ap, ◌∙◌, subst, arith, append_assoc, length-append, Option, None, Some, is_some, option_map, option_to_list, Result, Ok, Err, is_ok, Bool, true, true≢false}
-use Rattle.std.specs.Prelude.{IfOk, OnErr, OnOk}
+use Rattle.std.specs.Prelude.{IfOk, IfSome, OnErr, OnOk}
 use Rattle.std.proofs.lemmas.List.{append-nil, length-map, map-append}
 use mathlib.Core.List.{IsPrefix}
 use mir.Val.{bool_byte}
@@ -55,6 +55,21 @@ pub after_event : (old new : Log) (e : Step) (n : ℕ) (p : List Decision × Lis
     → IsPublished old.entries n p → IsPublished new.entries n p
 after_event old new e n p (Ok x) ok err h = subst (λ (l : Log). IsPublished l.entries n p) (sym ok) (entry_more old.entries (record { event = e; outs = x.outs.items }) n p h)
 after_event old new e n p (Err x) ok err h = subst (λ (l : Log). IsPublished l.entries n p) (sym err) h
+
+-- the same, where there is a publisher
+pub after_event_there : (old new : Log) (e : Step) (n : ℕ) (o : Option (List Decision × List Decision)) (r : Result Recorded Refusal) → IfOk r (λ x. new ≡ with_entry old e x.outs.items) → OnErr r (new ≡ old)
+    → IfSome o (IsPublished old.entries n) → IfSome o (IsPublished new.entries n)
+after_event_there old new e n None r ok err h = h
+after_event_there old new e n (Some p) r ok err h = after_event old new e n p r ok err h
+
+-- nothing has happened
+pub nothing_yet : (o : Option (List Decision × List Decision)) → IfSome o (λ p. (p.0 ≡ []) × (p.1 ≡ [])) → IfSome o (IsPublished [] 0)
+nothing_yet None h = h
+nothing_yet (Some p) h = record { within = omega arith; all = λ i. h.0 i ++ h.1 i ++ [] }
+
+-- of a publisher that is there
+pub there : (entries : List Entry) (n : ℕ) (o : Option (List Decision × List Decision)) (p : List Decision × List Decision) → o ≡ Some p → IfSome o (IsPublished entries n) → IsPublished entries n p
+there entries n o p is h = subst (λ (x : Option (List Decision × List Decision)). IfSome x (IsPublished entries n)) is h
 
 -- what is published is a beginning
 pub published_begins : (entries : List Entry) (n : ℕ) (p : List Decision × List Decision) → IsPublished entries n p → IsPrefix p.0 (decisions_known entries)

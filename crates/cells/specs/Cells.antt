@@ -10,8 +10,7 @@ use Rattle.protocol.specs.Runs.{outs_given, refusal_of}
 use Rattle.hoststep.specs.Logs.{IsEntered}
 use Rattle.cells.specs.declared.refusal.CellRefusal.{CellRefusal}
 use Rattle.cells.specs.declared.refusal.CellRefusal.TheVariants.{Closed}
-use Rattle.cells.specs.declared.cell_state.Entered.{Entered}
-use Rattle.cells.specs.Receipts.{entry_of, receipt}
+use Rattle.cells.specs.Receipts.{AppliedEvent, entry_of, receipt}
 use Rattle.cells.specs.Rule.{denial, fresh}
 use Rattle.cells.specs.Sights.{CellSight, SeatSight}
 use Rattle.cells.specs.Sounds.{IsWhy}
@@ -30,20 +29,21 @@ AllFresh cell config seats all =
     (k : ℕ) (s : SeatSight) → slice_get all k ≡ Some s → (s.cell ≡ cell) × (s.me ≡ fresh config seats k)
 
 -- an event was entered in the journal that lies under the lock, and its receipt made
-pub record IsEnteredAt (old : CellStateSight) (event : Event) (m : Entered) (new : CellStateSight) : Type 0 where
+pub record IsEnteredAt (old : CellStateSight) (event : Event) (r : AppliedEvent) (new : CellStateSight) : Type 0 where
   pub running : old.stopped ≡ false
-  pub entered : IsEntered old.log (step_of event) m.answer.items
-  pub made : m.made.value ≡ receipt old.log.config old.log.entries event m.answer.items
-  pub cell_state : new ≡ record old { log = record old.log { entries = old.log.entries ++ entry_of m.made.value ∷ [] } }
+  pub entered : IsEntered old.log (step_of event) r.outs
+  pub made : r ≡ receipt old.log.config old.log.entries event r.outs
+  pub cell_state : new ≡ record old { log = record old.log { entries = old.log.entries ++ entry_of r ∷ [] } }
 
 -- why it was not entered; the stop mark comes first
 abbrev pub IsDenied : CellStateSight → Event → CellRefusal → Type 0
 IsDenied d event r = IsWhy d.log.config d.log.entries d.stopped event r × ((r ≡ Closed) ↔ (d.stopped ≡ true))
 
--- The seat gained one receipt, of this event with these outs, and nothing else but what it saw. They are what the event
--- gives out after the entries before it, after which it is not refused.
-pub record IsApplied (c : CellSight) (event : Event) (given : List Out) (old new : SeatSight) : Type 0 where
+-- The seat gained one receipt, of this event with what it gives out after the entries before it, after which it is not
+-- refused, and nothing else but what it saw.
+pub record IsApplied (c : CellSight) (event : Event) (old new : SeatSight) : Type 0 where
   pub before : List Entry
+  pub given : List Out
   pub seen_before : IsPrefix old.me.seen before
   pub free : refusal_of c.config before (step_of event) ≡ None
   pub outs : given ≡ outs_given c.config before (step_of event)

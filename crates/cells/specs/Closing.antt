@@ -35,9 +35,9 @@ pub record Gathered (c : Config) (n : ℕ) (d : CellStateSight) (seats : List Se
   pub within : d.stopped ≡ true → stopper < n
   pub end_known : AllSeats (λ s. IsKnownAtEnd c d.log.entries owners d.stopped stopper s.me × IsSound s.me × (s.me.config ≡ c)) seats
 
--- Each entry is one seat's, and each seat's receipts are its entries. What each seat saw is a beginning. Each denial
--- was right. A mark was set by some seat. Where no more seats are there than the cell has, there are as many entries as
--- receipts.
+-- Each entry is one seat's, and each seat's receipts are its entries. What each seat saw is a beginning, and all there is
+-- where it saw the mark. Each denial was right. A mark was set by some seat. Where no more seats are there than the cell
+-- has, there are as many entries as receipts.
 pub record IsOneHistory (n : ℕ) (j : Log) (seats : List SeatSight) : Type 0 where
   pub owners : List ℕ
   pub paired : length owners ≡ length j.entries
@@ -46,6 +46,7 @@ pub record IsOneHistory (n : ℕ) (j : Log) (seats : List SeatSight) : Type 0 wh
   pub counted : length seats ≤ n → length j.entries ≡ receipts_in seats
   pub receipts : AllSeats (λ s. map extract_of s.me.receipts ≡ extracts_of j.config s.me.number owners j.entries) seats
   pub seen : AllSeats (λ s. IsPrefix s.me.seen j.entries) seats
+  pub last : AllSeats (λ s. s.me.stopped ≡ true → s.me.seen ≡ j.entries) seats
   pub stand : AllSeats (λ s. AllStand j.config j.entries s.me.receipts) seats
   pub right : AllSeats (λ s. AllRight j.config j.entries s.me.stopped s.me.denials) seats
   pub stops : AllSeats (λ s. s.me.stopped ≡ true → (i : ℕ) × (t : SeatSight) × (slice_get seats i ≡ Some t) × (0 < t.me.stops)) seats

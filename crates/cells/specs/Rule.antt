@@ -79,7 +79,8 @@ pub record World : Type 0 where
 pub record Claims (h : History) (v : Knowledge) : Type 0 where
   pub made : v.number < h.made
   pub seen : IsPrefix v.seen h.entries
-  pub stopped : v.stopped ≡ true → h.over ≡ true
+  -- who saw the mark saw all there is, and nothing is added to it
+  pub stopped : v.stopped ≡ true → (h.over ≡ true) × (v.seen ≡ h.entries)
   pub receipts : map extract_of v.receipts ≡ extracts_of h.config v.number h.owners h.entries
   pub stops : h.over ≡ true → v.number ≡ h.stopper → 0 < v.stops
   pub ended : v.closed ≡ h.ended v.number
@@ -139,7 +140,7 @@ pub record IsTaken (v : Knowledge) (x : CellStateSight) (w : Knowledge) : Type 0
 pub record IsKnownAtEnd (config : Config) (entries : List Entry) (owners : List ℕ) (over : Bool) (stopper : ℕ)
     (v : Knowledge) : Type 0 where
   pub seen : IsPrefix v.seen entries
-  pub stopped : v.stopped ≡ true → over ≡ true
+  pub stopped : v.stopped ≡ true → (over ≡ true) × (v.seen ≡ entries)
   pub receipts : map extract_of v.receipts ≡ extracts_of config v.number owners entries
   pub stops : over ≡ true → v.number ≡ stopper → 0 < v.stops
 

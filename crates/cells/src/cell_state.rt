@@ -1,6 +1,6 @@
 //! What lies under the lock of a cell.
 
-ghost use Rattle.std.specs.Prelude.{◌≡◌, ◌++◌, ◌∷◌, [], IfErr, IfOk, OnErr, false, true};
+ghost use Rattle.std.specs.Prelude.{◌≡◌, ◌++◌, ◌∷◌, [], IfErr, IfOk, IfSome, OnErr, false, true};
 ghost use mathlib.Core.List.{IsPrefix};
 ghost use Rattle.network.specs.Decoding.{step_of};
 ghost use Rattle.hoststep.specs.Logs.{IsEntered, IsRecorded, IsRefused, with_entry};
@@ -9,7 +9,7 @@ ghost use Rattle.cells.specs.Publishing.{IsToldBut, decisions_known};
 
 use crate::receipt::Receipt;
 use crate::refusal::CellRefusal;
-use crate::watched::{append_all, count_decisions, publish_waiting};
+use crate::watched::{count_decisions, publish_all};
 use configuration::NetConfig;
 use decisions::{Board, Publisher, Watch};
 use envstore::Shelf;
@@ -18,11 +18,11 @@ use std::alloc::Global;
 use std::marker::Model;
 use std::snapshot::Snapshot;
 use std::sync::Wait;
-use types::{Event, Out, Refusal};
+use types::{Event, Refusal};
 
-/// The journal of a network, the publisher of its decisions, the stop mark, and how many seats the cell has. The
-/// decisions of the entries below a kept number were appended to the publisher; those of the others are found in
-/// the journal, so keeping them takes no memory.
+/// The journal of a network, the publisher of its decisions, if the cell has one, the stop mark, and how many seats the
+/// cell has. The decisions of the entries below a kept number were appended to the publisher; those of the others are
+/// found in the journal, so keeping them takes no memory.
 ///
 /// What is published, then what waits to be, then what the other entries decided is all that the journal decided,
 /// in order. For example, where three entries decided x, nothing and y, and the kept number is 1, x was appended,
@@ -30,7 +30,7 @@ use types::{Event, Out, Refusal};
 #[derive(Drop)]
 pub struct CellState<S: Shelf, H: Wait + Drop> {
     journal: Journal<S>,
-    publisher: Publisher<H>,
+    publisher: Option<Publisher<H>>,
     appended: usize,
     stopped: bool,
     seats: u64,
@@ -38,6 +38,7 @@ pub struct CellState<S: Shelf, H: Wait + Drop> {
 
 impl<S: Shelf, H: Wait + Drop> Model for CellState<S, H> {
     ghost use Rattle.std.specs.Coded.{codes};
+    ghost use Rattle.std.specs.Prelude.{IfSome};
     ghost use Rattle.types.specs.Trees.{members_code};
     ghost use Rattle.cells.specs.Publishing.{IsPublished};
     ghost use Rattle.cells.specs.Views.{CellStateSight};
@@ -48,27 +49,20 @@ impl<S: Shelf, H: Wait + Drop> Model for CellState<S, H> {
 
     ghost view = { λ d. record { log = d.journal; stopped = d.stopped; seats = d.seats } };
 
-    ghost invariant = { λ d. IsPublished d.journal.entries d.appended d.publisher };
-}
-
-/// What an applied event leaves: its receipt, which is known in contracts, and what it gave out.
-#[derive(Drop)]
-pub struct Entered {
-    pub(crate) made: Snapshot<Receipt>,
-    pub(crate) answer: Vec<Out>,
+    ghost invariant = { λ d. IfSome d.publisher (IsPublished d.journal.entries d.appended) };
 }
 
 impl<S: Shelf, H: Wait + Drop> CellState<S, H> {
-    /// A network where nothing has happened, in a cell with so many seats, and a publisher with nothing appended.
-    /// It takes no memory.
+    /// A network where nothing has happened, in a cell with so many seats, and a publisher with nothing appended, if
+    /// there is one. It takes no memory.
     pub(crate) fn new(
         alloc: Global,
         config: NetConfig,
         shelf: S,
         seats: u64,
-        publisher: Publisher<H>,
+        publisher: Option<Publisher<H>>,
     ) -> CellState<S, H>
-        requires { (publisher.0 ≡ []) × (publisher.1 ≡ []) }
+        requires { IfSome publisher (λ p. (p.0 ≡ []) × (p.1 ≡ [])) }
         ensures { result ≡ record { log = record { config = config; entries = [] }; stopped = false; seats = seats } }
     {
         CellState {
@@ -87,10 +81,11 @@ impl<S: Shelf, H: Wait + Drop> CellState<S, H> {
         self.stopped = true;
     }
 
-    /// The journal, and what was published of its decisions. It waits for watches that read.
-    pub(crate) fn into_parts(self) -> (Journal<S>, Box<Board>)
+    /// The journal, and what was published of its decisions, where there is a publisher. It waits for watches that
+    /// read.
+    pub(crate) fn into_parts(self) -> (Journal<S>, Option<Box<Board>>)
         ensures log { result.0 ≡ self.log }
-        ensures published { IsPrefix result.1.value (decisions_known self.log.entries) }
+        ensures published { IfSome result.1 (λ b. IsPrefix b.value (decisions_known self.log.entries)) }
     {
         let CellState {
             journal,
@@ -99,38 +94,51 @@ impl<S: Shelf, H: Wait + Drop> CellState<S, H> {
             stopped: _,
             seats: _,
         } = self;
-        (journal, publisher.take())
+        match publisher {
+            None => (journal, None),
+            Some(publisher) => (journal, Some(publisher.take())),
+        }
     }
 
-    /// Publishes what the journal decided, as far as there is memory. It waits for watches that read.
+    /// Publishes what the journal decided, as far as there is memory, where there is a publisher. It waits for watches
+    /// that read.
     pub(crate) fn publish(self) -> CellState<S, H>
         ensures { result ≡ self }
     {
         let CellState {
             journal,
-            mut publisher,
+            publisher,
             appended,
             stopped,
             seats,
         } = self;
-        let appended = append_all(&journal, &mut publisher, appended);
+        let (publisher, appended) = publish_all(&journal, publisher, appended);
         CellState {
             journal,
-            publisher: publish_waiting(publisher),
+            publisher,
             appended,
             stopped,
             seats,
         }
     }
 
-    /// Tells a watch what is published, and answers how many decisions of the journal are not yet.
-    pub(crate) fn tell<W: Wait>(&self, rt: &W, watch: &mut Watch) -> usize
-        ensures told { IsToldBut self.now.log.entries result watch.new }
+    /// Has a watch see what is published, and answers how many decisions of the journal are not yet. None says that the
+    /// watch is not of this cell.
+    pub(crate) fn tell(&self, watch: &mut Watch) -> Option<usize>
+        ensures told { IfSome result (λ missing. IsToldBut self.now.log.entries missing watch.new) }
         ensures grows { IsPrefix watch.old watch.new }
     {
-        self.publisher.tell(rt, watch);
-        self.journal.replays();
-        count_decisions(&self.journal, self.appended, self.publisher.pending_count())
+        match &self.publisher {
+            Some(publisher) => {
+                if !publisher.tell(watch) {
+                    return None;
+                }
+                self.journal.replays();
+                let waiting = publisher.pending_count();
+                Some(count_decisions(&self.journal, self.appended, waiting))
+            }
+            None => None,
+        }
     }
 
     /// One event, as by [`Journal::apply_recorded`].
@@ -150,9 +158,9 @@ impl<S: Shelf, H: Wait + Drop> CellState<S, H> {
         &mut self,
         receipts: &mut Vec<Receipt>,
         event: Event,
-    ) -> Result<Entered, CellRefusal>
-        ensures ok { IfOk result (λ m. IsEnteredAt self.old event m self.new) }
-        ensures receipts { IfOk result (λ m. receipts.new.items ≡ receipts.old.items ++ m.made.value ∷ []) }
+    ) -> Result<Snapshot<Receipt>, CellRefusal>
+        ensures ok { IfOk result (λ m. IsEnteredAt self.old event m.value self.new) }
+        ensures receipts { IfOk result (λ m. receipts.new.items ≡ receipts.old.items ++ m.value ∷ []) }
         ensures err { IfErr result (IsDenied self.old event) }
         ensures same { IfErr result (λ _. (self.new ≡ self.old) × (receipts.new.items ≡ receipts.old.items)) }
     {
@@ -173,7 +181,6 @@ impl<S: Shelf, H: Wait + Drop> CellState<S, H> {
                     event,
                     outs,
                     marks,
-                    answer,
                 } = recorded;
                 let receipt = Receipt {
                     network: self.journal.config().number(),
@@ -184,7 +191,7 @@ impl<S: Shelf, H: Wait + Drop> CellState<S, H> {
                 };
                 let made = Snapshot::of(&receipt);
                 receipts.push_reserved(receipt);
-                Ok(Entered { made, answer })
+                Ok(made)
             }
             Err(refusal) => Err(CellRefusal::Network(refusal)),
         }

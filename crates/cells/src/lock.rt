@@ -1,6 +1,6 @@
 //! The steps of the lock.
 
-ghost use Rattle.std.specs.Prelude.{◌≡◌, ◌⊎◌, true, false, [], ◌∷◌, ◌++◌};
+ghost use Rattle.std.specs.Prelude.{◌≡◌, ◌⊎◌, true, false, [], ◌∷◌, ◌++◌, MatchOption};
 ghost use Rattle.crossbeam_queue.specs.Fifo.{Pushes};
 ghost use Rattle.crossbeam_queue.specs.Passes.{view, IsSamePass, IsPassOf, ruled_capacity};
 ghost use Rattle.cells.specs.Receipts.{entry_of, extract, extract_of};
@@ -16,6 +16,21 @@ use std::sync::Wait;
 use std::thread;
 use types::Event;
 
+/// One attempt to take the cell state. None says that another seat has it, or that another thread is in the way: then
+/// the view is as it was. It waits for nobody.
+pub(crate) fn try_take<S: Shelf, H: Wait + Drop>(
+    lock: &Lock<S, H>,
+    pass: &mut SeatPass<S, H>,
+) -> Option<CellState<S, H>>
+    requires queue { IsPassOf lock.now pass.old }
+    requires known { (view pass.old).known ≡ true }
+    requires away { (view pass.old).holding ≡ false }
+    ensures queue { IsSamePass pass.old pass.new }
+    ensures rule { MatchOption result (view pass.new ≡ view pass.old) (λ x. IsTaken (view pass.old) x (view pass.new)) }
+{
+    lock.try_pop_as::<Takes>(pass)
+}
+
 /// Waits for the cell state.
 pub(crate) fn take<S: Shelf, H: Wait + Drop, R: Wait>(
     rt: &R,
@@ -29,7 +44,7 @@ pub(crate) fn take<S: Shelf, H: Wait + Drop, R: Wait>(
     ensures rule { IsTaken (view pass.old) result (view pass.new) }
 {
     for _ in rt.forever() {
-        if let Some(cell_state) = lock.pop_as::<Takes, R>(rt, pass) {
+        if let Some(cell_state) = try_take(lock, pass) {
             return cell_state;
         }
         thread::yield_now();
@@ -56,7 +71,7 @@ pub(crate) fn give<N: Next, S: Shelf, H: Wait + Drop, R: Wait>(
     }
 }
 
-/// Puts the cell state back with one entry more.
+/// Puts the cell state back with one entry more, where there is no stop mark.
 pub(crate) fn add<N: Next, S: Shelf, H: Wait + Drop, R: Wait>(
     rt: &R,
     lock: &Lock<S, H>,
@@ -66,6 +81,7 @@ pub(crate) fn add<N: Next, S: Shelf, H: Wait + Drop, R: Wait>(
 )
     requires queue { IsPassOf lock.now pass.old × (ruled_capacity lock.now ≡ 1) }
     requires sits { HasCellState (view pass.old) }
+    requires running { (view pass.old).over ≡ false }
     requires cell_state { cell_state ≡ cell_state_at (view pass.old).config (view pass.old).seats ((view pass.old).all ++ entry_of made.now.value ∷ []) (view pass.old).over }
     requires made { extract_of made.now.value ≡ extract (view pass.old).config (view pass.old).all (entry_of made.now.value) }
     requires next { N.next ≡ after_application (view pass.old) made.now.value }

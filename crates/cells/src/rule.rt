@@ -74,10 +74,6 @@ impl<S: Shelf, H: Wait + Drop> Outcome<CellState<S, H>, PassKnowledge> for Takes
     ghost then = { IsTaken };
 }
 
-impl<S: Shelf, H: Wait + Drop> Lesson<CellState<S, H>, PassKnowledge> for Takes {
-    ghost fact = { λ v items. Unit {0} };
-}
-
 /// A seat is made.
 pub struct Sits;
 

@@ -1,6 +1,6 @@
 //! What watches are shown of the decisions of a journal.
 
-ghost use Rattle.std.specs.Prelude.{◌≡◌, ◌+◌, ◌++◌, ◌<◌, ◌≤◌, IsTrue, false, length};
+ghost use Rattle.std.specs.Prelude.{◌≡◌, ◌+◌, ◌++◌, ◌<◌, ◌≤◌, IfSome, IsTrue, false, length};
 ghost use Rattle.hoststep.specs.Deciding.{decisions_from};
 ghost use Rattle.cells.specs.Publishing.{IsPublished};
 
@@ -37,7 +37,7 @@ fn append_one<S: Shelf, H: Wait + Drop>(
 
 /// Appends what the entries from this number on decided, as far as there is memory, and answers from which number
 /// on it did not.
-pub(crate) fn append_all<S: Shelf, H: Wait + Drop>(
+fn append_all<S: Shelf, H: Wait + Drop>(
     journal: &Journal<S>,
     publisher: &mut Publisher<H>,
     from: usize,
@@ -54,7 +54,7 @@ pub(crate) fn append_all<S: Shelf, H: Wait + Drop>(
 }
 
 /// Publishes what waits, where there is any and there is memory.
-pub(crate) fn publish_waiting<H: Wait + Drop>(publisher: Publisher<H>) -> Publisher<H>
+fn publish_waiting<H: Wait + Drop>(publisher: Publisher<H>) -> Publisher<H>
     ensures { result.0 ++ result.1 ≡ publisher.0 ++ publisher.1 }
 {
     if publisher.pending_count() == 0 {
@@ -62,6 +62,25 @@ pub(crate) fn publish_waiting<H: Wait + Drop>(publisher: Publisher<H>) -> Publis
     }
     let (publisher, _answer) = publisher.publish();
     publisher
+}
+
+/// Publishes what the entries from this number on decided, as far as there is memory, where there is a publisher, and
+/// answers from which number on it did not append.
+pub(crate) fn publish_all<S: Shelf, H: Wait + Drop>(
+    journal: &Journal<S>,
+    publisher: Option<Publisher<H>>,
+    from: usize,
+) -> (Option<Publisher<H>>, usize)
+    requires { IfSome publisher (IsPublished journal.now.entries from) }
+    ensures { IfSome result.0 (IsPublished journal.now.entries result.1) }
+{
+    match publisher {
+        None => (None, from),
+        Some(mut publisher) => {
+            let next = append_all(journal, &mut publisher, from);
+            (Some(publish_waiting(publisher)), next)
+        }
+    }
 }
 
 /// So many more than what the entries from this number on decided.

@@ -15,7 +15,7 @@ use Rattle.protocol.specs.Isolation.{node_rule, announcement_rules, closure}
 use Rattle.protocol.proofs.Sets.Finite.{among_head, among_tail}
 use Rattle.protocol.proofs.Sets.Contained.{contains_head, contains_tail, contained_cases}
 use Rattle.protocol.proofs.Sets.Derived.{least_is}
-use Rattle.closure.specs.Announcing.{AnnouncedSlices, announced_by, announced_in, announced_at, IsNamedBy, MemberList, names_of, IsChained, IsClosureList}
+use Rattle.closure.specs.Announcing.{AnnouncedSlices, announced_by, announced_in, announced_at, IsNamedBy, MemberList, names_of, AreMembersAt, IsChained, IsClosureList}
 use Rattle.closure.specs.Announcing.IsNamedBy.{configured, learnt}
 use Rattle.closure.specs.Turns.{AllNamesAreMembers}
 use Rattle.protocol.proofs.Sets.Mapped.{mapped_to, mapped_from}
@@ -314,10 +314,11 @@ module _ (nodes : List HostedNode) (i : ℕ) (run : List Entry) where
           settled place.0 a.sender place.1 u (learnt x.0 a at ruled_by.at refl receiver (subst (λ (ns : List ℕ). IsTrue (among ns u)) ruled_by.is.gives g))
 
   -- a chained list in which all is settled is the closure
-  pub is_closure : (v : ℕ) (list : MemberList) → IsAscending (node_names nodes) → IsChained nodes i v run list → AllNamesAreMembers nodes i run (names_of list) (names_of list) → IsDistinct (λ x y. x == y) (names_of list) → IsClosureList nodes i v run list
+  pub is_closure : (v : ℕ) (list : MemberList) → IsAscending (node_names nodes) → IsChained nodes i v run list → AllNamesAreMembers nodes i run (names_of list) (names_of list) → IsDistinct (λ x y. x == y) (names_of list) → AreMembersAt nodes i v run 0 list → IsClosureList nodes i v run list
   unfolding closure
-  is_closure v list up chained settled once = record {
+  is_closure v list up chained settled once in_turn = record {
     chained = chained;
     once = once;
+    in_turn = in_turn;
     exactly = λ u. ap (λ (set : Names). set u) (least_is rules v (among (names_of list)) (all_closed v list up chained settled) (all_derived v list chained));
   }

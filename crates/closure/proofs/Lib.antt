@@ -4,6 +4,8 @@ mod ClosureSteps
 mod Walking
 mod Readiness
 mod Growing
+mod Ordering
+mod OneOrder
 mod Gathering
 mod Waking
 pub mod Places

@@ -1,9 +1,10 @@
--- What the entries of a journal announce, and the closure of a node in it as a list that says who named whom.
-use Rattle.std.specs.Prelude.{◌≡◌, ℕ, suc, ◌<◌, List, Option, Some, None, slice_get, take, map, option_map, IsTrue}
+-- What the entries of a journal announce, and the closure of a node in it as a list that says who named whom, and in
+-- which order.
+use Rattle.std.specs.Prelude.{◌≡◌, ℕ, suc, ◌<◌, List, [], ◌∷◌, ◌++◌, Option, Some, None, slice_get, take, map, option_map, IsTrue, IsFalse}
 use Rattle.std.specs.List.{IsDistinct}
 use Rattle.std.specs.Prelude.{◌==◌}
 use Rattle.types.specs.Trees.{Slices}
-use Rattle.protocol.specs.Sets.{Names, among}
+use Rattle.protocol.specs.Sets.{IsAscending, Names, among}
 use Rattle.protocol.specs.Satisfaction.{names}
 use Rattle.protocol.specs.Networks.{HostedNode, Step, slices_of}
 use Rattle.protocol.specs.Networks.Reading.{Read}
@@ -69,9 +70,35 @@ pub record IsChained (nodes : List HostedNode) (i v : ℕ) (run : List Entry) (l
   pub first : slice_get list 0 ≡ Some (v, 0)
   pub later : (k : ℕ) (m : ℕ × ℕ) → slice_get list (suc k) ≡ Some m → IsNamedBefore nodes i run list (suc k) m
 
--- The closure of v as a list: v first, each member once, each later one with an earlier one that names it, and exactly
--- its members.
+-- the turn of the member w at a place: the names that it names and that are missing join at the end, ascending
+pub record IsTurn (nodes : List HostedNode) (i : ℕ) (run : List Entry) (w place : ℕ) (old new : MemberList) : Type 0 where
+  pub joined : List ℕ
+  pub ascending : IsAscending joined
+  pub named : (u : ℕ) → IsTrue (among joined u) → IsNamedBy nodes i run (among (names_of old)) w u
+  pub missing : (u : ℕ) → IsTrue (among joined u) → IsFalse (among (names_of old) u)
+  pub all : (u : ℕ) → IsNamedBy nodes i run (among (names_of old)) w u → IsFalse (among (names_of old) u) → IsTrue (among joined u)
+  pub is : new ≡ old ++ map (λ u. (u, place)) joined
+
+-- The members that there are when the turn of a place comes: at first v, and from then on what each turn makes of them.
+-- Turns go through the places in order, those of members that joined meanwhile included, and then from the first one on.
+pub data AreMembersAt (nodes : List HostedNode) (i v : ℕ) (run : List Entry) : ℕ → MemberList → Type 0 where
+  first : AreMembersAt nodes i v run 0 ((v, 0) ∷ [])
+  turn : {place w : ℕ} {old new : MemberList} → AreMembersAt nodes i v run place old
+      → slice_get (names_of old) place ≡ Some w → IsTurn nodes i run w place old new
+      → AreMembersAt nodes i v run (suc place) new
+  again : {place : ℕ} {list : MemberList} → AreMembersAt nodes i v run place list
+      → slice_get (names_of list) place ≡ None → AreMembersAt nodes i v run 0 list
+
+-- The closure of v as a list: v first, each member once, each later one with an earlier one that names it, in the order
+-- of their turns, and exactly its members.
 pub record IsClosureList (nodes : List HostedNode) (i v : ℕ) (run : List Entry) (list : MemberList) : Type 0 where
   pub chained : IsChained nodes i v run list
   pub once : IsDistinct (λ x y. x == y) (names_of list)
+  pub in_turn : AreMembersAt nodes i v run 0 list
   pub exactly : (u : ℕ) → among (names_of list) u ≡ closure nodes i v run u
+
+-- there is one such list
+abbrev pub ClosureListsAreOne : Type 0
+ClosureListsAreOne =
+    (nodes : List HostedNode) (i v : ℕ) (run : List Entry) (one other : MemberList) → IsClosureList nodes i v run one
+    → IsClosureList nodes i v run other → one ≡ other

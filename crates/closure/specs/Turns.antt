@@ -1,6 +1,6 @@
 -- How a closure is found: announcements by sender and by receiver, those that are ready for a turn, and the turns of
 -- members.
-use Rattle.std.specs.Prelude.{◌≡◌, ◌⊎◌, ℕ, zero, suc, ◌<◌, ◌≤◌, Bool, false, ◌==◌, ◌&&◌, List, [], ◌∷◌, ◌++◌, length, take, get_or, Option, Some, None, if◌then◌else◌, IsTrue, IsFalse, slice_get, flat_map}
+use Rattle.std.specs.Prelude.{◌≡◌, ◌⊎◌, ℕ, zero, suc, ◌<◌, ◌≤◌, Bool, false, ◌==◌, ◌&&◌, List, [], ◌∷◌, ◌++◌, length, take, get_or, Option, Some, None, if◌then◌else◌, IsTrue, IsFalse, slice_get, flat_map, AllPairs}
 use Rattle.types.specs.Trees.{Slices}
 use Rattle.protocol.specs.Sets.{Names, among}
 use Rattle.protocol.specs.Satisfaction.{names}
@@ -138,6 +138,10 @@ pub record IsGiven (nodes : List HostedNode) (i : ℕ) (run : List Entry) (membe
     : Type 0 where
   pub sound : (u : ℕ) → IsTrue (among given u) → IsNamedBy nodes i run (among members) w u
   pub complete : (u : ℕ) → IsNamedBy nodes i run (among members) w u → IsTrue (among members u) ⊎ IsTrue (among given u)
+
+-- numbers in order, of which some may be the same
+abbrev pub AreInOrder : List ℕ → Type 0
+AreInOrder xs = AllPairs (λ x y. x ≤ y) xs
 
 -- ---- members that join
 -- a name is added at the end, with the place of the member that names it, unless it is there

@@ -19,4 +19,4 @@ pub use announcing::{Announcement, Announcements};
 pub use closure_list::ClosureList;
 pub use hosting::is_hosted_alike;
 pub use least::least_failing;
-pub use of_journal::closure;
+pub use of_journal::{closure, closure_lists_are_one};

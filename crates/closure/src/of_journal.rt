@@ -2,7 +2,7 @@
 
 ghost use Rattle.std.specs.Prelude.{IfOk, map};
 ghost use Rattle.protocol.specs.Sets.{IsAscending};
-ghost use Rattle.closure.specs.Announcing.{IsClosureList};
+ghost use Rattle.closure.specs.Announcing.{ClosureListsAreOne, IsClosureList};
 
 use crate::announcing::Announcements;
 use crate::closure_list::ClosureList;
@@ -40,6 +40,12 @@ pub fn closure<J: Announcements>(
     };
     turns.closure_of(alloc, node)
 }
+
+/// A law: a closure has one list.
+#[tactic(auto, using(crate::proofs::OneOrder::closure_lists_are_one))]
+pub fn closure_lists_are_one()
+    ensures { ClosureListsAreOne }
+{}
 
 /// The names of a journal's hosted nodes ascend: whoever looks a node up has seen all its slices.
 fn hosted_ascend<J: Announcements>(journal: &J, node: &NodeId)

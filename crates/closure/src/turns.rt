@@ -3,8 +3,8 @@
 ghost use Rattle.std.specs.Prelude.{◌≡◌, ◌++◌, ◌≤◌, ℕ, Some, length, slice_get, IfOk, OnOk, map, option_map};
 ghost use Rattle.protocol.specs.Networks.{slices_of};
 ghost use Rattle.protocol.specs.Sets.{among, IsAscending};
-ghost use Rattle.closure.specs.Announcing.{IsChained, IsClosureList, announced_at, names_of};
-ghost use Rattle.closure.specs.Turns.{AreIndexed, AreMore, AllNamesAreMembers, AreWoken, IsFor, IsGiven, IsGrown, IsJoined, IsReady, NamesAreMembers, added_names, all_added, known_names, lists_after_turn};
+ghost use Rattle.closure.specs.Announcing.{AreMembersAt, IsChained, IsClosureList, IsTurn, announced_at, names_of};
+ghost use Rattle.closure.specs.Turns.{AreInOrder, AreIndexed, AreMore, AllNamesAreMembers, AreWoken, IsFor, IsGiven, IsGrown, IsJoined, IsReady, NamesAreMembers, added_names, all_added, known_names, lists_after_turn};
 
 use crate::announcing::Announcements;
 use crate::closure_list::ClosureList;
@@ -58,6 +58,7 @@ impl<'a, J: Announcements> Turns<'a, J> {
         ensures grown { OnOk result ((v : ℕ) → IsChained (J.nodes self.now.journal.now) self.now.slot v (J.entries self.now.journal.now) members.old → IsGrown (J.nodes self.now.journal.now) self.now.slot v (J.entries self.now.journal.now) members.old members.new) }
         ensures settled { OnOk result (AllNamesAreMembers (J.nodes self.now.journal.now) self.now.slot (J.entries self.now.journal.now) (names_of members.new) (names_of members.old)) }
         ensures ready { OnOk result (IsReady (J.nodes self.now.journal.now) self.now.slot (J.entries self.now.journal.now) (names_of members.new) ready.new) }
+        ensures in_turn { OnOk result ((v : ℕ) → AreMembersAt (J.nodes self.now.journal.now) self.now.slot v (J.entries self.now.journal.now) 0 members.old → AreMembersAt (J.nodes self.now.journal.now) self.now.slot v (J.entries self.now.journal.now) 0 members.new) }
     {
         let mut place = 0;
         while place < members.len() {
@@ -84,6 +85,7 @@ impl<'a, J: Announcements> Turns<'a, J> {
         ensures settled { OnOk result ((w : ℕ) → slice_get (names_of members.old) place ≡ Some w → NamesAreMembers (J.nodes self.now.journal.now) self.now.slot (J.entries self.now.journal.now) (names_of members.new) (names_of members.old) w) }
         ensures ready { OnOk result (IsReady (J.nodes self.now.journal.now) self.now.slot (J.entries self.now.journal.now) (names_of members.new) ready.new) }
         ensures counted { OnOk result ((w : ℕ) → slice_get (names_of members.old) place ≡ Some w → length ready.new ≡ length (lists_after_turn ready.old place)) }
+        ensures turn { OnOk result ((w : ℕ) → slice_get (names_of members.old) place ≡ Some w → IsTurn (J.nodes self.now.journal.now) self.now.slot (J.entries self.now.journal.now) w place members.old members.new) }
     {
         if let Some(node) = members.name(place) {
             let turn = Turn { place, node };
@@ -108,13 +110,14 @@ impl<'a, J: Announcements> Turns<'a, J> {
         requires there { slice_get (names_of members.now) turn.now.place ≡ Some turn.now.node }
         requires ready { IsReady (J.nodes self.now.journal.now) self.now.slot (J.entries self.now.journal.now) (names_of members.now) ready.old }
         ensures given { IfOk result (λ v. IsGiven (J.nodes self.now.journal.now) self.now.slot (J.entries self.now.journal.now) (names_of members.now) turn.now.node v.items) }
+        ensures ascending { IfOk result (λ v. AreInOrder v.items) }
         ensures turned { OnOk result (ready.new ≡ lists_after_turn ready.old turn.now.place) }
     {
         let mut names = match ready.take(alloc, turn.place)? {
             None => self.all_names(alloc, members, &turn.node)?,
             Some(numbers) => self.names_at(alloc, members, &turn.node, &numbers)?,
         };
-        names.sort_unstable();
+        put_in_order(&mut names);
         Ok(names)
     }
 
@@ -244,4 +247,13 @@ impl<'a, J: Announcements> Turns<'a, J> {
         ready.put(place, number)?;
         Ok(())
     }
+}
+
+/// The same names, in order.
+#[tactic(auto, using(crate::proofs::Ordering::sorted_in_order, crate::proofs::Ordering::sorted_same))]
+fn put_in_order(names: &mut Vec<NodeId>)
+    ensures order { AreInOrder names.new.items }
+    ensures same { (u : ℕ) → among names.new.items u ≡ among names.old.items u }
+{
+    names.sort_unstable();
 }

@@ -1,7 +1,3 @@
-pub mod OperandLaws
-pub mod Taking
-pub mod Asking
-pub mod AskingWorkers
-mod Short
-pub mod WorkerForms
-pub mod Forms
+pub mod FormLaws
+pub mod CallLaws
+pub mod Short

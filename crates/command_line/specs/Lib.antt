@@ -1,7 +1,6 @@
 pub mod CommandLine
-pub mod ClapCommand
+pub mod Commands
 pub mod Options
-pub mod Workers
 pub mod Subjects
 pub mod Words
 pub mod Help

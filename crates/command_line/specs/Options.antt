@@ -1,105 +1,85 @@
--- Options of the commands that ask about a node, before or behind the operands.
-use Rattle.std.specs.Prelude.{◌≡◌, ◌⊎◌, ◌&&◌, ◌++◌, Bool, true, false, List, [], ◌∷◌, codes, Option, Some, None, option_map, if◌then◌else◌}
+-- The words behind a command: its operands, with options before or behind them.
+use Rattle.std.specs.Prelude.{◌≡◌, ◌⊎◌, ◌^◌, ◌==◌, ◌++◌, ◌&&◌, ℕ, true, false, not, List, [], ◌∷◌, codes, length, take, drop, nat_lt}
+use Rattle.std.specs.Prelude.{Option, Some, None, option_and_then, option_map, is_none, if◌then◌else◌}
 use Rattle.std.specs.List.{list_all}
 use Rattle.std.specs.Str.{bytes_eq}
-use Rattle.command_line.specs.Words.{Text, is_plain, operands_in}
+use Rattle.scripts.specs.Words.{word_number}
+use Rattle.command_line.specs.Words.{Text, AreOperands, is_plain}
 use Rattle.command_line.specs.Subjects.{format_in}
-use Rattle.command_line.specs.declared.subject.Format.{Format}
-use Rattle.command_line.specs.declared.subject.Format.TheVariants as format
+use Rattle.command_line.specs.declared.command.Command.{Command}
+use Rattle.command_line.specs.declared.command.Command.TheVariants as command
+use Rattle.command_line.specs.declared.options.Options.{Options}
 
--- ---- the forms
+-- nothing is asked for
+abbrev pub no_options : Options
+no_options = record { workers = None; format = None; explain = false }
 
--- the words are a command with options and operands: the options stand first, and a `--` may end them; or they follow
--- operands that are no options
-abbrev pub HasFormWith : List Text → Text → List Text → List Text → Type 0
-HasFormWith words command options operands =
-    ((words ≡ command ∷ options ++ operands) × (list_all is_plain operands ≡ true))
-    ⊎ (words ≡ command ∷ options ++ codes "--" ∷ operands)
-    ⊎ ((words ≡ command ∷ operands ++ options) × (list_all is_plain operands ≡ true))
+-- ---- one option
 
--- the name of a form
-abbrev pub name_of_format : Format → Text
-name_of_format format.Text = codes "text"
-name_of_format format.Dot = codes "dot"
-name_of_format format.Svg = codes "svg"
+-- what stands behind these bytes at the beginning of a word
+abbrev pub behind : Text → Text → Option Text
+behind front word = if bytes_eq (take (length front) word) front then Some (drop (length front) word) else None
 
--- the same, as a word with the option
-abbrev pub word_of_format : Format → Text
-word_of_format format.Text = codes "--format=text"
-word_of_format format.Dot = codes "--format=dot"
-word_of_format format.Svg = codes "--format=svg"
+-- the first word, and the words behind it
+abbrev pub next_in : List Text → Option (Text × List Text)
+next_in [] = None
+next_in (value ∷ rest) = Some (value, rest)
 
--- the options ask for a form; without one it is text
-abbrev pub AsksFormat : List Text → Format → Type 0
-AsksFormat options f =
-    ((options ≡ []) × (f ≡ format.Text))
-    ⊎ (options ≡ codes "--format" ∷ name_of_format f ∷ [])
-    ⊎ (options ≡ word_of_format f ∷ [])
+-- the value of an option, where this stands behind its name, and the words behind that: the next word, or in the same
+-- word what stands behind `=` (61)
+abbrev pub value_behind : Option Text → List Text → Option (Text × List Text)
+value_behind None rest = None
+value_behind (Some []) rest = next_in rest
+value_behind (Some (x ∷ value)) rest = if x == 61 then Some (value, rest) else None
 
--- the options ask for an explanation, or do not
-abbrev pub AsksExplanation : List Text → Bool → Type 0
-AsksExplanation options true = options ≡ codes "--explain" ∷ []
-AsksExplanation options false = options ≡ []
+-- the value that the first words give to the option of this name, and the words behind it
+abbrev pub value_in : Text → List Text → Option (Text × List Text)
+value_in name [] = None
+value_in name (word ∷ rest) = value_behind (behind name word) rest
 
--- ---- as they are found
+-- the number of workers, where it is from 1 to 64
+abbrev pub worker_count : ℕ → Option ℕ
+worker_count n = if nat_lt 0 n && nat_lt n 65 then Some n else None
 
--- the form that the first word names, and the words behind it
-abbrev pub form_named : List Text → Option (Format × List Text)
-form_named [] = None
-form_named (name ∷ rest) = option_map (λ f. (f, rest)) (format_in name)
+-- how many workers a word asks for, as a number in scripts
+abbrev pub workers_in : Text → Option ℕ
+workers_in word = option_and_then worker_count (word_number (2 ^ 64) word)
 
--- the form that an option asks for in one word
-abbrev pub attached_form : Text → Option Format
-attached_form option = if bytes_eq option (codes "--format=text") then Some format.Text
-    else (if bytes_eq option (codes "--format=dot") then Some format.Dot
-    else (if bytes_eq option (codes "--format=svg") then Some format.Svg else None))
+-- what was asked for with a number of workers beside it, if there was none, and the words behind it
+abbrev pub with_workers : Options → Text × List Text → Option (Options × List Text)
+with_workers asked given = if is_none asked.workers
+    then option_map (λ n. (record asked { workers = Some n }, given.1)) (workers_in given.0) else None
 
--- the form that the first words ask for, and the words behind them
-abbrev pub form_before : List Text → Option (Format × List Text)
-form_before [] = None
-form_before (option ∷ rest) =
-    if bytes_eq option (codes "--format") then form_named rest else option_map (λ f. (f, rest)) (attached_form option)
+-- the same with a form of report
+abbrev pub with_format : Options → Text × List Text → Option (Options × List Text)
+with_format asked given = if is_none asked.format
+    then option_map (λ f. (record asked { format = Some f }, given.1)) (format_in given.0) else None
 
--- text, and the operands
-abbrev pub form_or_text : List Text → Option (Format × List Text)
-form_or_text rest = option_map (λ operands. (format.Text, operands)) (operands_in rest)
+-- the same with an explanation
+abbrev pub with_explanation : Options → List Text → Option (Options × List Text)
+with_explanation asked [] = None
+with_explanation asked (word ∷ rest) = if bytes_eq word (codes "--explain") && not asked.explain
+    then Some (record asked { explain = true }, rest) else None
 
--- the form that stands behind these operands, if it does and they are no options; else text
-abbrev pub form_chosen : Option (Format × List Text) → List Text → List Text → Option (Format × List Text)
-form_chosen (Some (f, [])) operands rest = if list_all is_plain operands then Some (f, operands) else form_or_text rest
-form_chosen (Some (f, word ∷ more)) operands rest = form_or_text rest
-form_chosen None operands rest = form_or_text rest
+-- what was asked for with the option of a command beside it that the first words are, each once, and the words behind it
+abbrev pub option_in : Command → Options → List Text → Option (Options × List Text)
+option_in command.Table asked words = None
+option_in command.Run asked words = option_and_then (with_workers asked) (value_in (codes "--workers") words)
+option_in command.Closure asked words = option_and_then (with_format asked) (value_in (codes "--format") words)
+option_in command.Compare asked words = with_explanation asked words
+option_in command.Crowd asked words = None
 
-abbrev pub form_behind : List Text → Option (Format × List Text)
-form_behind (script ∷ net ∷ slot ∷ node ∷ options) =
-    form_chosen (form_before options) (script ∷ net ∷ slot ∷ node ∷ []) (script ∷ net ∷ slot ∷ node ∷ options)
-form_behind [] = form_or_text []
-form_behind (one ∷ []) = form_or_text (one ∷ [])
-form_behind (one ∷ two ∷ []) = form_or_text (one ∷ two ∷ [])
-form_behind (one ∷ two ∷ three ∷ []) = form_or_text (one ∷ two ∷ three ∷ [])
+-- ---- all of them
 
-abbrev pub form_with : Option (Format × List Text) → List Text → Option (Format × List Text)
-form_with (Some found) rest = option_map (λ operands. (found.0, operands)) (operands_in found.1)
-form_with None rest = form_behind rest
+-- behind what was asked for, words are options of the command, one after the other, down to these last words
+pub data AreOptions (c : Command) : Options → List Text → Options → List Text → Type 0 where
+  none : {asked : Options} {words : List Text} → AreOptions c asked words asked words
+  more : {asked next all : Options} {words rest last : List Text} → option_in c asked words ≡ Some (next, rest)
+      → AreOptions c next rest all last → AreOptions c asked words all last
 
--- the form and the operands in the words behind `closure`
-abbrev pub form_in : List Text → Option (Format × List Text)
-form_in rest = form_with (form_before rest) rest
-
--- no explanation, and the operands
-abbrev pub operands_without_explanation : List Text → Option (Bool × List Text)
-operands_without_explanation rest = option_map (λ operands. (false, operands)) (operands_in rest)
-
-abbrev pub explain_behind : List Text → Option (Bool × List Text)
-explain_behind (one ∷ other ∷ net ∷ slot ∷ node ∷ option ∷ []) =
-    if bytes_eq option (codes "--explain") && list_all is_plain (one ∷ other ∷ net ∷ slot ∷ node ∷ [])
-    then Some (true, one ∷ other ∷ net ∷ slot ∷ node ∷ [])
-    else operands_without_explanation (one ∷ other ∷ net ∷ slot ∷ node ∷ option ∷ [])
-explain_behind rest = operands_without_explanation rest
-
--- whether an explanation is asked for, and the operands in the words behind `compare`
-abbrev pub explain_in : List Text → Option (Bool × List Text)
-explain_in [] = operands_without_explanation []
-explain_in (option ∷ rest) = if bytes_eq option (codes "--explain")
-    then option_map (λ operands. (true, operands)) (operands_in rest)
-    else explain_behind (option ∷ rest)
+-- the words behind a command are options and then operands, or operands that are no options and then options
+abbrev pub HasForm : Command → List Text → Options → List Text → Type 0
+HasForm c words asked operands =
+    ((rest : List Text) × AreOptions c no_options words asked rest × AreOperands rest operands)
+    ⊎ ((rest : List Text) × (words ≡ operands ++ rest) × (list_all is_plain operands ≡ true)
+    × AreOptions c no_options rest asked [])

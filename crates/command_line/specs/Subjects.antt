@@ -1,5 +1,5 @@
--- Which node a command asks about.
-use Rattle.std.specs.Prelude.{◌≡◌, ◌^◌, codes, Option, Some, None, option_and_then, option_map, if◌then◌else◌}
+-- Which node a command asks about, and in which form.
+use Rattle.std.specs.Prelude.{◌^◌, codes, Option, Some, None, option_and_then, option_map, if◌then◌else◌}
 use Rattle.std.specs.Str.{bytes_eq}
 use Rattle.scripts.specs.Names.{word_name}
 use Rattle.scripts.specs.Words.{word_number}
@@ -8,13 +8,7 @@ use Rattle.types.specs.declared.subject.Subject.{Subject}
 use Rattle.command_line.specs.declared.subject.Format.{Format}
 use Rattle.command_line.specs.declared.subject.Format.TheVariants as format
 
--- the words are the number of a network, a slot and the name of a node, as in scripts
-abbrev pub IsSubject : Text → Text → Text → Subject → Type 0
-IsSubject net slot node subject =
-    (word_number (2 ^ 32) net ≡ Some subject.net) × (word_number (2 ^ 64) slot ≡ Some subject.slot)
-    × (word_name node ≡ Some subject.node)
-
--- the subject that three words name
+-- the subject that three words name: the number of a network, a slot and the name of a node, as in scripts
 abbrev pub subject_in : Text → Text → Text → Option Subject
 subject_in net slot node =
     option_and_then (λ g. option_and_then (λ i. option_map (λ v. record { net = g; slot = i; node = v }) (word_name node))
@@ -25,3 +19,8 @@ abbrev pub format_in : Text → Option Format
 format_in word = if bytes_eq word (codes "text") then Some format.Text
     else (if bytes_eq word (codes "dot") then Some format.Dot
     else (if bytes_eq word (codes "svg") then Some format.Svg else None))
+
+-- the form that is asked for; without one it is text
+abbrev pub format_or_text : Option Format → Format
+format_or_text (Some f) = f
+format_or_text None = format.Text

@@ -1,23 +1,19 @@
 //! The command line: which words are a call, and what is answered to all others.
 
-ghost use Rattle.std.specs.Prelude.{◌≡◌, ◌⊎◌, List, [], ◌∷◌, true, map, IfOk, IfErr, OnOk, Ok, Err, IsErrAnd, IsOkUnless};
-ghost use Rattle.clap.specs.Words.{kind_of};
-ghost use Rattle.clap.specs.declared.error.kind.ErrorKind.TheVariants.{OutOfMemory};
-ghost use Rattle.command_line.specs.ClapCommand.{clap_faults, clap_takes};
-ghost use Rattle.command_line.specs.CommandLine.{IsCall, call_in, closure_of, closure_with, compare_of, compare_with, crowd_of, crowd_with, run_of, run_with, table_with};
-ghost use Rattle.command_line.specs.Help.{AreHelp, HaveHelp, HelpsIfItCan, IsHelp, ask_for_help};
+ghost use Rattle.std.specs.Prelude.{◌≡◌, ◌⊎◌, List, Some, map, IfOk, IfErr, Ok, Err};
+ghost use Rattle.command_line.specs.CommandLine.{IsCall, call_of};
+ghost use Rattle.command_line.specs.Help.{IsUsage};
 ghost use Rattle.command_line.specs.declared.call.Call.{Call};
 ghost use Rattle.command_line.specs.declared.call.Usage.TheVariants.{NoMemory};
 
-use crate::clap_command::command_line;
-use crate::help::ask_for_help;
-use crate::operands::{explain_and_operands, form_and_operands, operands_of};
-use crate::pool_option::pool_and_operands;
+use crate::command::Command;
+use crate::fault::{Fault, fault_of_command, fault_of_operands, fault_of_words, text_of_fault};
+use crate::help::page_of;
+use crate::options::{Options, options_and_operands};
+use crate::pages::text_of;
 use crate::pool_size::PoolSize;
 use crate::subject::{Format, subject_of};
 use crate::word::Word;
-use clap::Error;
-use clap::error::ErrorKind;
 use std::alloc::{AllocError, Global};
 use std::convert::AsStr;
 use types::Subject;
@@ -90,90 +86,101 @@ impl From<AllocError> for Usage {
 
 /// Reads the words after the program's name.
 ///
-/// A call is answered only where clap and this reading agree; the texts of help and of faults are
-/// clap's, and `bad usage` where only this reading refuses. Help is answered only where clap helps and some word
-/// asks for it, never to a call; all else is a fault.
-#[tactic(auto, using(crate::proofs::Forms::call_in_sound, crate::proofs::Forms::call_in_complete, crate::proofs::Forms::takes_call))]
+/// Words of the form of a call are that call. All others are answered with help, where they ask for it, and else
+/// with what is wrong with them; the texts are written from the same forms.
 pub fn read_call<S: AsStr>(alloc: Global, words: &[S]) -> Result<Call, Usage>
     ensures sound { IfOk result (IsCall (map S.text words.now)) }
-    ensures agreed { OnOk result (clap_faults (map S.text words.now) ≡ []) }
     ensures complete { (call : Call) → IsCall (map S.text words.now) call
         → (result ≡ Ok call) ⊎ (result ≡ Err Usage.NoMemory) }
-    ensures helped { IfErr result (λ usage. IsHelp usage → HaveHelp (clap_faults (map S.text words.now))) }
-    ensures asked { IfErr result (λ usage. IsHelp usage → ask_for_help (map S.text words.now) ≡ true) }
-    ensures helps { AreHelp (clap_faults (map S.text words.now)) → ask_for_help (map S.text words.now) ≡ true
-        → IsErrAnd result HelpsIfItCan }
+    ensures usage { IfErr result (IsUsage (map S.text words.now)) }
 {
-    ask_clap(alloc, words)?;
-    match call_of(alloc, words)? {
-        Some(call) => Ok(call),
-        None => Err(Usage::Bad(String::from_str(alloc, "bad usage\n")?)),
+    match call_of(alloc, words) {
+        Ok(call) => Ok(call),
+        Err(Fault::NoMemory) => Err(Usage::NoMemory),
+        Err(fault) => Err(usage_of(alloc, words, &fault)),
     }
 }
 
-/// Gives the words to clap, of which only its refusal counts; it helps where some word asks for it.
-fn ask_clap<S: AsStr>(alloc: Global, words: &[S]) -> Result<(), Usage>
-    ensures agrees { OnOk result (clap_faults (map S.text words.now) ≡ []) }
-    ensures taken { clap_takes (map S.text words.now) ≡ true → IsOkUnless result NoMemory }
-    ensures helped { IfErr result (λ usage. IsHelp usage → HaveHelp (clap_faults (map S.text words.now))) }
-    ensures asked { IfErr result (λ usage. IsHelp usage → ask_for_help (map S.text words.now) ≡ true) }
-    ensures helps { AreHelp (clap_faults (map S.text words.now)) → ask_for_help (map S.text words.now) ≡ true
-        → IsErrAnd result HelpsIfItCan }
+/// What words are answered that are no call: help, where they ask for it, and else this fault.
+fn usage_of<S: AsStr>(alloc: Global, words: &[S], fault: &Fault<'_>) -> Usage
+    ensures { IsUsage (map S.text words.now) result }
 {
-    let command = command_line(alloc)?;
-    match command.try_get_matches_from(words) {
-        Ok(_) => Ok(()),
-        Err(error) => Err(usage_of(alloc, &error, ask_for_help(words))),
+    match page_of(words) {
+        Some(page) => match text_of(alloc, page) {
+            Ok(text) => Usage::Help(text),
+            Err(_) => Usage::NoMemory,
+        },
+        None => match text_of_fault(alloc, fault) {
+            Ok(text) => Usage::Bad(text),
+            Err(_) => Usage::NoMemory,
+        },
     }
 }
 
-/// What clap's refusal is to the user, where some word asks for help or none does.
-fn usage_of(alloc: Global, error: &Error, is_asked: bool) -> Usage
-    ensures memory { kind_of error.now ≡ OutOfMemory → result ≡ NoMemory }
-    ensures helped { IsHelp result → HaveHelp (kind_of error.now ∷ []) }
-    ensures asked { IsHelp result → is_asked ≡ true }
-    ensures helps { HaveHelp (kind_of error.now ∷ []) → is_asked ≡ true → HelpsIfItCan result }
+/// The call that the words are, or why they are none.
+fn call_of<S: AsStr>(alloc: Global, words: &[S]) -> Result<Call, Fault<'_>>
+    ensures sound { IfOk result (IsCall (map S.text words.now)) }
+    ensures complete { (call : Call) → IsCall (map S.text words.now) call
+        → (result ≡ Ok call) ⊎ (result ≡ Err Fault.NoMemory) }
 {
-    if error.kind() == ErrorKind::OutOfMemory {
-        // Memory: clap says so.
-        return Usage::NoMemory;
-    }
-    match format!(in alloc; "{error}") {
-        Ok(text) if is_asked && !error.use_stderr() => Usage::Help(text),
-        Ok(text) => Usage::Bad(text),
-        Err(_) => Usage::NoMemory,
-    }
-}
-
-/// The call that the words are, if they have the form of one.
-fn call_of<S: AsStr>(alloc: Global, words: &[S]) -> Result<Option<Call>, AllocError>
-    ensures { IfOk result (λ call. call ≡ call_in (map S.text words.now)) }
-{
-    let [command, rest @ ..] = words else {
-        return Ok(None);
+    let [name, rest @ ..] = words else {
+        return Err(Fault::NoCommand);
     };
-    let command = command.as_str();
-    if command == "table" {
-        table_call(alloc, rest)
-    } else if command == "run" {
-        run_call(alloc, rest)
-    } else if command == "closure" {
-        closure_call(alloc, rest)
-    } else if command == "compare" {
-        compare_call(alloc, rest)
-    } else if command == "crowd" {
-        crowd_call(alloc, rest)
-    } else {
-        Ok(None)
+    let Some(command) = Command::named(name.as_str()) else {
+        return Err(fault_of_command(words));
+    };
+    match options_and_operands(command, rest) {
+        Ok((asked, operands)) => call_with(alloc, command, &asked, operands),
+        Err(left) => Err(fault_of_words(command, left)),
     }
 }
 
-/// The call of `table` with these words behind it, if they are one file.
-fn table_call<S: AsStr>(alloc: Global, rest: &[S]) -> Result<Option<Call>, AllocError>
-    ensures { IfOk result (λ call. call ≡ table_with (map S.text rest.now)) }
+/// The call of a command with these options and operands, or why there is none.
+fn call_with<'a, S: AsStr>(
+    alloc: Global,
+    command: Command,
+    asked: &Options,
+    operands: &'a [S],
+) -> Result<Call, Fault<'a>>
+    ensures sound { IfOk result (λ call. call_of command asked.now (map S.text operands.entry.now) ≡ Some call) }
+    ensures complete { (call : Call) → call_of command asked.now (map S.text operands.entry.now) ≡ Some call
+        → (result ≡ Ok call) ⊎ (result ≡ Err Fault.NoMemory) }
 {
-    match operands_of(rest) {
-        Some([file]) => {
+    match made_call(alloc, command, asked, operands) {
+        Ok(Some(call)) => Ok(call),
+        Ok(None) => Err(fault_of_operands(command, asked, operands)),
+        Err(_) => Err(Fault::NoMemory),
+    }
+}
+
+/// The call of a command with these options and operands, if it takes them.
+fn made_call<S: AsStr>(
+    alloc: Global,
+    command: Command,
+    asked: &Options,
+    operands: &[S],
+) -> Result<Option<Call>, AllocError>
+    ensures { IfOk result (λ call. call ≡ call_of command asked.now (map S.text operands.now)) }
+{
+    match command {
+        Command::Table => table_call(alloc, asked, operands),
+        Command::Run => run_call(alloc, asked, operands),
+        Command::Closure => closure_call(alloc, asked, operands),
+        Command::Compare => compare_call(alloc, asked, operands),
+        Command::Crowd => crowd_call(alloc, asked, operands),
+    }
+}
+
+/// The call of `table` with these operands, if they are one file.
+fn table_call<S: AsStr>(
+    alloc: Global,
+    asked: &Options,
+    operands: &[S],
+) -> Result<Option<Call>, AllocError>
+    ensures { IfOk result (λ call. call ≡ call_of Command.Table asked.now (map S.text operands.now)) }
+{
+    match operands {
+        [file] => {
             let file = Word::new(alloc, file.as_str())?;
             Ok(Some(Call::Table { file }))
         }
@@ -181,57 +188,37 @@ fn table_call<S: AsStr>(alloc: Global, rest: &[S]) -> Result<Option<Call>, Alloc
     }
 }
 
-/// The call of `run` with these words behind it, if they are one script, and how many workers there are
-/// before or behind it.
-fn run_call<S: AsStr>(alloc: Global, rest: &[S]) -> Result<Option<Call>, AllocError>
-    ensures { IfOk result (λ call. call ≡ run_with (map S.text rest.now)) }
-{
-    match pool_and_operands(rest) {
-        Some((workers, operands)) => run_of(alloc, workers, operands),
-        None => Ok(None),
-    }
-}
-
-/// The call of `run` with so many workers and these operands, if they are one script.
-fn run_of<S: AsStr>(
+/// The call of `run` with these operands, if they are one script.
+fn run_call<S: AsStr>(
     alloc: Global,
-    workers: Option<PoolSize>,
+    asked: &Options,
     operands: &[S],
 ) -> Result<Option<Call>, AllocError>
-    ensures { IfOk result (λ call. call ≡ run_of workers (map S.text operands.now)) }
+    ensures { IfOk result (λ call. call ≡ call_of Command.Run asked.now (map S.text operands.now)) }
 {
     match operands {
         [script] => {
             let script = Word::new(alloc, script.as_str())?;
+            let workers = asked.workers;
             Ok(Some(Call::Run { script, workers }))
         }
         _ => Ok(None),
     }
 }
 
-/// The call of `closure` with these words behind it, if they are a script and a subject, and the form before
-/// or behind them.
-fn closure_call<S: AsStr>(alloc: Global, rest: &[S]) -> Result<Option<Call>, AllocError>
-    ensures { IfOk result (λ call. call ≡ closure_with (map S.text rest.now)) }
-{
-    match form_and_operands(rest) {
-        Some((format, operands)) => closure_of(alloc, format, operands),
-        None => Ok(None),
-    }
-}
-
-/// The call of `closure` with this form and these operands, if they are a script and a subject.
-fn closure_of<S: AsStr>(
+/// The call of `closure` with these operands, if they are a script and a subject.
+fn closure_call<S: AsStr>(
     alloc: Global,
-    format: Format,
+    asked: &Options,
     operands: &[S],
 ) -> Result<Option<Call>, AllocError>
-    ensures { IfOk result (λ call. call ≡ closure_of format (map S.text operands.now)) }
+    ensures { IfOk result (λ call. call ≡ call_of Command.Closure asked.now (map S.text operands.now)) }
 {
     match operands {
         [script, net, slot, node] => match subject_of(net, slot, node) {
             Some(subject) => {
                 let script = Word::new(alloc, script.as_str())?;
+                let format = asked.format_or_text();
                 Ok(Some(Call::Closure {
                     script,
                     subject,
@@ -245,30 +232,20 @@ fn closure_of<S: AsStr>(
     }
 }
 
-/// The call of `compare` with these words behind it, if they are two scripts and a subject, and the option
-/// before or behind them.
-fn compare_call<S: AsStr>(alloc: Global, rest: &[S]) -> Result<Option<Call>, AllocError>
-    ensures { IfOk result (λ call. call ≡ compare_with (map S.text rest.now)) }
-{
-    match explain_and_operands(rest) {
-        Some((explain, operands)) => compare_of(alloc, explain, operands),
-        None => Ok(None),
-    }
-}
-
 /// The call of `compare` with these operands, if they are two scripts and a subject.
-fn compare_of<S: AsStr>(
+fn compare_call<S: AsStr>(
     alloc: Global,
-    explain: bool,
+    asked: &Options,
     operands: &[S],
 ) -> Result<Option<Call>, AllocError>
-    ensures { IfOk result (λ call. call ≡ compare_of explain (map S.text operands.now)) }
+    ensures { IfOk result (λ call. call ≡ call_of Command.Compare asked.now (map S.text operands.now)) }
 {
     match operands {
         [first, second, net, slot, node] => match subject_of(net, slot, node) {
             Some(subject) => {
                 let first = Word::new(alloc, first.as_str())?;
                 let second = Word::new(alloc, second.as_str())?;
+                let explain = asked.explain;
                 Ok(Some(Call::Compare {
                     first,
                     second,
@@ -283,19 +260,13 @@ fn compare_of<S: AsStr>(
     }
 }
 
-/// The call of `crowd` with these words behind it, if they are two scripts and a subject.
-fn crowd_call<S: AsStr>(alloc: Global, rest: &[S]) -> Result<Option<Call>, AllocError>
-    ensures { IfOk result (λ call. call ≡ crowd_with (map S.text rest.now)) }
-{
-    match operands_of(rest) {
-        Some(operands) => crowd_of(alloc, operands),
-        None => Ok(None),
-    }
-}
-
 /// The call of `crowd` with these operands, if they are two scripts and a subject.
-fn crowd_of<S: AsStr>(alloc: Global, operands: &[S]) -> Result<Option<Call>, AllocError>
-    ensures { IfOk result (λ call. call ≡ crowd_of (map S.text operands.now)) }
+fn crowd_call<S: AsStr>(
+    alloc: Global,
+    asked: &Options,
+    operands: &[S],
+) -> Result<Option<Call>, AllocError>
+    ensures { IfOk result (λ call. call ≡ call_of Command.Crowd asked.now (map S.text operands.now)) }
 {
     match operands {
         [first, second, net, slot, node] => match subject_of(net, slot, node) {

@@ -1,29 +1,101 @@
 //! Words that ask for help.
 
-ghost use Rattle.std.specs.Prelude.{◌≡◌, map};
-ghost use Rattle.command_line.specs.Help.{ask_for_help, asks_by_letter, asks_for_help};
+ghost use Rattle.std.specs.Prelude.{◌≡◌, map, option_map};
+ghost use Rattle.command_line.specs.Commands.{command_in};
+ghost use Rattle.command_line.specs.Help.{ask_help, asks_help, asks_version, has_letter, page_in, page_named};
 
+use crate::command::Command;
 use std::convert::AsStr;
 
-/// Some word asks for help or for the version: `help`, `--help`, `--version`, or `-h` or `-V` with any further
-/// letters.
-pub fn ask_for_help<S: AsStr>(words: &[S]) -> bool
-    ensures { result ≡ ask_for_help (map S.text words.now) }
-{
-    words.iter().any(|word| asks_for_help(word))
+/// A page of help.
+#[derive(Clone, Copy)]
+pub enum Page {
+    /// What the program is, and its commands.
+    Whole,
+    /// Its version.
+    Version,
+    /// What `help` does.
+    Help,
+    /// What a command does.
+    Of(Command),
 }
 
-/// The word asks for help or for the version.
-fn asks_for_help<S: AsStr>(word: &S) -> bool
-    ensures { result ≡ asks_for_help (S.text word.now) }
+/// The page of help that the words ask for, if they ask for one.
+pub fn page_of<S: AsStr>(words: &[S]) -> Option<Page>
+    ensures { result ≡ page_in (map S.text words.now) }
 {
-    let word = word.as_str();
-    word == "help" || word == "--help" || word == "--version" || asks_by_letter(word)
+    let [name, rest @ ..] = words else {
+        return None;
+    };
+    let name = name.as_str();
+    if asks_help(name) {
+        Some(Page::Whole)
+    } else if asks_version(name) {
+        Some(Page::Version)
+    } else if name == "help" {
+        page_named(rest)
+    } else if ask_help(rest) {
+        page_of_command(name)
+    } else {
+        None
+    }
 }
 
-/// The word is `-h` or `-V`, with any further letters.
-fn asks_by_letter(word: &str) -> bool
-    ensures { result ≡ asks_by_letter word.now }
+/// The page that the words behind `help` ask for.
+fn page_named<S: AsStr>(words: &[S]) -> Option<Page>
+    ensures { result ≡ page_named (map S.text words.now) }
 {
-    matches!(word.as_bytes(), [b'-', b'h' | b'V', ..])
+    match words {
+        [] => Some(Page::Whole),
+        [name] if name.as_str() == "help" => Some(Page::Help),
+        [name] => page_of_command(name.as_str()),
+        [_, _, ..] => None,
+    }
+}
+
+/// The page of the command of this name, if there is one.
+fn page_of_command(name: &str) -> Option<Page>
+    ensures { result ≡ option_map Page.Of (command_in name.now) }
+{
+    match Command::named(name) {
+        Some(command) => Some(Page::Of(command)),
+        None => None,
+    }
+}
+
+/// Some word in front of the first `--` asks for help.
+fn ask_help<S: AsStr>(words: &[S]) -> bool
+    ensures { result ≡ ask_help (map S.text words.now) }
+{
+    match words {
+        [] => false,
+        [word, rest @ ..] => {
+            let word = word.as_str();
+            word != "--" && (asks_help(word) || ask_help(rest))
+        }
+    }
+}
+
+/// The word asks for help: `--help`, or `-h` with any further letters.
+fn asks_help(word: &str) -> bool
+    ensures { result ≡ asks_help word.now }
+{
+    word == "--help" || has_letter(word, b'h')
+}
+
+/// The word asks for the version: `--version`, or `-V` with any further letters.
+fn asks_version(word: &str) -> bool
+    ensures { result ≡ asks_version word.now }
+{
+    word == "--version" || has_letter(word, b'V')
+}
+
+/// The word is a hyphen with this letter behind it, and with any further letters.
+fn has_letter(word: &str, letter: u8) -> bool
+    ensures { result ≡ has_letter letter word.now }
+{
+    match word.as_bytes() {
+        [b'-', first, ..] => *first == letter,
+        _ => false,
+    }
 }

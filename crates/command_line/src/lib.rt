@@ -1,13 +1,17 @@
 //! The command line of the host: which words are which call, and what is answered to words that are none.
 //!
-//! `clap` knows the words; what is a call is said by its forms alone, and both agree.
+//! A command stands with its name in `command`, with its options in `options`, with its operands in `call`, and with all
+//! that is told of it in `form`. The words are read once, by these.
 #![tactic(auto)]
 
 mod call;
-mod clap_command;
+mod command;
+mod fault;
+mod form;
 mod help;
 mod operands;
-mod pool_option;
+mod options;
+mod pages;
 mod pool_size;
 mod subject;
 mod word;

@@ -27,7 +27,7 @@ impl Model for PoolSize {
 
 impl PoolSize {
     ghost use Rattle.std.specs.Prelude.{◌≡◌, ◌<◌, ◌≤◌};
-    ghost use Rattle.command_line.specs.Workers.{worker_count};
+    ghost use Rattle.command_line.specs.Options.{worker_count};
 
     /// So many workers; `None` for 0 and above 64.
     pub fn new(workers: u64) -> Option<PoolSize>

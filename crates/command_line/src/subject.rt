@@ -50,13 +50,13 @@ fn slot_of(word: &str) -> Option<u64>
 }
 
 /// The form that a word names.
-pub fn format_of(word: &str) -> Option<Format>
+pub fn format_of(word: &[u8]) -> Option<Format>
     ensures { result ≡ format_in word.now }
 {
     match word {
-        "text" => Some(Format::Text),
-        "dot" => Some(Format::Dot),
-        "svg" => Some(Format::Svg),
+        b"text" => Some(Format::Text),
+        b"dot" => Some(Format::Dot),
+        b"svg" => Some(Format::Svg),
         _ => None,
     }
 }

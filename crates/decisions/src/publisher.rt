@@ -1,6 +1,6 @@
 //! The one writer of decisions.
 
-ghost use Rattle.std.specs.Prelude.{◌≡◌, ◌++◌, ◌∷◌, [], ◌<◌, ◌^◌, IfOk, OnErr, OnOk, IsTrue, length};
+ghost use Rattle.std.specs.Prelude.{◌≡◌, ◌≢◌, ◌⊎◌, ◌↔◌, ◌++◌, ◌∷◌, [], ◌<◌, ◌^◌, IfOk, OnErr, OnOk, IsTrue, false, length};
 ghost use mathlib.Core.List.{IsPrefix};
 
 use crate::board::{Board, BoardWriter, Sees};
@@ -47,7 +47,7 @@ impl<R: Wait + Drop> Drop for Publisher<R> {
 }
 
 impl<R: Wait + Drop> Publisher<R> {
-    /// With nothing published, and room for so many watches at a time. An error says that memory is short.
+    /// With nothing published. Room is asked for so many watches at a time. An error says that memory is short.
     pub fn new(alloc: Global, rt: R, watches: usize) -> Result<Publisher<R>, AllocError>
         requires { (0 < watches) × (watches < 2 ^ 32) }
         ensures { IfOk result (λ p. (p.0 ≡ []) × (p.1 ≡ [])) }
@@ -139,23 +139,20 @@ impl<R: Wait + Drop> Publisher<R> {
         writer.take(&rt)
     }
 
-    /// Has a watch of this publisher see all that is published, which begins with all that it saw before. For a
-    /// watch of another publisher it may wait for ever.
-    pub fn tell<W: Wait>(&self, rt: &W, watch: &mut Watch)
-        ensures told { watch.new ≡ self.now.0 }
+    /// Has a watch read once, and answers whether it saw all that is published. One of this publisher does, since
+    /// nothing is published meanwhile. False says that it read another list, or none: then it is not a watch of this
+    /// publisher. It waits for nobody.
+    pub fn tell(&self, watch: &mut Watch) -> bool
+        ensures told { IsTrue result → watch.new ≡ self.now.0 }
+        ensures foreign { result ≡ false → (watch.new ≢ self.now.0) ⊎ (watch.new ≡ watch.old) }
         ensures grows { IsPrefix watch.old watch.new }
     {
         let shown = self.published_list();
-        for _ in rt.forever() {
-            let is_told = watch.read(
-                |decisions: &[Decision]| -> bool
-                    ensures { IsTrue result → decisions.now ≡ shown.entry.now }
-                { are_same(decisions, shown) },
-            );
-            if let Some(true) = is_told {
-                return;
-            }
-        }
-        unreachable!()
+        let is_told = watch.read(
+            |decisions: &[Decision]| -> bool
+                ensures { IsTrue result ↔ decisions.now ≡ shown.entry.now }
+            { are_same(decisions, shown) },
+        );
+        is_told == Some(true)
     }
 }

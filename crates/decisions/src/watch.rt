@@ -48,8 +48,13 @@ impl Watch {
     }
 
     /// Lends `f` the list that is published at one step of the call, which begins with each list that this
-    /// watch was lent before, and answers what `f` answers. It waits for nobody; a publication waits for `f`.
-    /// None once the publisher is gone: then `f` is not called, and the watch is as it was.
+    /// watch was lent before, and answers what `f` answers. None once the publisher is gone: then the watch is as it
+    /// was.
+    ///
+    /// It waits for nobody, but a publication waits for `f`. So `f` must not publish, take or drop the publisher: in
+    /// a cell, it must not call `apply`, `tell` or `close_watched` of its own cell, which would wait for themselves for
+    /// ever. Under a cell a publication has the network's lock: as long as `f` runs, it may hold up whoever uses that
+    /// network.
     pub fn read<T, F: FnOnce(&[Decision]) -> T>(&mut self, f: F) -> Option<T>
         requires { F.IsAlwaysCallable f }
         ensures grows { IsPrefix self.old self.new }

@@ -31,7 +31,8 @@ with_entry l e os = record l { entries = l.entries ++ record { event = e; outs =
 abbrev pub IsEntered : Log → Step → List Out → Type 0
 IsEntered l e os = (refusal_of l.config l.entries e ≡ None) × (os ≡ outs_given l.config l.entries e)
 
--- memory may be wanting for an event after these entries: nothing else refuses it, or bytes are being read
+-- memory may be wanting for an event after these entries: nothing else refuses it, or bytes are being read that may take
+-- memory
 abbrev pub MayWantMemory : Config → List Entry → Step → Type 0
 MayWantMemory config entries e = (refusal_of config entries e ≡ None) ⊎ AreBytesRead config.nodes e
 
@@ -44,12 +45,11 @@ IsRefused l e r =
 abbrev pub marks_of : Config → List Entry → Step → List ℕ
 marks_of config before e = marks_in (state_of config before) e
 
--- the entry that an event makes, as it is handed out: its number, the event itself, its outs twice, and its marks
+-- the entry that an event makes, as it is handed out: its number, the event itself, and its marks
 pub record IsRecorded (old : Log) (event : Event) (r : Recorded) : Type 0 where
   pub number : r.number ≡ length old.entries
   pub event_is : r.event ≡ event
   pub marks : r.marks.items ≡ marks_of old.config old.entries (step_of event)
-  pub answer : r.answer.items ≡ r.outs.items
 
 -- an event as it comes, and outs, that are those of an entry
 abbrev pub IsEntryAt : Option Entry → Option (Event × Vec Out Global) → Type 0

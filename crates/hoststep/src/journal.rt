@@ -10,7 +10,7 @@ ghost use Rattle.hoststep.specs.Entering.{IsEnteredWith, outs_after};
 ghost use Rattle.hoststep.specs.Lending.{lent_step, outs_at};
 ghost use Rattle.hoststep.specs.Deciding.{decided_by, decisions_at};
 
-use crate::entered::{Entered, both_copies, only_copy};
+use crate::entered::{Entered, only_copy};
 use crate::event_room::EventRoom;
 use crate::kept::{StoredEntry, entry_at, kept_event, push_whole_outs, whole_event};
 use crate::lent_decision::{LentDecision, lent_decision};
@@ -121,15 +121,16 @@ impl<S: Shelf> Journal<S> {
 
     /// One event, entered in the journal where it is not refused; what it gives out is answered whole.
     ///
-    /// An error is the first refusal that applies, or says that memory is short, which it does only where none
-    /// applies, or while the bytes of an envelope are read; the journal is as it was.
+    /// An error is the first refusal that applies. Or it says that memory is short: then no refusal applies, or
+    /// bytes came to a hosted node that may take memory to be read, which are at most 65,536, with a version and
+    /// a kind that there are. The journal is as it was.
     pub fn apply(&mut self, event: Event) -> Result<Vec<Out>, Refusal>
         ensures ok { IfOk result (λ v. IsEntered self.old (step_of event) v.items) }
         ensures entered { IfOk result (λ v. self.new ≡ with_entry self.old (step_of event) v.items) }
         ensures err { IfErr result (IsRefused self.old (step_of event)) }
         ensures same { OnErr result (self.new ≡ self.old) }
     {
-        let entered = self.enter(event, 1)?;
+        let entered = self.enter(event)?;
         Ok(only_copy(entered.copies))
     }
 
@@ -149,28 +150,27 @@ impl<S: Shelf> Journal<S> {
             drop(event);
             return Err(refusal);
         };
-        match self.enter(copy, 2) {
+        match self.enter(copy) {
             Err(refusal) => {
                 drop(event);
                 Err(refusal)
             }
             Ok(entered) => {
-                let (outs, answer) = both_copies(entered.copies);
+                let outs = only_copy(entered.copies);
                 Ok(Recorded {
                     number,
                     event,
                     outs,
                     marks: entered.marks,
-                    answer,
                 })
             }
         }
     }
 
-    /// One event, entered where it is not refused, with so many whole copies of what it gives out. An error
-    /// is as of [`Journal::apply`].
-    fn enter(&mut self, event: Event, copies: usize) -> Result<Entered, Refusal>
-        ensures ok { IfOk result (IsEnteredWith self.old (step_of event) copies) }
+    /// One event, entered where it is not refused, with a whole copy of what it gives out. An error is as of
+    /// [`Journal::apply`].
+    fn enter(&mut self, event: Event) -> Result<Entered, Refusal>
+        ensures ok { IfOk result (IsEnteredWith self.old (step_of event) 1) }
         ensures entered { OnOk result (self.new ≡ with_entry self.old (step_of event) (outs_after self.old (step_of event))) }
         ensures err { IfErr result (IsRefused self.old (step_of event)) }
         ensures same { OnErr result (self.new ≡ self.old) }
@@ -184,7 +184,7 @@ impl<S: Shelf> Journal<S> {
             drop(event);
             return Err(refusal);
         }
-        match self.network.apply(&event, copies) {
+        match self.network.apply(&event, 1) {
             Err(refusal) => {
                 drop(event);
                 Err(refusal)

@@ -56,8 +56,8 @@ impl<S: Shelf> NetMachine<S> {
     /// One event. It is the network's step for every network of the definitions that the machine stands for:
     /// what it gives out is answered whole, and the machine stands for the network after it.
     ///
-    /// An error is the first refusal that applies, or says that memory is short, which it does only where none
-    /// applies, or while the bytes of an envelope are read; the machine is as it was.
+    /// An error is the first refusal that applies. Or it says that memory is short: then no refusal applies, or
+    /// bytes came to a hosted node that may take memory to be read. The machine is as it was.
     pub fn apply(&mut self, event: Event) -> Result<Vec<Out>, Refusal>
         ensures ok { IfOk result (λ v. IsStep self.old (step_of event) v.items self.new) }
         ensures err { IfErr result (IsRefusal self.old (step_of event)) }

@@ -2,13 +2,12 @@
 
 use types::{Event, Out};
 
-/// An applied event with its number in the journal, from 0 on; what it gave out; by which numbers, from 1 on,
-/// a Hear names each of its emissions; and what it gave out once more, for the answer.
+/// An applied event with its number in the journal, from 0 on; what it gave out; and by which numbers, from 1 on,
+/// a Hear names each of its emissions.
 #[derive(Drop)]
 pub struct Recorded {
     pub number: usize,
     pub event: Event,
     pub outs: Vec<Out>,
     pub marks: Vec<u64>,
-    pub answer: Vec<Out>,
 }

@@ -1,5 +1,5 @@
 -- Plans where an envelope reaches a node, delivered or heard, and refusals.
-use Rattle.std.proofs.Common.{◌≡◌, ℕ, zero, suc, Bool, true, false, not, ◌||◌, ◌==◌, List, [], ◌∷◌, map, Option, Some, None, option_map, Result, Ok, Err, is_none, is_some, refl, sym, ◌∙◌, ap, subst, inr}
+use Rattle.std.proofs.Common.{◌≡◌, ℕ, zero, suc, Bool, true, false, not, ◌||◌, ◌==◌, List, [], ◌∷◌, map, Option, Some, None, option_map, Result, Ok, Err, is_none, is_some, refl, sym, ◌∙◌, ap, subst}
 use Rattle.std.specs.Borrow.{Bor}
 use Rattle.types.specs.Statements.{Sent}
 use Rattle.types.specs.declared.kind.Kind.{Kind}
@@ -15,7 +15,7 @@ use Rattle.envstore.specs.declared.filed.Filed.{Filed}
 use Rattle.slot.specs.declared.filed.FiledEvent.TheVariants as events
 use Rattle.network.specs.Deeds.{HasRoomForBytes, HasNoRoomForBytes, IsDrawn, IsPlan, IsRoom, IsSeat, IsSlotThere, index_of_slot, pair_source}
 use Rattle.network.specs.Lodgings.{Seat, slot_of}
-use Rattle.network.specs.Standing.{IsRefusal, IsStanding, Standing, StandsFor, machine_of}
+use Rattle.network.specs.Standing.{IsFirstRefusal, IsStanding, Standing, StandsFor, machine_of}
 use Rattle.network.specs.EmissionsByKind.{nth_of}
 use Rattle.network.specs.declared.plan.Deed.TheVariants.{Act, Hand}
 use Rattle.network.specs.declared.plan.Drawn.{Drawn}
@@ -24,15 +24,15 @@ use Rattle.network.proofs.Openings.{none-so}
 use Rattle.network.proofs.Planned.{act-plan, hand-plan, node_where_open-seat, roster-in}
 
 -- ---- bytes
-pub bytes-nowhere : (m : Standing) (u size : ℕ) (d : Reading) → index_of_name m.config.nodes u ≡ None → IsRefusal (machine_of m) (Delivers u size d) NoSuchNode
+pub bytes-nowhere : (m : Standing) (u size : ℕ) (d : Reading) → index_of_name m.config.nodes u ≡ None → IsFirstRefusal (machine_of m) (Delivers u size d) NoSuchNode
 bytes-nowhere m u size (Read e) q =
-    inr (λ net s.
+    λ net s.
     let src = source net.roster (Delivers u size (Read e)) in
-    no_node m net u ((is_hosted net e.sender, HostedSender) ∷ open_test net e.slot ∷ room_test net src ∷ bytes_test net src size ∷ []) s q)
-bytes-nowhere m u size (Fault n) q = inr (λ net s. no_node m net u ((true, BadEnvelope n) ∷ []) s q)
+    no_node m net u ((is_hosted net e.sender, HostedSender) ∷ open_test net e.slot ∷ room_test net src ∷ bytes_test net src size ∷ []) s q
+bytes-nowhere m u size (Fault n) q = λ net s. no_node m net u ((true, BadEnvelope n) ∷ []) s q
 
-pub bytes-bad : (m : Standing) (u h size n : ℕ) → index_of_name m.config.nodes u ≡ Some h → IsRefusal (machine_of m) (Delivers u size (Fault n)) (BadEnvelope n)
-bytes-bad m u h size n q = inr (λ net s. node_then m net u h ((true, BadEnvelope n) ∷ []) s q)
+pub bytes-bad : (m : Standing) (u h size n : ℕ) → index_of_name m.config.nodes u ≡ Some h → IsFirstRefusal (machine_of m) (Delivers u size (Fault n)) (BadEnvelope n)
+bytes-bad m u h size n q = λ net s. node_then m net u h ((true, BadEnvelope n) ∷ []) s q
 
 -- ---- an envelope
 delivers-source : (o : Option Roster) (u size : ℕ) (e : Sent) → source o (Delivers u size (Read e)) ≡ pair_source o e.slot u e.sender
@@ -49,14 +49,14 @@ envelope-there m net u h size e q s =
     ap (λ src. first_that (hosted_test net u ∷ (is_hosted net e.sender, HostedSender) ∷ after_sender net size e src)) (delivers-source net.roster u size e)
     ∙ node_then m net u h ((is_hosted net e.sender, HostedSender) ∷ after_sender net size e (pair_source net.roster e.slot u e.sender)) s q
 
-pub sender-hosted : (m : Standing) (u h j size : ℕ) (e : Sent) → index_of_name m.config.nodes u ≡ Some h → index_of_name m.config.nodes e.sender ≡ Some j → IsRefusal (machine_of m) (Delivers u size (Read e)) HostedSender
+pub sender-hosted : (m : Standing) (u h j size : ℕ) (e : Sent) → index_of_name m.config.nodes u ≡ Some h → index_of_name m.config.nodes e.sender ≡ Some j → IsFirstRefusal (machine_of m) (Delivers u size (Read e)) HostedSender
 sender-hosted m u h j size e q r =
-    inr (λ net s. envelope-there m net u h size e q s ∙ refuses (is_hosted net e.sender) HostedSender (after_sender net size e (pair_source net.roster e.slot u e.sender)) (hosted net e.sender j (node_place-in m net e.sender s ∙ r)))
+    λ net s. envelope-there m net u h size e q s ∙ refuses (is_hosted net e.sender) HostedSender (after_sender net size e (pair_source net.roster e.slot u e.sender)) (hosted net e.sender j (node_place-in m net e.sender s ∙ r))
 
-pub sender-hosted-so : (m : Standing) (u h size : ℕ) (e : Sent) → index_of_name m.config.nodes u ≡ Some h → is_some (index_of_name m.config.nodes e.sender) ≡ true → IsRefusal (machine_of m) (Delivers u size (Read e)) HostedSender
+pub sender-hosted-so : (m : Standing) (u h size : ℕ) (e : Sent) → index_of_name m.config.nodes u ≡ Some h → is_some (index_of_name m.config.nodes e.sender) ≡ true → IsFirstRefusal (machine_of m) (Delivers u size (Read e)) HostedSender
 sender-hosted-so m u h size e q t = go (index_of_name m.config.nodes e.sender) refl t
   where
-    go : (o : Option ℕ) → index_of_name m.config.nodes e.sender ≡ o → is_some o ≡ true → IsRefusal (machine_of m) (Delivers u size (Read e)) HostedSender
+    go : (o : Option ℕ) → index_of_name m.config.nodes e.sender ≡ o → is_some o ≡ true → IsFirstRefusal (machine_of m) (Delivers u size (Read e)) HostedSender
     go None r t = absurd (cc)
     go (Some j) r t = sender-hosted m u h j size e q r
 
@@ -66,11 +66,11 @@ from-stranger : (m : Standing) (net : Net) (u h size : ℕ) (e : Sent) → index
 from-stranger m net u h size e q r s =
     envelope-there m net u h size e q s ∙ passes (is_hosted net e.sender, HostedSender) (after_sender net size e (pair_source net.roster e.slot u e.sender)) (hosted-not net e.sender (node_place-in m net e.sender s ∙ r))
 
-pub envelope-closed : (m : Standing) (u h size : ℕ) (e : Sent) → index_of_name m.config.nodes u ≡ Some h → index_of_name m.config.nodes e.sender ≡ None → index_of_slot (map slot_of (machine_of m).slots) e.slot ≡ None → IsRefusal (machine_of m) (Delivers u size (Read e)) SlotNotOpen
+pub envelope-closed : (m : Standing) (u h size : ℕ) (e : Sent) → index_of_name m.config.nodes u ≡ Some h → index_of_name m.config.nodes e.sender ≡ None → index_of_slot (map slot_of (machine_of m).slots) e.slot ≡ None → IsFirstRefusal (machine_of m) (Delivers u size (Read e)) SlotNotOpen
 envelope-closed m u h size e q r c =
-    inr (λ net s.
+    λ net s.
     let src = pair_source net.roster e.slot u e.sender in
-    from-stranger m net u h size e q r s ∙ not_open m net e.slot (room_test net src ∷ bytes_test net src size ∷ []) s c)
+    from-stranger m net u h size e q r s ∙ not_open m net e.slot (room_test net src ∷ bytes_test net src size ∷ []) s c
 
 -- and the slot is open
 pub record IsReaching (m : Standing) (u h k : ℕ) (e : Sent) : Type 0 where
@@ -91,23 +91,23 @@ at-slot m net u h k size e r s =
     let src = pair_source net.roster e.slot u e.sender in
     from-stranger m net u h size e r.node r.stranger s ∙ open_then m net e.slot k (room_test net src ∷ bytes_test net src size ∷ []) s r.slot
 
-pub envelope-full : {m : Standing} {u h k : ℕ} {e : Sent} (size : ℕ) (x : Refusal) → IsReaching m u h k e → IsRoom m (λ o. pair_source o e.slot u e.sender) (Err x) → IsRefusal (machine_of m) (Delivers u size (Read e)) x
+pub envelope-full : {m : Standing} {u h k : ℕ} {e : Sent} (size : ℕ) (x : Refusal) → IsReaching m u h k e → IsRoom m (λ o. pair_source o e.slot u e.sender) (Err x) → IsFirstRefusal (machine_of m) (Delivers u size (Read e)) x
 envelope-full {m} {u} {h} {k} {e} size x r full =
-    inr (λ net s.
+    λ net s.
     let src = pair_source net.roster e.slot u e.sender in
-    at-slot m net u h k size e r s ∙ stops (room_test net src) x (bytes_test net src size ∷ []) (full net s))
+    at-slot m net u h k size e r s ∙ stops (room_test net src) x (bytes_test net src size ∷ []) (full net s)
 
 -- and there is room for an event
 drawn-in : (m : Standing) (net : Net) (i u w : ℕ) (d : Drawn) → StandsFor (machine_of m) net → IsDrawn (machine_of m) d (pair_source m.config.roster i u w) → IsDrawn (machine_of m) d (pair_source net.roster i u w)
 drawn-in m net i u w d s h = subst (λ o. IsDrawn (machine_of m) d (pair_source o i u w)) (sym (roster-in m net s)) h
 
 pub envelope-large : {m : Standing} {u h k : ℕ} {e : Sent} (size : ℕ) (d : Drawn) (x : Refusal) → IsReaching m u h k e → IsRoom m (λ o. pair_source o e.slot u e.sender) (Ok d) → HasNoRoomForBytes (machine_of m) d size x
-    → IsRefusal (machine_of m) (Delivers u size (Read e)) x
+    → IsFirstRefusal (machine_of m) (Delivers u size (Read e)) x
 envelope-large {m} {u} {h} {k} {e} size d x r room full =
-    inr (λ net s.
+    λ net s.
     let src = pair_source net.roster e.slot u e.sender in
     at-slot m net u h k size e r s ∙ passes (room_test net src) (bytes_test net src size ∷ []) (room.1 net s)
-    ∙ stops (bytes_test net src size) x [] (full src net (drawn-in m net e.slot u e.sender d s room.0) s))
+    ∙ stops (bytes_test net src size) x [] (full src net (drawn-in m net e.slot u e.sender d s room.0) s)
 
 pub envelope-plan : {m : Standing} {u h k : ℕ} {e : Sent} (size : ℕ) (d : Drawn) → IsStanding m → IsReaching m u h k e → IsRoom m (λ o. pair_source o e.slot u e.sender) (Ok d) → HasRoomForBytes (machine_of m) d size
     → IsPlan m (Delivers u size (Read e)) (record { deed = Hand k h e; drawn = d; size = size })
@@ -149,13 +149,13 @@ none-holds true true true h k l = absurd (cc)
 none-holds true false c h k l = absurd (cc)
 none-holds false b c h k l = absurd (cc)
 
-pub hears-nowhere : (m : Standing) (i u w : ℕ) (kind : Kind) (n : ℕ) → index_of_name m.config.nodes u ≡ None → IsRefusal (machine_of m) (Hears i u w kind n) NoSuchNode
+pub hears-nowhere : (m : Standing) (i u w : ℕ) (kind : Kind) (n : ℕ) → index_of_name m.config.nodes u ≡ None → IsFirstRefusal (machine_of m) (Hears i u w kind n) NoSuchNode
 hears-nowhere m i u w kind n q =
-    inr (λ net s. hears-are net i u w kind n ∙ refuses (apart net u w) NoSuchNode (after_nodes net i w kind n (pair_source net.roster i u w)) (first-holds (is_hosted net u) (is_hosted net w) (u == w) (hosted-not net u (node_place-in m net u s ∙ q))))
+    λ net s. hears-are net i u w kind n ∙ refuses (apart net u w) NoSuchNode (after_nodes net i w kind n (pair_source net.roster i u w)) (first-holds (is_hosted net u) (is_hosted net w) (u == w) (hosted-not net u (node_place-in m net u s ∙ q)))
 
-pub hears-nobody : (m : Standing) (i u w : ℕ) (kind : Kind) (n : ℕ) → index_of_name m.config.nodes w ≡ None → IsRefusal (machine_of m) (Hears i u w kind n) NoSuchNode
+pub hears-nobody : (m : Standing) (i u w : ℕ) (kind : Kind) (n : ℕ) → index_of_name m.config.nodes w ≡ None → IsFirstRefusal (machine_of m) (Hears i u w kind n) NoSuchNode
 hears-nobody m i u w kind n q =
-    inr (λ net s. hears-are net i u w kind n ∙ refuses (apart net u w) NoSuchNode (after_nodes net i w kind n (pair_source net.roster i u w)) (second-holds (is_hosted net u) (is_hosted net w) (u == w) (hosted-not net w (node_place-in m net w s ∙ q))))
+    λ net s. hears-are net i u w kind n ∙ refuses (apart net u w) NoSuchNode (after_nodes net i w kind n (pair_source net.roster i u w)) (second-holds (is_hosted net u) (is_hosted net w) (u == w) (hosted-not net w (node_place-in m net w s ∙ q)))
 
 -- two hosted nodes
 pub record AreTwo (m : Standing) (u h w j : ℕ) : Type 0 where
@@ -168,9 +168,9 @@ two-there m net i u h w j kind n two s =
     hears-are net i u w kind n
     ∙ passes (apart net u w, NoSuchNode) (after_nodes net i w kind n (pair_source net.roster i u w)) (none-holds (is_hosted net u) (is_hosted net w) (u == w) (hosted net u h (node_place-in m net u s ∙ two.node)) (hosted net w j (node_place-in m net w s ∙ two.from)) two.differ)
 
-pub hears-closed : (m : Standing) (i u h w j : ℕ) (kind : Kind) (n : ℕ) → AreTwo m u h w j → index_of_slot (map slot_of (machine_of m).slots) i ≡ None → IsRefusal (machine_of m) (Hears i u w kind n) SlotNotOpen
+pub hears-closed : (m : Standing) (i u h w j : ℕ) (kind : Kind) (n : ℕ) → AreTwo m u h w j → index_of_slot (map slot_of (machine_of m).slots) i ≡ None → IsFirstRefusal (machine_of m) (Hears i u w kind n) SlotNotOpen
 hears-closed m i u h w j kind n two c =
-    inr (λ net s. two-there m net i u h w j kind n two s ∙ not_open m net i ((is_none (emission (node_where_open (instances_at net.slots i) w) kind n), NotEmitted) ∷ room_test net (pair_source net.roster i u w) ∷ []) s c)
+    λ net s. two-there m net i u h w j kind n two s ∙ not_open m net i ((is_none (emission (node_where_open (instances_at net.slots i) w) kind n), NotEmitted) ∷ room_test net (pair_source net.roster i u w) ∷ []) s c
 
 -- what it has emitted
 emitted-nth : (p : Instance) (kind : Kind) (n : ℕ) → emission (Some p) kind n ≡ nth_of kind n p.emitted
@@ -201,9 +201,9 @@ heard-at m net i u h w j k kind n y o x s =
     ∙ ap (λ z. first_that ((is_none z, NotEmitted) ∷ ts)) (emission-is m net i w k j kind n y o x.standing s x.slot x.two.from x.seat x.sent)
 
 pub hears-nothing : {m : Standing} {i u h w j k : ℕ} {kind : Kind} {n : ℕ} {y : Seat} {o : Option (Bor Filed)} → IsHearing m i u h w j k kind n y o → o ≡ None
-    → IsRefusal (machine_of m) (Hears i u w kind n) NotEmitted
+    → IsFirstRefusal (machine_of m) (Hears i u w kind n) NotEmitted
 hears-nothing {m} {i} {u} {h} {w} {j} {k} {kind} {n} {y} {o} x none =
-    inr (λ net s. heard-at m net i u h w j k kind n y o x s ∙ ap (λ z. first_that ((is_none (option_map (λ f. sent_of f.now) z), NotEmitted) ∷ room_test net (pair_source net.roster i u w) ∷ [])) none)
+    λ net s. heard-at m net i u h w j k kind n y o x s ∙ ap (λ z. first_that ((is_none (option_map (λ f. sent_of f.now) z), NotEmitted) ∷ room_test net (pair_source net.roster i u w) ∷ [])) none
 
 -- and there is such an emission
 heard-it : (m : Standing) (net : Net) (i u h w j k : ℕ) (kind : Kind) (n : ℕ) (y : Seat) (o : Option (Bor Filed)) (f : Bor Filed) → IsHearing m i u h w j k kind n y o → o ≡ Some f → StandsFor (machine_of m) net
@@ -212,9 +212,9 @@ heard-it m net i u h w j k kind n y o f x some s =
     heard-at m net i u h w j k kind n y o x s ∙ ap (λ z. first_that ((is_none (option_map (λ f. sent_of f.now) z), NotEmitted) ∷ room_test net (pair_source net.roster i u w) ∷ [])) some
 
 pub hears-full : {m : Standing} {i u h w j k : ℕ} {kind : Kind} {n : ℕ} {y : Seat} {o : Option (Bor Filed)} (f : Bor Filed) (e : Refusal) → IsHearing m i u h w j k kind n y o → o ≡ Some f
-    → IsRoom m (λ o. pair_source o i u w) (Err e) → IsRefusal (machine_of m) (Hears i u w kind n) e
+    → IsRoom m (λ o. pair_source o i u w) (Err e) → IsFirstRefusal (machine_of m) (Hears i u w kind n) e
 hears-full {m} {i} {u} {h} {w} {j} {k} {kind} {n} {y} {o} f e x some full =
-    inr (λ net s. heard-it m net i u h w j k kind n y o f x some s ∙ stops (room_test net (pair_source net.roster i u w)) e [] (full net s))
+    λ net s. heard-it m net i u h w j k kind n y o f x some s ∙ stops (room_test net (pair_source net.roster i u w)) e [] (full net s)
 
 pub hears-plan : {m : Standing} {i u h w j k : ℕ} {kind : Kind} {n : ℕ} {y : Seat} {o : Option (Bor Filed)} (f : Bor Filed) (d : Drawn) → IsHearing m i u h w j k kind n y o → o ≡ Some f
     → IsFiled m.archive f.now → IsRoom m (λ o. pair_source o i u w) (Ok d) → IsPlan m (Hears i u w kind n) (record { deed = Act k h (events.Take f.now); drawn = d; size = 0 })

@@ -3,6 +3,7 @@ mod Carried
 mod Counting
 mod Done
 mod Drawing
+mod EarlyFaults
 mod Emitted
 mod FewOuts
 mod Handings
@@ -11,7 +12,7 @@ pub mod KeyPlaces
 mod NumberedOuts
 mod Openings
 mod Placed
-mod Planned
+pub mod Planned
 mod Plans
 mod ReadLengths
 pub mod Readings

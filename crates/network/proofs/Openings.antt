@@ -1,5 +1,5 @@
 -- Plans to open and to close a slot, and refusals.
-use Rattle.std.proofs.Common.{◌≡◌, ℕ, ◌<◌, Bool, true, false, not, nat_lt, List, [], ◌∷◌, ◌++◌, length, map, Option, Some, None, is_some, Ok, Err, refl, sym, ◌∙◌, ap, subst, inr}
+use Rattle.std.proofs.Common.{◌≡◌, ℕ, ◌<◌, Bool, true, false, not, nat_lt, List, [], ◌∷◌, ◌++◌, length, map, Option, Some, None, is_some, Ok, Err, refl, sym, ◌∙◌, ap, subst}
 use Rattle.std.specs.List.{All}
 use Rattle.types.specs.Statements.{Sent}
 use Rattle.types.specs.declared.event.Refusal.{Refusal}
@@ -8,7 +8,7 @@ use Rattle.protocol.specs.Networks.{Net, Instance, Slot, effect, first_that, roo
 use Rattle.protocol.specs.Networks.Step.{Opens, Closes}
 use Rattle.network.specs.Deeds.{IsPlan, IsRoom, IsSlotThere, index_of_slot}
 use Rattle.network.specs.Lodgings.{IsLodged, IsUncounted, Lodging, Lodgings, instance_in, seat_of, seats_of, slot_of}
-use Rattle.network.specs.Standing.{IsAllowed, IsRefusal, IsStanding, Standing, StandsFor, machine_of}
+use Rattle.network.specs.Standing.{IsAllowed, IsFirstRefusal, IsStanding, Standing, StandsFor, machine_of}
 use Rattle.network.specs.declared.plan.Deed.TheVariants.{Open, Close}
 use Rattle.network.specs.declared.plan.Drawn.{Drawn}
 use Rattle.network.proofs.Allowed.{not_open, open_then, opened_at, opened_not, passes, refuses, slot-in, stops}
@@ -28,14 +28,14 @@ too_many net = not (nat_lt (length net.slots) net.budgets.slots)
 many-is : (m : Standing) (net : Net) → StandsFor (machine_of m) net → too_many net ≡ not (nat_lt (length m.slots) m.config.budgets.slots)
 many-is m net s = (λ j. not (nat_lt (slots-in m net s j) (budget-in m net s j)))
 
-pub opens-again : (m : Standing) (i k : ℕ) → IsSlotThere m i k → IsRefusal (machine_of m) (Opens i) SlotOpenAlready
+pub opens-again : (m : Standing) (i k : ℕ) → IsSlotThere m i k → IsFirstRefusal (machine_of m) (Opens i) SlotOpenAlready
 opens-again m i k q =
-    inr (λ net s. refuses (is_open net i) SlotOpenAlready ((too_many net, TooManySlots) ∷ room_test net (source net.roster (Opens i)) ∷ []) (opened_at net i k (slot-in m net i s ∙ q)))
+    λ net s. refuses (is_open net i) SlotOpenAlready ((too_many net, TooManySlots) ∷ room_test net (source net.roster (Opens i)) ∷ []) (opened_at net i k (slot-in m net i s ∙ q))
 
-pub opens-again-so : (m : Standing) (i : ℕ) → is_some (index_of_slot (map slot_of (machine_of m).slots) i) ≡ true → IsRefusal (machine_of m) (Opens i) SlotOpenAlready
+pub opens-again-so : (m : Standing) (i : ℕ) → is_some (index_of_slot (map slot_of (machine_of m).slots) i) ≡ true → IsFirstRefusal (machine_of m) (Opens i) SlotOpenAlready
 opens-again-so m i t = go (index_of_slot (map slot_of (machine_of m).slots) i) refl t
   where
-    go : (o : Option ℕ) → index_of_slot (map slot_of (machine_of m).slots) i ≡ o → is_some o ≡ true → IsRefusal (machine_of m) (Opens i) SlotOpenAlready
+    go : (o : Option ℕ) → index_of_slot (map slot_of (machine_of m).slots) i ≡ o → is_some o ≡ true → IsFirstRefusal (machine_of m) (Opens i) SlotOpenAlready
     go None q t = absurd (cc)
     go (Some k) q t = opens-again m i k q
 
@@ -46,15 +46,15 @@ none-so (Some x) t = absurd (cc)
 opens-new : (m : Standing) (net : Net) (i : ℕ) → index_of_slot (map slot_of (machine_of m).slots) i ≡ None → StandsFor (machine_of m) net → first_that (tests net (Opens i)) ≡ first_that ((too_many net, TooManySlots) ∷ room_test net (source net.roster (Opens i)) ∷ [])
 opens-new m net i q s = passes (is_open net i, SlotOpenAlready) ((too_many net, TooManySlots) ∷ room_test net (source net.roster (Opens i)) ∷ []) (opened_not net i (slot-in m net i s ∙ q))
 
-pub opens-many : (m : Standing) (i : ℕ) → index_of_slot (map slot_of (machine_of m).slots) i ≡ None → not (nat_lt (length m.slots) m.config.budgets.slots) ≡ true → IsRefusal (machine_of m) (Opens i) TooManySlots
+pub opens-many : (m : Standing) (i : ℕ) → index_of_slot (map slot_of (machine_of m).slots) i ≡ None → not (nat_lt (length m.slots) m.config.budgets.slots) ≡ true → IsFirstRefusal (machine_of m) (Opens i) TooManySlots
 opens-many m i q l =
-    inr (λ net s. opens-new m net i q s ∙ refuses (too_many net) TooManySlots (room_test net (source net.roster (Opens i)) ∷ []) (many-is m net s ∙ l))
+    λ net s. opens-new m net i q s ∙ refuses (too_many net) TooManySlots (room_test net (source net.roster (Opens i)) ∷ []) (many-is m net s ∙ l)
 
 opens-few : (m : Standing) (net : Net) (i : ℕ) → index_of_slot (map slot_of (machine_of m).slots) i ≡ None → not (nat_lt (length m.slots) m.config.budgets.slots) ≡ false → StandsFor (machine_of m) net → first_that (tests net (Opens i)) ≡ first_that (room_test net (source net.roster (Opens i)) ∷ [])
 opens-few m net i q l s = opens-new m net i q s ∙ passes (too_many net, TooManySlots) (room_test net (source net.roster (Opens i)) ∷ []) (many-is m net s ∙ l)
 
-pub opens-full : (m : Standing) (i : ℕ) (r : Refusal) → index_of_slot (map slot_of (machine_of m).slots) i ≡ None → not (nat_lt (length m.slots) m.config.budgets.slots) ≡ false → IsRoom m (λ o. source o (Opens i)) (Err r) → IsRefusal (machine_of m) (Opens i) r
-opens-full m i r q l full = inr (λ net s. opens-few m net i q l s ∙ stops (room_test net (source net.roster (Opens i))) r [] (full net s))
+pub opens-full : (m : Standing) (i : ℕ) (r : Refusal) → index_of_slot (map slot_of (machine_of m).slots) i ≡ None → not (nat_lt (length m.slots) m.config.budgets.slots) ≡ false → IsRoom m (λ o. source o (Opens i)) (Err r) → IsFirstRefusal (machine_of m) (Opens i) r
+opens-full m i r q l full = λ net s. opens-few m net i q l s ∙ stops (room_test net (source net.roster (Opens i))) r [] (full net s)
 
 pub opens-allowed : (m : Standing) (i : ℕ) (d : Drawn) → index_of_slot (map slot_of (machine_of m).slots) i ≡ None → not (nat_lt (length m.slots) m.config.budgets.slots) ≡ false → IsRoom m (λ o. source o (Opens i)) (Ok d) → IsAllowed (machine_of m) (Opens i)
 opens-allowed m i d q l room = λ net s. opens-few m net i q l s ∙ passes (room_test net (source net.roster (Opens i))) [] (room.1 net s)
@@ -80,11 +80,11 @@ opens-plan m i d x q l room number instances lodged counts = record {
 }
 
 -- ---- closing
-pub closes-nowhere : (m : Standing) (i : ℕ) → index_of_slot (map slot_of (machine_of m).slots) i ≡ None → IsRefusal (machine_of m) (Closes i) SlotNotOpen
-closes-nowhere m i q = inr (λ net s. not_open m net i (room_test net (source net.roster (Closes i)) ∷ []) s q)
+pub closes-nowhere : (m : Standing) (i : ℕ) → index_of_slot (map slot_of (machine_of m).slots) i ≡ None → IsFirstRefusal (machine_of m) (Closes i) SlotNotOpen
+closes-nowhere m i q = λ net s. not_open m net i (room_test net (source net.roster (Closes i)) ∷ []) s q
 
-pub closes-full : (m : Standing) (i k : ℕ) (r : Refusal) → IsSlotThere m i k → IsRoom m (λ o. source o (Closes i)) (Err r) → IsRefusal (machine_of m) (Closes i) r
-closes-full m i k r q full = inr (λ net s. open_then m net i k (room_test net (source net.roster (Closes i)) ∷ []) s q ∙ stops (room_test net (source net.roster (Closes i))) r [] (full net s))
+pub closes-full : (m : Standing) (i k : ℕ) (r : Refusal) → IsSlotThere m i k → IsRoom m (λ o. source o (Closes i)) (Err r) → IsFirstRefusal (machine_of m) (Closes i) r
+closes-full m i k r q full = λ net s. open_then m net i k (room_test net (source net.roster (Closes i)) ∷ []) s q ∙ stops (room_test net (source net.roster (Closes i))) r [] (full net s)
 
 pub closes-plan : (m : Standing) (i k : ℕ) (d : Drawn) → IsStanding m → IsSlotThere m i k → IsRoom m (λ o. source o (Closes i)) (Ok d) → IsPlan m (Closes i) (record { deed = Close k; drawn = d; size = 0 })
 unfolding effect

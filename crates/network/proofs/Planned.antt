@@ -1,5 +1,5 @@
 -- Plans for events that nothing refuses, and refusals.
-use Rattle.std.proofs.Common.{◌≡◌, ℕ, Bool, true, false, List, [], ◌∷◌, map, slice_get, Option, Some, None, Ok, Err, refl, sym, ◌∙◌, ap, subst, inr}
+use Rattle.std.proofs.Common.{◌≡◌, ℕ, Bool, true, false, List, [], ◌∷◌, map, slice_get, Option, Some, None, Result, Ok, Err, refl, sym, ◌∙◌, ap, subst, inr}
 use Rattle.types.specs.Statements.{Sent}
 use Rattle.types.specs.declared.event.NodeEvent.{NodeEvent}
 use Rattle.types.specs.declared.event.Out.{Out}
@@ -13,13 +13,14 @@ use Rattle.slot.specs.declared.filed.FiledEvent.TheVariants as events
 use Rattle.types.specs.Trees.{Slices}
 use Rattle.protocol.specs.Networks.Step.{Proposes, NominationTimerFires, BallotTimerFires, Reslices}
 use Rattle.configuration.specs.Configs.{index_of_name}
-use Rattle.network.specs.Deeds.{HasNoRoom, HasRoom, IsDrawn, IsNodeOf, IsNodeThere, IsOwnEvent, IsPlan, IsRoom, IsSeat, IsSlotThere, IsSpot, IsSpotRefused, slots_after_event, instance_at, own_source}
+use Rattle.network.specs.Deeds.{HasNoRoom, HasRoom, IsDrawn, IsNodeOf, IsNodeThere, IsOwnEvent, IsPlan, IsPlanned, IsPlannedSurely, IsRoom, IsSeat, IsSlotThere, IsSpot, IsSpotRefused, slots_after_event, instance_at, own_source}
 use Rattle.network.specs.Answers.{delivered_of}
 use Rattle.network.specs.Lodgings.{Seat, slot_of}
 use Rattle.network.specs.Marks.{slot_and_node_of}
-use Rattle.network.specs.Standing.{IsRefusal, IsStanding, Standing, StandsFor, machine_of}
+use Rattle.network.specs.Standing.{IsFirstRefusal, IsStanding, Standing, StandsFor, machine_of}
 use Rattle.network.specs.declared.plan.Deed.TheVariants.{Act, Hand}
 use Rattle.network.specs.declared.plan.Drawn.{Drawn}
+use Rattle.network.specs.declared.plan.Plan.{Plan}
 use Rattle.network.specs.declared.plan.Spot.{Spot}
 use Rattle.network.proofs.Allowed.{node_then, node_place-in, open_then, passes, refuses, slot-in, stops}
 use Rattle.network.proofs.Plans.{acted-is, node_where_open-node, neat-net, node-there, outs-are, seat-instance, seat-there}
@@ -68,6 +69,11 @@ hand-plan m e i u k h size x d st q r drawn sized named taken is allowed = recor
   there = places-there m i u k h st q r;
 }
 
+-- what takes no memory is a plan or a refusal
+pub planned : (m : Standing) (e : Step) (r : Result Plan Refusal) → IsPlannedSurely m e r → IsPlanned m e r
+planned m e (Ok p) h = h
+planned m e (Err x) h = inr h
+
 -- ---- events of a node's own
 -- their tests, on what they draw
 abbrev own_tests_on : Net → ℕ → ℕ → Source → List (Bool × Refusal)
@@ -81,14 +87,14 @@ own-plan m i u sp x d e st at filed room own =
     ∙ open_then m net i sp.slot_at (room_test net (own_source net.roster i u) ∷ []) s at.slot ∙ passes (room_test net (own_source net.roster i u)) [] (room.1 net s))
 
 -- no such node, or no such slot
-pub own-nowhere : (m : Standing) (i u : ℕ) (x : FiledEvent) (e : Step) (r : Refusal) → IsSpotRefused m i u r → IsOwnEvent i u x e → IsRefusal (machine_of m) e r
-own-nowhere m i u x e r nowhere own = inr (λ net s. ap first_that (own.tests_are net) ∙ nowhere net s (room_test net (own_source net.roster i u) ∷ []))
+pub own-nowhere : (m : Standing) (i u : ℕ) (x : FiledEvent) (e : Step) (r : Refusal) → IsSpotRefused m i u r → IsOwnEvent i u x e → IsFirstRefusal (machine_of m) e r
+own-nowhere m i u x e r nowhere own = λ net s. ap first_that (own.tests_are net) ∙ nowhere net s (room_test net (own_source net.roster i u) ∷ [])
 
 -- no room
-pub own-full : (m : Standing) (i u : ℕ) (sp : Spot) (x : FiledEvent) (e : Step) (r : Refusal) → IsSpot m i u sp → IsRoom m (λ o. own_source o i u) (Err r) → IsOwnEvent i u x e → IsRefusal (machine_of m) e r
+pub own-full : (m : Standing) (i u : ℕ) (sp : Spot) (x : FiledEvent) (e : Step) (r : Refusal) → IsSpot m i u sp → IsRoom m (λ o. own_source o i u) (Err r) → IsOwnEvent i u x e → IsFirstRefusal (machine_of m) e r
 own-full m i u sp x e r at full own =
-    inr (λ net s. ap first_that (own.tests_are net) ∙ node_then m net u sp.node_at (open_test net i ∷ room_test net (own_source net.roster i u) ∷ []) s at.node
-    ∙ open_then m net i sp.slot_at (room_test net (own_source net.roster i u) ∷ []) s at.slot ∙ stops (room_test net (own_source net.roster i u)) r [] (full net s))
+    λ net s. ap first_that (own.tests_are net) ∙ node_then m net u sp.node_at (open_test net i ∷ room_test net (own_source net.roster i u) ∷ []) s at.node
+    ∙ open_then m net i sp.slot_at (room_test net (own_source net.roster i u) ∷ []) s at.slot ∙ stops (room_test net (own_source net.roster i u)) r [] (full net s)
 
 -- an event whose tests and effect are those of a node's own, by what it draws on where there is a roster
 own-by : (i u : ℕ) (x : FiledEvent) (e : Step) → ((net : Net) → tests net e ≡ own_tests_on net i u (source net.roster e)) → ((net : Net) → effect net e ≡ act net i u (event_of x)) → ((r : Roster) → source (Some r) e ≡ own_source (Some r) i u)
@@ -141,11 +147,11 @@ asks-there m net i u x sp at s =
     let ts : List (Bool × Refusal) = (is_bad_value x, BadValue) ∷ (has_proposal (node_where_open (instances_at net.slots i) u), ProposedAlready) ∷ room_test net (own_source net.roster i u) ∷ [] in
     asks-are net i u x ∙ node_then m net u sp.node_at (open_test net i ∷ ts) s at.node ∙ open_then m net i sp.slot_at ts s at.slot
 
-pub asks-nowhere : (m : Standing) (i u : ℕ) (x : List ℕ) (r : Refusal) → IsSpotRefused m i u r → IsRefusal (machine_of m) (Proposes i u x) r
-asks-nowhere m i u x r nowhere = inr (λ net s. asks-are net i u x ∙ nowhere net s ((is_bad_value x, BadValue) ∷ (has_proposal (node_where_open (instances_at net.slots i) u), ProposedAlready) ∷ room_test net (own_source net.roster i u) ∷ []))
+pub asks-nowhere : (m : Standing) (i u : ℕ) (x : List ℕ) (r : Refusal) → IsSpotRefused m i u r → IsFirstRefusal (machine_of m) (Proposes i u x) r
+asks-nowhere m i u x r nowhere = λ net s. asks-are net i u x ∙ nowhere net s ((is_bad_value x, BadValue) ∷ (has_proposal (node_where_open (instances_at net.slots i) u), ProposedAlready) ∷ room_test net (own_source net.roster i u) ∷ [])
 
-pub asks-bad : (m : Standing) (i u : ℕ) (x : List ℕ) (sp : Spot) → IsSpot m i u sp → is_bad_value x ≡ true → IsRefusal (machine_of m) (Proposes i u x) BadValue
-asks-bad m i u x sp at bad = inr (λ net s. asks-there m net i u x sp at s ∙ refuses (is_bad_value x) BadValue ((has_proposal (node_where_open (instances_at net.slots i) u), ProposedAlready) ∷ room_test net (own_source net.roster i u) ∷ []) bad)
+pub asks-bad : (m : Standing) (i u : ℕ) (x : List ℕ) (sp : Spot) → IsSpot m i u sp → is_bad_value x ≡ true → IsFirstRefusal (machine_of m) (Proposes i u x) BadValue
+asks-bad m i u x sp at bad = λ net s. asks-there m net i u x sp at s ∙ refuses (is_bad_value x) BadValue ((has_proposal (node_where_open (instances_at net.slots i) u), ProposedAlready) ∷ room_test net (own_source net.roster i u) ∷ []) bad
 
 -- the node at the place of a name and an open slot
 pub node_where_open-seat : (m : Standing) (net : Net) (i u k h : ℕ) (y : Seat) → IsStanding m → StandsFor (machine_of m) net → IsSlotThere m i k → index_of_name m.config.nodes u ≡ Some h → IsSeat (machine_of m) k h y → node_where_open (instances_at net.slots i) u ≡ Some y.instance
@@ -160,13 +166,13 @@ asks-good m net i u x sp y b st at is good given s =
     asks-there m net i u x sp at s ∙ passes (is_bad_value x, BadValue) ((has_proposal (node_where_open (instances_at net.slots i) u), ProposedAlready) ∷ ts) good
     ∙ ap (λ (c : Bool). first_that ((c, ProposedAlready) ∷ ts)) (ap has_proposal (node_where_open-seat m net i u sp.slot_at sp.node_at y st s at.slot at.node is) ∙ sym given)
 
-pub asks-again : (m : Standing) (i u : ℕ) (x : List ℕ) (sp : Spot) (y : Seat) (b : Bool) → IsStanding m → IsSpot m i u sp → IsSeat (machine_of m) sp.slot_at sp.node_at y → is_bad_value x ≡ false → b ≡ has_proposal (Some y.instance) → b ≡ true → IsRefusal (machine_of m) (Proposes i u x) ProposedAlready
-asks-again m i u x sp y b st at is good given has = inr (λ net s. asks-good m net i u x sp y b st at is good given s ∙ refuses b ProposedAlready (room_test net (own_source net.roster i u) ∷ []) has)
+pub asks-again : (m : Standing) (i u : ℕ) (x : List ℕ) (sp : Spot) (y : Seat) (b : Bool) → IsStanding m → IsSpot m i u sp → IsSeat (machine_of m) sp.slot_at sp.node_at y → is_bad_value x ≡ false → b ≡ has_proposal (Some y.instance) → b ≡ true → IsFirstRefusal (machine_of m) (Proposes i u x) ProposedAlready
+asks-again m i u x sp y b st at is good given has = λ net s. asks-good m net i u x sp y b st at is good given s ∙ refuses b ProposedAlready (room_test net (own_source net.roster i u) ∷ []) has
 
 pub asks-full : (m : Standing) (i u : ℕ) (x : List ℕ) (sp : Spot) (y : Seat) (b : Bool) (r : Refusal) → IsStanding m → IsSpot m i u sp → IsSeat (machine_of m) sp.slot_at sp.node_at y → is_bad_value x ≡ false → b ≡ has_proposal (Some y.instance) → b ≡ false → IsRoom m (λ o. own_source o i u) (Err r)
-    → IsRefusal (machine_of m) (Proposes i u x) r
+    → IsFirstRefusal (machine_of m) (Proposes i u x) r
 asks-full m i u x sp y b r st at is good given has full =
-    inr (λ net s. asks-good m net i u x sp y b st at is good given s ∙ passes (b, ProposedAlready) (room_test net (own_source net.roster i u) ∷ []) has ∙ stops (room_test net (own_source net.roster i u)) r [] (full net s))
+    λ net s. asks-good m net i u x sp y b st at is good given s ∙ passes (b, ProposedAlready) (room_test net (own_source net.roster i u) ∷ []) has ∙ stops (room_test net (own_source net.roster i u)) r [] (full net s)
 
 pub asks-plan : (m : Standing) (i u : ℕ) (x : List ℕ) (sp : Spot) (y : Seat) (b : Bool) (d : Drawn) → IsStanding m → IsSpot m i u sp → IsSeat (machine_of m) sp.slot_at sp.node_at y → is_bad_value x ≡ false → b ≡ has_proposal (Some y.instance) → b ≡ false → IsRoom m (λ o. own_source o i u) (Ok d)
     → IsPlan m (Proposes i u x) (record { deed = Act sp.slot_at sp.node_at (events.Propose x); drawn = d; size = 0 })

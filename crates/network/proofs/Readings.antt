@@ -1,17 +1,23 @@
 -- What is read in bytes is what the grammar of envelopes says of them.
-use Rattle.std.proofs.Common.{◌≡◌, ℕ, List, [], ◌∷◌, get_or, Result, Ok, Err, refl, sym, ◌∙◌, ap}
+use Rattle.std.proofs.Common.{◌≡◌, ℕ, ◌<◌, ◌≤◌, Bool, true, false, ltb, List, [], ◌∷◌, length, get_or, Result, Ok, Err, refl, sym, ◌∙◌, ap, inl, inr}
+use Rattle.std.proofs.lemmas.Bool.{ltb-false, ltb-true}
 use Rattle.types.specs.Statements.{Sent}
+use Rattle.codec.specs.declared.error.CodecError.{CodecError}
+use Rattle.codec.specs.declared.error.CodecError.TheVariants as errors
 use Rattle.codec.specs.declared.error.Fault.{Fault as Wrong}
 use Rattle.codec.specs.declared.error.Fault.TheVariants.{Truncated, TrailingBytes, Version, Kind, Limit, BadSlices, BadStatement, SpareVersion}
 use Rattle.codec.specs.Answers.{fault_number}
+use Rattle.codec.specs.Faults.{HasOtherKind, HasOtherVersion}
 use Rattle.codec.specs.Grammar.{IsFault}
 use Rattle.codec.specs.Reading.{decoding}
-use Rattle.codec.specs.Spelling.{Spells}
+use Rattle.codec.specs.Spelling.{Spells, most_bytes}
 use Rattle.codec.specs.Steps.{IsBytes}
 use Rattle.codec.proofs.EnvelopeLaws.{is_spelled, is_read, is_fault, fault_is}
 use Rattle.protocol.specs.Networks.Reading.{Read, Fault}
 use Rattle.protocol.specs.Submissions.{HasOneLength}
 use Rattle.network.specs.Decoding.{reading_of_result, reading, ReadingsAreExact}
+use Rattle.network.specs.Standing.{MayTakeMemory, is_found_early}
+use Rattle.network.proofs.EarlyFaults.{IsLate, is_placed}
 use Rattle.network.proofs.ReadLengths.{length_is}
 
 -- the number of a fault tells it
@@ -61,3 +67,43 @@ readings_are_exact bytes fits = record {
 pub has_one_length : HasOneLength reading
 unfolding reading
 has_one_length a b e p q = length_is a e (said-read (decoding a) e p) ∙ sym (length_is b e (said-read (decoding b) e q))
+
+-- want of memory names no fault
+abbrev answered : CodecError → Result Sent CodecError
+answered x = Err x
+
+pub names-none : (x : CodecError) (f : Wrong) → x ≡ errors.NoMemory → answered x ≡ Err (errors.Fault f) → ⊥
+names-none x f is h = cc
+
+-- bytes take memory that are neither too many nor of another version or kind
+late-found : (f : Wrong) → IsLate f → is_found_early (Fault (fault_number f)) ≡ false
+late-found Truncated l = refl
+late-found TrailingBytes l = refl
+late-found Version l = absurd l
+late-found Kind l = absurd l
+late-found Limit l = refl
+late-found BadSlices l = refl
+late-found BadStatement l = refl
+late-found SpareVersion l = refl
+
+pub takes-memory : (bytes : List ℕ) → (most_bytes < length bytes → ⊥) → (length bytes ≤ most_bytes → HasOtherVersion bytes → ⊥) → (length bytes ≤ most_bytes → HasOtherKind bytes → ⊥) → MayTakeMemory (length bytes) (reading bytes)
+unfolding reading
+takes-memory bytes long version kind = (few, found (decoding bytes) refl)
+  where
+    within : (b : Bool) → ltb 65536 (length bytes) ≡ b → length bytes ≤ most_bytes
+    within true e = absurd (long (ltb-true _ _ e))
+    within false e = ltb-false _ _ e
+
+    few : length bytes ≤ most_bytes
+    few = within (ltb 65536 (length bytes)) refl
+
+    found : (r : Result Sent Wrong) → decoding bytes ≡ r → is_found_early (reading_of_result r) ≡ false
+    found (Ok e) h = refl
+    found (Err f) h =
+        elim (is_placed bytes f h) [
+          | inl l ↦ late-found f l
+          | inr o ↦ elim o [
+            | inl v ↦ absurd (version few v)
+            | inr k ↦ absurd (kind few k)
+          ]
+        ]

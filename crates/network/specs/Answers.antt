@@ -1,13 +1,15 @@
 -- What an applied event of a network leaves.
-use Rattle.std.specs.Prelude.{◌≡◌, ℕ, map, Option, Some, None, IfSome, option_map}
+use Rattle.std.specs.Prelude.{◌≡◌, ◌⊎◌, ℕ, map, Option, Some, None, IfSome, option_map}
 use Rattle.types.specs.Statements.{Sent}
+use Rattle.types.specs.declared.event.Refusal.{Refusal}
+use Rattle.types.specs.declared.event.Refusal.TheVariants.{NoMemory}
 use Rattle.protocol.specs.Networks.{Net, Step}
 use Rattle.protocol.specs.Networks.Reading.{Read}
 use Rattle.protocol.specs.Networks.Step.{Delivers}
 use Rattle.envstore.specs.Archives.{IsFiled, sent_of}
 use Rattle.slot.specs.Filings.{AreFiledOuts, copies_of, outs_of}
 use Rattle.network.specs.Marks.{marks_in}
-use Rattle.network.specs.Standing.{IsStep, Standing, StandsFor, machine_of}
+use Rattle.network.specs.Standing.{IsAllowed, IsStep, Standing, StandsFor, machine_of}
 use Rattle.network.specs.declared.applied.Outcome.{Outcome}
 
 -- the envelope that an event delivers
@@ -24,3 +26,8 @@ pub record IsApplied (old : Standing) (e : Step) (count : ℕ) (new : Standing) 
   pub outs : AreFiledOuts new.archive a.outs.items
   pub delivered : option_map sent_of a.delivered ≡ delivered_of e
   pub filed : IfSome a.delivered (IsFiled new.archive)
+
+-- What an event leaves that is refused: all as it was, the archive too; or memory was wanting for an event that no test
+-- refuses.
+abbrev pub IsLeft : Standing → Step → Standing → Refusal → Type 0
+IsLeft old e new r = (new ≡ old) ⊎ ((r ≡ NoMemory) × IsAllowed (machine_of old) e)

@@ -17,7 +17,7 @@ use Rattle.configuration.specs.Configs.{index_in, index_of_name}
 use Rattle.network.specs.Lodgings.{IsLodged, IsUncounted, Seat, Seats, seats_of, slot_of}
 use Rattle.network.specs.Answers.{delivered_of}
 use Rattle.network.specs.Marks.{slot_and_node_of}
-use Rattle.network.specs.Standing.{IsAllowed, IsRefusal, Machine, Standing, StandsFor, machine_of}
+use Rattle.network.specs.Standing.{IsAllowed, IsFirstRefusal, IsRefusal, Machine, Standing, StandsFor, machine_of}
 use Rattle.network.specs.declared.plan.Deed.{Deed}
 use Rattle.network.specs.declared.plan.Deed.TheVariants.{Open, Close, Act, Hand}
 use Rattle.network.specs.declared.plan.Drawn.{Drawn}
@@ -118,6 +118,11 @@ abbrev pub IsPlanned : Standing → Step → Result Plan Refusal → Type 0
 IsPlanned m e (Ok plan) = IsPlan m e plan
 IsPlanned m e (Err r) = IsRefusal (machine_of m) e r
 
+-- a plan that takes no memory, or the first refusal that applies
+abbrev pub IsPlannedSurely : Standing → Step → Result Plan Refusal → Type 0
+IsPlannedSurely m e (Ok plan) = IsPlan m e plan
+IsPlannedSurely m e (Err r) = IsFirstRefusal (machine_of m) e r
+
 -- what it draws on is there
 abbrev pub IsDrawnThere : Machine → Drawn → Type 0
 IsDrawnThere m d = (s : Source) × IsDrawn m d s
@@ -199,6 +204,6 @@ pub record IsOwnEvent (i u : ℕ) (x : FiledEvent) (e : Step) : Type 0 where
   pub named_is : slot_and_node_of e ≡ Some (i, u)
   pub none_is : delivered_of e ≡ None
 
--- a plan for it, or a refusal
+-- a plan for it, or the first refusal that applies
 abbrev pub IsPlannedOwn : Standing → ℕ → ℕ → FiledEvent → Result Plan Refusal → Type 0
-IsPlannedOwn m i u x result = (e : Step) → IsOwnEvent i u x e → IsPlanned m e result
+IsPlannedOwn m i u x result = (e : Step) → IsOwnEvent i u x e → IsPlannedSurely m e result

@@ -1,13 +1,17 @@
 -- A network as the host keeps it, and the networks of the definitions that it stands for.
-use Rattle.std.specs.Prelude.{◌≡◌, ◌⊎◌, ℕ, ◌≤◌, true, List, map, option_map, Option, Some, None}
+use Rattle.std.specs.Prelude.{◌≡◌, ◌⊎◌, ℕ, ◌≤◌, ◌==◌, ◌||◌, Bool, true, false, List, map, option_map, Option, Some, None}
 use Rattle.std.specs.List.{AllByRecursion}
 use Rattle.types.specs.Statements.{Sent}
 use Rattle.types.specs.Trees.{Slices, all_differ}
 use Rattle.types.specs.declared.event.Out.{Out}
 use Rattle.types.specs.declared.event.Refusal.{Refusal}
 use Rattle.types.specs.declared.event.Refusal.TheVariants.{NoMemory}
+use Rattle.codec.specs.Answers.{fault_number}
+use Rattle.codec.specs.Spelling.{most_bytes}
+use Rattle.codec.specs.declared.error.Fault.TheVariants.{Version, Kind}
 use Rattle.protocol.specs.Hosts.{Config}
-use Rattle.protocol.specs.Networks.{HostedNode, Net, Step, first_that, node_where_open, net_step, instances_at, tests}
+use Rattle.protocol.specs.Networks.{HostedNode, Net, Reading, Step, first_that, node_where_open, net_step, instances_at, tests}
+use Rattle.protocol.specs.Networks.Reading.{Read, Fault}
 use Rattle.protocol.specs.Networks.Reply.{Done}
 use Rattle.protocol.specs.Networks.Step.{Delivers}
 use Rattle.protocol.specs.Rosters.{Draw}
@@ -89,13 +93,24 @@ IsStep old e os new =
 abbrev pub IsAllowed : Machine → Step → Type 0
 IsAllowed m e = (net : Net) → StandsFor m net → first_that (tests net e) ≡ None
 
--- bytes come to a hosted node: they are read before all that the order of refusals has behind them
+-- this is the first refusal that applies, whatever network the machine stands for
+abbrev pub IsFirstRefusal : Machine → Step → Refusal → Type 0
+IsFirstRefusal m e r = (net : Net) → StandsFor m net → first_that (tests net e) ≡ Some r
+
+-- whether bytes have a fault that is found before memory is asked for: in the version, or in the kind
+abbrev pub is_found_early : Reading → Bool
+is_found_early (Read e) = false
+is_found_early (Fault n) = n == fault_number Version || n == fault_number Kind
+
+-- so many bytes that say this may take memory to be read: they are not too many, and have no such fault
+abbrev pub MayTakeMemory : ℕ → Reading → Type 0
+MayTakeMemory size said = (size ≤ most_bytes) × (is_found_early said ≡ false)
+
+-- such bytes come to a hosted node: they are read before all that the order of refusals has behind them
 abbrev pub AreBytesRead : List HostedNode → Step → Type 0
-AreBytesRead nodes (Delivers u size said) = (h : ℕ) × (index_of_name nodes u ≡ Some h)
+AreBytesRead nodes (Delivers u size said) = ((h : ℕ) × (index_of_name nodes u ≡ Some h)) × MayTakeMemory size said
 AreBytesRead nodes _ = ⊥
 
 -- this is the first refusal that applies; or memory is wanting, and none applies, save that bytes were being read
 abbrev pub IsRefusal : Machine → Step → Refusal → Type 0
-IsRefusal m e r =
-    ((r ≡ NoMemory) × (IsAllowed m e ⊎ AreBytesRead m.config.nodes e))
-    ⊎ ((net : Net) → StandsFor m net → first_that (tests net e) ≡ Some r)
+IsRefusal m e r = ((r ≡ NoMemory) × (IsAllowed m e ⊎ AreBytesRead m.config.nodes e)) ⊎ IsFirstRefusal m e r

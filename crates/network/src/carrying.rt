@@ -1,7 +1,7 @@
 //! What was planned is done.
 //!
 //! Where a function here answers an `AllocError`, memory is short, and nothing happened but that the archive may
-//! have more.
+//! have what was filed for the event before.
 
 ghost use Rattle.std.specs.Prelude.{◌≡◌, ◌<◌, ◌≤◌, ◌+◌, ◌^◌, ◌++◌, ◌∷◌, [], IfErr, IfOk, List, None, OnErr, OnOk, Some, length, true, ℕ};
 ghost use Rattle.std.specs.List.{All, remove};
@@ -12,7 +12,7 @@ ghost use Rattle.envstore.specs.Archives.{Keeps};
 ghost use Rattle.protocol.specs.Rosters.{Roster as Names};
 ghost use Rattle.slot.specs.Filings.{IsFiledEvent, event_of};
 ghost use Rattle.types.specs.declared.event.NodeEvent.{NodeEvent};
-ghost use Rattle.network.specs.Answers.{IsApplied};
+ghost use Rattle.network.specs.Answers.{IsApplied, IsLeft};
 ghost use Rattle.network.specs.Changes.{IsChangedAt};
 ghost use Rattle.network.specs.Charges.{HasRoomOnNetwork, IsReady, IsSlotActed, on_budgets_of, on_opens_of};
 ghost use Rattle.network.specs.Decoding.{step_of};
@@ -36,13 +36,17 @@ impl<S: Shelf> Network<S> {
     /// One event: it is tested in the order of the refusals, what needs memory is made, and then it is done.
     /// Of what it gives out so many whole copies are made as are asked for.
     ///
-    /// An error is the first refusal that applies, or says that memory is short, which it does only where none
-    /// applies, or while the bytes of an envelope are read; then the network is as it was, but that the archive
-    /// may have more.
+    /// An error is the first refusal that applies. Or it says that memory is short: then no refusal applies, or
+    /// bytes came to a hosted node that may take memory to be read, which are at most 65,536, with a version and
+    /// a kind that there are.
+    ///
+    /// After a refusal that applies, all is as it was, the archive too. If none applies and memory was short, the
+    /// archive may have what was filed for the event before, and all else is as it was.
     pub fn apply(&mut self, event: &Event, copies: usize) -> Result<Outcome, Refusal>
         ensures applied { IfOk result (IsApplied self.old (step_of event.now) copies self.new) }
         ensures err { IfErr result (IsRefusal (machine_of self.old) (step_of event.now)) }
         ensures same { OnErr result (machine_of self.new ≡ machine_of self.old) }
+        ensures left { IfErr result (IsLeft self.old (step_of event.now) self.new) }
         ensures config { self.new.config ≡ self.old.config }
         ensures kept { Keeps self.old.archive self.new.archive }
     {

@@ -4,9 +4,9 @@ ghost use Rattle.std.specs.Prelude.{◌≡◌, IfOk, MatchResult, Some, length, 
 ghost use Rattle.protocol.specs.Networks.Reading.{Read};
 ghost use Rattle.protocol.specs.Networks.Step.{Delivers, Hears};
 ghost use Rattle.configuration.specs.Configs.{index_of_name};
-ghost use Rattle.network.specs.Decoding.{reading};
-ghost use Rattle.network.specs.Deeds.{IsPairRoom, IsPaired, IsPlan, IsPlanned, IsSlotThere};
-ghost use Rattle.network.specs.Standing.{IsRefusal, machine_of};
+ghost use Rattle.network.specs.Decoding.{reading, said_by};
+ghost use Rattle.network.specs.Deeds.{IsPairRoom, IsPaired, IsPlan, IsPlanned, IsPlannedSurely, IsSlotThere};
+ghost use Rattle.network.specs.Standing.{IsFirstRefusal, machine_of};
 ghost use Rattle.network.specs.declared.plan.Deed.TheVariants.{Hand};
 
 use crate::network::Network;
@@ -18,16 +18,31 @@ use types::{Envelope, NodeId, Refusal};
 
 impl<S: Shelf> Network<S> {
     /// What is to be done where bytes reach a node. A growth that is refused in reading them is answered at
-    /// once.
+    /// once; here alone memory is wanting beside a refusal that applies.
     pub(crate) fn plan_deliver(&self, node: &NodeId, bytes: &[u8]) -> Result<Plan, Refusal>
         ensures { IsPlanned self.now (Delivers node.now (length bytes.now) (reading bytes.now)) result }
     {
         let node_at = self.node_place(node)?;
         match read(self.alloc, bytes) {
             Err(_) => Err(Refusal::NoMemory),
-            Ok(Reading::Faulty(number)) => Err(Refusal::BadEnvelope(number)),
-            Ok(Reading::Says(envelope)) => {
-                let size = bytes.len() as u64;
+            Ok(said) => self.plan_read(node_at, node, said, bytes.len() as u64),
+        }
+    }
+
+    /// What is to be done where a node gets what was read in so many bytes. It takes no memory.
+    fn plan_read(
+        &self,
+        node_at: usize,
+        node: &NodeId,
+        said: Reading,
+        size: u64,
+    ) -> Result<Plan, Refusal>
+        requires { index_of_name self.now.config.nodes node.now ≡ Some node_at }
+        ensures { IsPlannedSurely self.now (Delivers node.now size (said_by said)) result }
+    {
+        match said {
+            Reading::Faulty(number) => Err(Refusal::BadEnvelope(number)),
+            Reading::Says(envelope) => {
                 match self.envelope_room(node_at, node, &envelope, size) {
                     Err(refusal) => {
                         drop(envelope);
@@ -48,7 +63,7 @@ impl<S: Shelf> Network<S> {
     }
 
     /// The place of the slot of an envelope of so many bytes that reaches a node, and on what it draws, where
-    /// nothing refuses it.
+    /// nothing refuses it. It takes no memory.
     fn envelope_room(
         &self,
         node_at: usize,
@@ -57,7 +72,7 @@ impl<S: Shelf> Network<S> {
         size: u64,
     ) -> Result<(usize, Drawn), Refusal>
         requires { index_of_name self.now.config.nodes node.now ≡ Some node_at }
-        ensures { MatchResult result (λ r. IsPlan self.now (Delivers node.now size (Read envelope.now)) (record { deed = Hand r.0 node_at envelope.now; drawn = r.1; size = size })) (IsRefusal (machine_of self.now) (Delivers node.now size (Read envelope.now))) }
+        ensures { MatchResult result (λ r. IsPlan self.now (Delivers node.now size (Read envelope.now)) (record { deed = Hand r.0 node_at envelope.now; drawn = r.1; size = size })) (IsFirstRefusal (machine_of self.now) (Delivers node.now size (Read envelope.now))) }
     {
         let _slots = &self.slots;
         if self.config.place(envelope.sender()).is_some() {
@@ -70,14 +85,14 @@ impl<S: Shelf> Network<S> {
         Ok((slot_at, drawn))
     }
 
-    /// What is to be done where a node hears what another one has emitted.
+    /// What is to be done where a node hears what another one has emitted. It takes no memory.
     pub(crate) fn plan_hear(
         &self,
         slot: u64,
         node: &NodeId,
         emission: &Emission,
     ) -> Result<Plan, Refusal>
-        ensures { IsPlanned self.now (Hears slot node.now emission.now.from emission.now.kind emission.now.number) result }
+        ensures { IsPlannedSurely self.now (Hears slot node.now emission.now.from emission.now.kind emission.now.number) result }
     {
         let _slots = &self.slots;
         let node_at = self.node_place(node)?;

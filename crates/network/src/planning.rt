@@ -5,7 +5,7 @@ ghost use Rattle.protocol.specs.Networks.{is_bad_value};
 ghost use Rattle.protocol.specs.Networks.Step.{Opens, Closes, Proposes, NominationTimerFires, BallotTimerFires, Reslices};
 ghost use Rattle.configuration.specs.Configs.{index_of_name};
 ghost use Rattle.network.specs.Decoding.{step_of};
-ghost use Rattle.network.specs.Deeds.{IsOwnRoom, IsPlanned, IsPlannedOwn, IsSlotThere, IsSpot, IsSpotRefused};
+ghost use Rattle.network.specs.Deeds.{IsOwnRoom, IsPlanned, IsPlannedOwn, IsPlannedSurely, IsSlotThere, IsSpot, IsSpotRefused};
 ghost use Rattle.network.specs.Standing.{IsRefusal, machine_of};
 ghost use Rattle.network.specs.declared.plan.Deed.TheVariants.{Act};
 ghost use Rattle.slot.specs.Filings.{IsFiledEvent};
@@ -18,8 +18,9 @@ use slot::FiledEvent;
 use types::{Event, MAX_VALUE_LENGTH, Nested, NodeId, Refusal, Value};
 
 impl<S: Shelf> Network<S> {
-    /// What is to be done for an event, or the first refusal that applies; or that memory is short, which comes
-    /// before a refusal only while the bytes of an envelope are read. Nothing is changed.
+    /// What is to be done for an event, or the first refusal that applies. Or memory is short: then no refusal
+    /// applies, or bytes came to a hosted node that may take memory to be read. Nothing is changed.
+    #[tactic(auto, using(crate::proofs::Planned::planned))]
     pub(crate) fn plan(&self, event: &Event) -> Result<Plan, Refusal>
         ensures { IsPlanned self.now (step_of event.now) result }
     {
@@ -100,9 +101,9 @@ impl<S: Shelf> Network<S> {
         self.slots.len() as u64 >= self.config.budgets().slots()
     }
 
-    /// What is to be done to close a slot.
+    /// What is to be done to close a slot. It takes no memory.
     fn plan_close(&self, slot: u64) -> Result<Plan, Refusal>
-        ensures { IsPlanned self.now (Closes slot) result }
+        ensures { IsPlannedSurely self.now (Closes slot) result }
     {
         let _slots = &self.slots;
         let slot_at = self.open_slot(slot)?;
@@ -134,21 +135,21 @@ impl<S: Shelf> Network<S> {
         }
     }
 
-    /// What is to be done where a node's nomination timer fires.
+    /// What is to be done where a node's nomination timer fires. It takes no memory.
     fn plan_nomination_timer(&self, slot: u64, node: &NodeId, round: u32) -> Result<Plan, Refusal>
-        ensures { IsPlanned self.now (NominationTimerFires slot node.now round) result }
+        ensures { IsPlannedSurely self.now (NominationTimerFires slot node.now round) result }
     {
         self.plan_own(slot, node, FiledEvent::NominationTimer(round))
     }
 
-    /// What is to be done where a node's ballot timer fires.
+    /// What is to be done where a node's ballot timer fires. It takes no memory.
     fn plan_ballot_timer(&self, slot: u64, node: &NodeId, counter: u32) -> Result<Plan, Refusal>
-        ensures { IsPlanned self.now (BallotTimerFires slot node.now counter) result }
+        ensures { IsPlannedSurely self.now (BallotTimerFires slot node.now counter) result }
     {
         self.plan_own(slot, node, FiledEvent::BallotTimer(counter))
     }
 
-    /// What is to be done for an event of a node's own that nothing else refuses.
+    /// What is to be done for an event of a node's own that nothing else refuses. It takes no memory.
     fn plan_own(&self, slot: u64, node: &NodeId, event: FiledEvent) -> Result<Plan, Refusal>
         requires { IsFiledEvent self.now.archive event }
         ensures { IsPlannedOwn self.now slot node.now event result }

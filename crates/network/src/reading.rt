@@ -1,7 +1,8 @@
 //! What bytes say, as a network reads them.
 
-ghost use Rattle.std.specs.Prelude.{◌≡◌, IfOk};
+ghost use Rattle.std.specs.Prelude.{◌≡◌, IfErr, IfOk, length};
 ghost use Rattle.network.specs.Decoding.{ReadingsAreExact, reading, said_by};
+ghost use Rattle.network.specs.Standing.{MayTakeMemory};
 ghost use Rattle.protocol.specs.Submissions.{HasOneLength};
 
 use codec::{CodecError, decode};
@@ -17,9 +18,11 @@ pub(crate) enum Reading {
     Faulty(u8),
 }
 
-/// What the bytes say. An error says that memory is short.
+/// What the bytes say. An error says that memory is short; it comes of no bytes that are too many, or have a
+/// fault in the version or in the kind.
 pub(crate) fn read(alloc: Global, bytes: &[u8]) -> Result<Reading, AllocError>
-    ensures { IfOk result (λ r. said_by r ≡ reading bytes.now) }
+    ensures said { IfOk result (λ r. said_by r ≡ reading bytes.now) }
+    ensures memory { IfErr result (λ _. MayTakeMemory (length bytes.now) (reading bytes.now)) }
 {
     match decode(alloc, bytes) {
         Ok(envelope) => Ok(Reading::Says(envelope)),

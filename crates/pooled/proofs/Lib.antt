@@ -4,5 +4,5 @@ mod StandingLaws
 mod WritingLaws
 mod JoiningLaws
 mod HostedSeats
-mod PassLaws
+mod TurnLaws
 mod Crossing

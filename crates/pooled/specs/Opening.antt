@@ -2,7 +2,6 @@
 use Rattle.std.specs.Prelude.{◌≡◌, ◌==◌, ◌⊎◌, ℕ, List, [], ◌∷◌, Some, filter, length, map, slice_get, slice_set}
 use Rattle.std.specs.List.{AllZip}
 use Rattle.types.specs.declared.event.Event.TheVariants.{OpenSlot}
-use Rattle.types.specs.declared.event.Out.{Out}
 use Rattle.protocol.specs.Hosts.{Config}
 use Rattle.cells.specs.declared.refusal.CellRefusal.{CellRefusal}
 use Rattle.cells.specs.Cells.{AllFresh, IsApplied, IsDenial}
@@ -18,7 +17,7 @@ slots_of g opens = map (λ o. o.1) (filter (λ o. o.0 == g) opens)
 -- a seat has asked to open a slot: this was applied, or it was refused
 abbrev pub HasAsked : CellSight → ℕ → SeatSight → SeatSight → Type 0
 HasAsked c slot old new =
-    ((outs : List Out) × IsApplied c (OpenSlot slot) outs old new)
+    IsApplied c (OpenSlot slot) old new
     ⊎ ((r : CellRefusal) × IsDenial (OpenSlot slot) r old new × IsWhy c.config new.me.seen new.me.stopped (OpenSlot slot) r)
 
 -- a seat has asked to open slots, one after the other

@@ -10,7 +10,7 @@ use Rattle.work.specs.Hands.{weigh}
 use Rattle.work.specs.declared.rule.Job.{Job}
 use Rattle.cells.specs.Sights.{SeatSight}
 use Rattle.workers.specs.NetSights.{Net}
-use Rattle.workers.specs.Nets.{AllGrownNets, IsClosedNet, IsAllOrNothing}
+use Rattle.workers.specs.Nets.{AllGrownNets, IsClosedNet, IsDone}
 use Rattle.workers.specs.declared.running.Report.{Report}
 use Rattle.pooled.specs.Opening.{AreHosted}
 use Rattle.pooled.specs.PoolLines.{AreAllDecidedLines, AreDecidedLines, length_line, length_lines, report_line}
@@ -48,23 +48,23 @@ pub record AreJournalLines (nets : List Net) (decided lengths : Bytes) : Type 0 
 
 -- what is printed of networks: what the nodes of each have externalized, then the length of each journal, then the
 -- counts of jobs
-pub record IsTextOfNets (nets : List Net) (one other : Report) (text : Bytes) : Type 0 where
+pub record IsTextOfNets (nets : List Net) (report : Report) (text : Bytes) : Type 0 where
   pub decided : Bytes
   pub lengths : Bytes
   pub written : AreJournalLines nets decided lengths
-  pub parts : text ≡ (decided ++ lengths)
-      ++ report_line (one.applied + other.applied) (one.refused + other.refused) (one.unrun + other.unrun)
+  pub parts : text ≡ (decided ++ lengths) ++ report_line report.applied report.refused report.unrun
 
--- what was done with jobs, first by one thread, then by workers. What the first put in the queue and took from it,
--- weighed, is what the workers find there, and leave.
-pub record AreDone (jobs : List Job) (ready ended : List Net) (one other : Report) : Type 0 where
-  pub offered : List Net
-  pub put : (Job → ℕ) → ℕ
-  pub taken : (Job → ℕ) → ℕ
-  pub kept : AllGrownNets ready offered
-  pub offers : IsAllOrNothing ready offered (λ h. weigh h jobs + taken h) put one
-  pub grown : AllGrownNets offered ended
-  pub runs : IsAllOrNothing offered ended put taken other
+-- The jobs were done, and what follows from them. However jobs are weighed: these, and one for each emission that was
+-- gained and each other hosted node of its network, are the events that were gained as receipts and as denials, and
+-- those of networks that are not here; and the report has the numbers of these.
+pub record AreDone (jobs : List Job) (ready ended : List Net) (report : Report) : Type 0 where
+  pub grown : AllGrownNets ready ended
+  pub done : IsDone ready ended (λ h. weigh h jobs) (λ h. 0) report
+
+-- some of the jobs were done, and the others are left
+abbrev pub IsTurn : List Job → List Job → List Net → List Net → Report → Type 0
+IsTurn jobs left ready ended report =
+    (put : List Job) × ((h : Job → ℕ) → weigh h put + weigh h left ≡ weigh h jobs) × AreDone put ready ended report
 
 -- networks of these configurations join, each with so many seats and its first slots; the events are jobs; and what
 -- becomes of them is written
@@ -72,8 +72,7 @@ pub record IsPoolText (configs : List Config) (calls : List (ℕ × Event)) (ope
     (text : Bytes) : Type 0 where
   pub ready : List Net
   pub ended : List Net
-  pub one : Report
-  pub other : Report
+  pub report : Report
   pub joined : AreHosted workers opens [] configs ready
-  pub done : AreDone (jobs_of calls) ready ended one other
-  pub written : IsTextOfNets ended one other text
+  pub done : AreDone (jobs_of calls) ready ended report
+  pub written : IsTextOfNets ended report text

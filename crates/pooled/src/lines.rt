@@ -11,6 +11,7 @@ use hoststep::Journal;
 use scripts::{push_name, push_value};
 use std::alloc::{AllocError, Global};
 use std::fmt::Write;
+use workers::Report;
 
 /// Adds a line for each node that has externalized at an open slot, ascending by slot and then by name:
 /// `decided`, the number of the network, the slot, the name and the value. Where memory is wanting, a part
@@ -61,13 +62,13 @@ pub fn push_length<S: Shelf>(text: &mut String, journal: &Journal<S>) -> Result<
 
 /// Adds the line of how many jobs were applied, refused and not run. Where memory is wanting, a part may have
 /// been added.
-pub fn push_report(
-    text: &mut String,
-    applied: u128,
-    refused: u128,
-    unrun: u128,
-) -> Result<(), AllocError>
-    ensures { OnOk result (string_bytes text.new ≡ string_bytes text.old ++ report_line applied refused unrun) }
+pub fn push_report(text: &mut String, report: Report) -> Result<(), AllocError>
+    ensures { OnOk result (string_bytes text.new ≡ string_bytes text.old ++ report_line report.applied report.refused report.unrun) }
 {
+    let Report {
+        applied,
+        refused,
+        unrun,
+    } = report;
     write!(text, "applied {applied} refused {refused} unrun {unrun}\n")
 }

@@ -1,11 +1,10 @@
 //! A whole script on a pool of workers.
 
-ghost use Rattle.std.specs.Prelude.{◌≡◌, ◌<◌, ◌≤◌, ◌+◌, ◌++◌, ℕ, IfOk, OnOk, [], reverse, string_bytes};
+ghost use Rattle.std.specs.Prelude.{◌≡◌, ◌<◌, ◌≤◌, ◌++◌, ℕ, IfOk, OnOk, [], reverse, string_bytes};
 ghost use Rattle.std.specs.List.Sorted.{IsNonDecreasingBy};
 ghost use Rattle.std.specs.Thread.{IsSend, IsSync};
 ghost use Rattle.pooled.specs.Opening.{AreHosted, slots_of};
-ghost use Rattle.pooled.specs.PoolLines.{report_line};
-ghost use Rattle.pooled.specs.Pooling.{AreClosed, AreDone, AreJournalLines, IsPoolText, AddsJournalLines, IsTextOfNets, jobs_of};
+ghost use Rattle.pooled.specs.Pooling.{AreClosed, AreDone, AreJournalLines, IsPoolText, AddsJournalLines, IsTextOfNets, IsTurn, jobs_of};
 
 use crate::gate::Open;
 use crate::joining::{UnopenedNetworks, join_all, open_by};
@@ -21,7 +20,7 @@ use std::thread;
 use std::thread::Threads;
 use types::Event;
 use work::{Job, Queue};
-use workers::{Host, Report, offer, run};
+use workers::{Crew, Host, Report, offer, run};
 
 /// How many places the queue has where there are fewer jobs (this host's profile).
 const FEWEST_PLACES: usize = 1024;
@@ -42,8 +41,9 @@ struct JournalLines {
 /// applied, refused and not run. An error says that memory is short.
 ///
 /// All networks have one store of envelopes. The queue has a place for each job, from 1,024 places up to 65,536;
-/// what it has no place for is applied before the workers begin. Which order the jobs take is open. The memory of
-/// the journals that were written of is not given back: this is for a process that ends with the answer.
+/// where there are more jobs, the workers do as many as there are places, and then the next. Which order the jobs
+/// take is open. The memory of the journals that were written of is not given back: this is for a process that ends
+/// with the answer.
 pub fn run_pool<R: Threads + Wait + Sync + Send + Copy + Drop>(
     rt: &R,
     alloc: Global,
@@ -59,12 +59,12 @@ pub fn run_pool<R: Threads + Wait + Sync + Send + Copy + Drop>(
     let jobs = jobs_of(alloc, calls)?;
     let mut host = host_networks(rt, alloc, configs, opens, workers)?;
     let threads = workers as usize;
-    let Ok(reports) = run_jobs(rt, alloc, &mut host, jobs, threads) else {
+    let Ok(report) = run_jobs(rt, alloc, &mut host, jobs, threads) else {
         drop(host);
-        // Memory: the queue has no room.
+        // Memory: a queue or its workers have no room.
         return Err(AllocError);
     };
-    write_all(rt, alloc, host, threads, reports)
+    write_all(rt, alloc, host, threads, report)
 }
 
 /// The networks, each with so many seats, with their first slots open. As many threads as there are seats open
@@ -117,27 +117,56 @@ fn jobs_of(alloc: Global, calls: Vec<(u32, Event)>) -> Result<Vec<Job>, AllocErr
     Ok(jobs)
 }
 
-/// Puts the jobs, applies those for which there is no place, and has the workers run the others. The reports are
-/// those of before the workers, and of them.
+/// Has the workers run the jobs, as many at once as a queue has places. The report is that of all.
 fn run_jobs<R: Threads + Wait + Sync + Send + Drop>(
     rt: &R,
     alloc: Global,
     host: &mut Host<SharedHandle<R>, R>,
-    jobs: Vec<Job>,
+    mut jobs: Vec<Job>,
     workers: usize,
-) -> Result<(Report, Report), AllocError>
+) -> Result<Report, AllocError>
     requires some { 0 < workers }
     requires few { workers ≤ 64 }
-    ensures { IfOk result (λ r. AreDone jobs.items host.old host.new r.0 r.1) }
+    ensures { IfOk result (AreDone jobs.items host.old host.new) }
 {
-    let queue = Queue::new(alloc, places_for(jobs.len()), workers)?;
-    let (queue, offered) = offer(rt, host, queue, jobs, &Open);
-    let ran = run(rt, host, queue, workers, &Open);
-    Ok((offered, ran))
+    // The first job is the last of the list, which is where jobs are put from.
+    jobs.reverse();
+    let mut report = Report::none();
+    for _ in rt.forever() {
+        if jobs.is_empty() {
+            break;
+        }
+        let Ok(turn) = run_turn(rt, alloc, host, &mut jobs, workers) else {
+            drop(jobs);
+            return Err(AllocError);
+        };
+        report = report.plus(rt, turn);
+    }
+    Ok(report)
 }
 
-/// How many places a queue has for so many jobs: a place for each, so that the workers do them and not the one
-/// thread that puts them.
+/// Puts as many jobs as a queue has places for, the last first, and has the workers run them. The others are left.
+fn run_turn<R: Threads + Wait + Sync + Send + Drop>(
+    rt: &R,
+    alloc: Global,
+    host: &mut Host<SharedHandle<R>, R>,
+    jobs: &mut Vec<Job>,
+    workers: usize,
+) -> Result<Report, AllocError>
+    requires some { 0 < workers }
+    requires few { workers ≤ 64 }
+    ensures { IfOk result (IsTurn jobs.old.items jobs.new.items host.old host.new) }
+{
+    let crew = Crew::new(alloc, &*host, workers)?;
+    let Ok((queue, mut passes)) = Queue::new(alloc, places_for(jobs.len()), workers) else {
+        drop(crew);
+        return Err(AllocError);
+    };
+    offer(rt, &queue, &mut passes[0], jobs);
+    Ok(run(rt, host, crew, (queue, passes), &Open))
+}
+
+/// How many places a queue has for so many jobs: a place for each, as far as it can.
 fn places_for(jobs: usize) -> usize
     ensures { (0 < result) × (result ≤ 65536) }
 {
@@ -145,24 +174,23 @@ fn places_for(jobs: usize) -> usize
 }
 
 /// Closes each network, and says, ascending, what became of it, and how many jobs were applied, refused and not
-/// run by both reports. So many threads close and write.
+/// run. So many threads close and write.
 fn write_all<R: Threads + Wait + Sync + Send + Drop>(
     rt: &R,
     alloc: Global,
     host: Host<SharedHandle<R>, R>,
     threads: usize,
-    reports: (Report, Report),
+    report: Report,
 ) -> Result<String, AllocError>
-    ensures { IfOk result (λ text. IsTextOfNets host reports.0 reports.1 (string_bytes text)) }
+    ensures { IfOk result (λ text. IsTextOfNets host report (string_bytes text)) }
 {
-    let (one, other) = reports;
     let written = write_by(rt, alloc, host, threads)?;
     let JournalLines {
         mut decided,
         lengths,
     } = written;
     decided.push_str(lengths.as_str())?;
-    push_both(&mut decided, one, other)?;
+    push_report(&mut decided, report)?;
     Ok(decided)
 }
 
@@ -181,7 +209,11 @@ fn write_by<R: Threads + Wait + Sync + Send + Drop>(
         return write_alone(rt, alloc, host);
     }
     let count = host.len() / 2;
-    let (low, high) = host.split_at(count)?;
+    let (low, high) = match host.split_at(count) {
+        Ok(parts) => parts,
+        // Memory: this thread does the part alone.
+        Err(host) => return write_alone(rt, alloc, host),
+    };
     let fewer = threads / 2;
     let more = threads - fewer;
     let write_low = move || -> Result<JournalLines, AllocError>
@@ -245,16 +277,6 @@ fn close_all<R: Wait + Drop>(
         journals.push(journal)?;
     }
     Ok(journals)
-}
-
-/// Adds the line of what two reports count. Where memory is wanting, a part may have been added.
-fn push_both(text: &mut String, one: Report, other: Report) -> Result<(), AllocError>
-    ensures { OnOk result (string_bytes text.new ≡ string_bytes text.old ++ report_line (one.applied + other.applied) (one.refused + other.refused) (one.unrun + other.unrun)) }
-{
-    let applied = one.applied as u128 + other.applied as u128;
-    let refused = one.refused as u128 + other.refused as u128;
-    let unrun = one.unrun as u128 + other.unrun as u128;
-    push_report(text, applied, refused, unrun)
 }
 
 /// Says of one journal more what its nodes have externalized, and how long it is. Where memory is wanting, a part

@@ -10,21 +10,21 @@ use Rattle.types.specs.declared.event.Event.TheVariants as event
 use Rattle.protocol.specs.Networks.{Budgets}
 use Rattle.protocol.specs.Rosters.{Shares}
 use Rattle.configuration.specs.declared.roster.Reservation.{Reservation}
-use Rattle.runs.specs.declared.requests.Declaration.TheVariants.{Roster}
-use Rattle.runs.specs.declared.requests.Request.{Request}
-use Rattle.runs.specs.declared.requests.Request.TheVariants.{Declare, Apply, Settle}
-use Rattle.runs.specs.declared.verbs.Verb.{Verb}
-use Rattle.runs.specs.declared.verbs.Verb.TheVariants as verb
-use Rattle.runs.specs.declared.verbs.EventVerb.{EventVerb}
-use Rattle.runs.specs.declared.verbs.EventVerb.TheVariants as ask
-use Rattle.runs.specs.Outlines.{Outlined, Waiting, waiting_at}
+use Rattle.requests.specs.declared.request.Declaration.TheVariants.{Roster}
+use Rattle.requests.specs.declared.request.Request.{Request}
+use Rattle.requests.specs.declared.request.Request.TheVariants.{Declare, Apply, Settle}
+use Rattle.requests.specs.declared.verbs.Verb.{Verb}
+use Rattle.requests.specs.declared.verbs.Verb.TheVariants as verb
+use Rattle.requests.specs.declared.verbs.EventVerb.{EventVerb}
+use Rattle.requests.specs.declared.verbs.EventVerb.TheVariants as ask
+use Rattle.requests.specs.Outlines.{Outlined, Waiting, waiting_at}
 use Rattle.runs.specs.Joining.{NetworkIsNamedAt, Joins}
-use Rattle.runs.specs.Naming.{Named}
-use Rattle.runs.specs.Preparing.{IsPrepared}
-use Rattle.runs.specs.Taking.{takes}
-use Rattle.runs.specs.Lines.{AsksReslice, AsksResliceOf, AsksSay, AsksSayOf, IsAsked, IsRead, IsResliced, IsSaid, five, slot_and_node_in, three, verb_in}
-use Rattle.runs.specs.Requests.{AreAllowed, AsksNode, AsksRoster, IsNode, IsRequest, IsRequestOf, IsRequested, IsReserved, budgets_in, shares_in}
-use Rattle.runs.specs.Telling.{Allowed, HasNoNode, IsBadRequest, IsBare, Refuses}
+use Rattle.requests.specs.Naming.{Named}
+use Rattle.requests.specs.Preparing.{IsPrepared}
+use Rattle.requests.specs.Taking.{takes}
+use Rattle.requests.specs.Lines.{AsksReslice, AsksResliceOf, AsksSay, AsksSayOf, IsAsked, IsRead, IsResliced, IsSaid, five, slot_and_node_in, three, verb_in}
+use Rattle.requests.specs.Requests.{AreAllowed, AsksNode, AsksRoster, IsNode, IsRequest, IsRequestOf, IsRequested, IsReserved, budgets_in, shares_in}
+use Rattle.requests.specs.Telling.{Allowed, HasNoNode, IsBadRequest, IsBare, Refuses}
 use Rattle.runs.specs.Followed.{also_followed}
 use Rattle.runs.specs.Hosting.{Hosting, IsBegun, logs_joined}
 use Rattle.runs.specs.Running.{BadLinesTellNothing, all_allowed}

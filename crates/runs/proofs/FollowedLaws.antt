@@ -25,22 +25,22 @@ use Rattle.hoststep.specs.Logs.{Log, with_entry}
 use Rattle.world.specs.Worlds.{IsAnsweredAt, items_of, log_at, logs_set, logs_with}
 use Rattle.world.proofs.Histories.{has-number}
 use Rattle.hoststep.proofs.Growing.{run-grows}
-use Rattle.runs.specs.Outlines.{Outlined, IsConfigOf, IsRevised, Waiting, fresh, waiting_at, waiting_without}
+use Rattle.requests.specs.Outlines.{Outlined, IsConfigOf, IsRevised, Waiting, fresh, waiting_at, waiting_without}
 use Rattle.runs.specs.Emissions.{OpenSlot, OpenSlots, at_number, changed_at, handed_on}
 use Rattle.runs.specs.Followed.{Followed, also_followed, followed_with, turn_of, after_turn, with_handed}
 use Rattle.runs.specs.Hosting.{Hosting, IsApplied, IsBegun, logs_joined, noted_answer, new_hosting}
 use Rattle.runs.specs.Joining.{NetworkIsNamedAt}
-use Rattle.runs.specs.Naming.{Named, is_in, named_with}
-use Rattle.runs.specs.Preparing.{Prepares}
+use Rattle.requests.specs.Naming.{Named, is_in, named_with}
+use Rattle.requests.specs.Preparing.{Prepares}
 use Rattle.runs.specs.Running.{RefusesLine, Tells}
 use Rattle.runs.specs.Running.Tells.{declared, answered, settled}
 use Rattle.runs.specs.Settling.{AreHandedOn, HasSettledAt, IsHeardBy, handed_over, hearing}
 use Rattle.runs.specs.Settling.IsHeardBy.{by_all, by_one, refused}
 use Rattle.runs.specs.Settling.AreHandedOn.{none_waits, one_waits, cut_short}
-use Rattle.runs.specs.Taking.{declared_count, takes}
+use Rattle.requests.specs.Taking.{declared_count, takes}
 use Rattle.network.specs.declared.plan.Emission.{Emission}
-use Rattle.runs.specs.declared.requests.Declaration.{Declaration}
-use Rattle.runs.specs.declared.requests.Declaration.TheVariants.{Net, Node, Roster}
+use Rattle.requests.specs.declared.request.Declaration.{Declaration}
+use Rattle.requests.specs.declared.request.Declaration.TheVariants.{Net, Node, Roster}
 use Rattle.runs.specs.ByJournals.{AreFollowed, AreSlotsAt, AreSlotsBy, FollowsJournals, HaveRoom, IsSlotBy, LinesFollowJournals, RunsFollowJournals}
 use Rattle.runs.proofs.NumberedRows.{at-changed, at-inserted, at-removed, at-set, equal-flip, has-inserted, keys-inserted, length-inserted, length-removed, length-set, once-changed, once-inserted, once-removed, once-set}
 use Rattle.runs.proofs.NetsByEntries.{slots-next, turn_in}

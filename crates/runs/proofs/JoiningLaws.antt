@@ -1,7 +1,7 @@
 -- Networks join one after the other.
 use Rattle.std.proofs.Common.{◌≡◌, ℕ, [], ◌∷◌, Ok, Err, sym, subst}
 use Rattle.std.specs.Prelude.{OnOk, Result}
-use Rattle.runs.specs.Outlines.{Outlined, Waiting}
+use Rattle.requests.specs.Outlines.{Outlined, Waiting}
 use Rattle.runs.specs.Joining.{HasJoined, HaveJoined, Joins}
 use Rattle.runs.specs.Joining.HaveJoined.{none, next}
 

@@ -1,11 +1,8 @@
 pub mod BadLines
-mod OutlineLaws
 mod Hearings
 mod JoiningLaws
 mod Places
-mod RosterLaws
 mod UnprintedLines
-mod SayingLaws
 mod NumberedRows
 mod SlotsByEntries
 mod OutsAtPlaces

@@ -9,18 +9,18 @@ use Rattle.types.specs.declared.event.Refusal.{Refusal}
 use Rattle.world.specs.Worlds.{items_of}
 use Rattle.scripts.specs.Script.{Bytes}
 use Rattle.scripts.specs.Words.{word_counter}
-use Rattle.runs.specs.declared.requests.Request.{Request}
-use Rattle.runs.specs.declared.requests.Request.TheVariants.{Apply, Settle}
-use Rattle.runs.specs.declared.verbs.Verb.{Verb}
-use Rattle.runs.specs.Lines.{verb_in}
+use Rattle.requests.specs.declared.request.Request.{Request}
+use Rattle.requests.specs.declared.request.Request.TheVariants.{Apply, Settle}
+use Rattle.requests.specs.declared.verbs.Verb.{Verb}
+use Rattle.requests.specs.Lines.{verb_in}
 use Rattle.runs.specs.Followed.{open_slot}
 use Rattle.runs.specs.Hosting.{Hosting}
-use Rattle.runs.specs.Replies.{IsReply, behind_space, refusal_text}
-use Rattle.runs.specs.Requests.{IsRequested, IsRequestOf}
+use Rattle.requests.specs.Replies.{IsReply, behind_space, refusal_text}
+use Rattle.requests.specs.Requests.{IsRequested, IsRequestOf}
 use Rattle.runs.specs.Running.{Tells}
 use Rattle.runs.specs.Running.Tells.{answered, settled}
 use Rattle.runs.specs.Settling.{line_of}
-use Rattle.runs.specs.Telling.{AsksOf, NamesNet, Settles}
+use Rattle.requests.specs.Telling.{AsksOf, NamesNet, Settles}
 use Rattle.runs.specs.Unprinted.{HadMemory, IsPutUnprinted, IsRunBy, IsSettledUnprinted}
 
 -- whatever is asked for, it is of this number

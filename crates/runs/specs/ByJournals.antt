@@ -18,11 +18,11 @@ use Rattle.hoststep.specs.Logs.{Log}
 use Rattle.world.specs.Worlds.{log_at}
 use Rattle.scripts.specs.Script.{Bytes}
 use Rattle.scripts.specs.Runs.{HasRun}
-use Rattle.runs.specs.Outlines.{Waiting, waiting_at}
+use Rattle.requests.specs.Outlines.{Waiting, waiting_at}
 use Rattle.runs.specs.Emissions.{OpenSlot, OpenSlots, at_number}
 use Rattle.runs.specs.Followed.{Followed, open_slot}
 use Rattle.runs.specs.Hosting.{Hosting, new_hosting}
-use Rattle.runs.specs.Naming.{Named, is_in}
+use Rattle.requests.specs.Naming.{Named, is_in}
 use Rattle.runs.specs.Running.{RefusesLine, Tells}
 
 -- ---- what entries gave out at a slot

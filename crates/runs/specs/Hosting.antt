@@ -7,11 +7,11 @@ use Rattle.types.specs.declared.event.Out.{Out}
 use Rattle.types.specs.declared.event.Refusal.{Refusal}
 use Rattle.hoststep.specs.Logs.{Log}
 use Rattle.world.specs.Worlds.{IsAnswered, items_of, log_at, logs_with}
-use Rattle.runs.specs.Outlines.{Waiting, waiting_at}
+use Rattle.requests.specs.Outlines.{Waiting, waiting_at}
 use Rattle.runs.specs.Followed.{Followed, also_followed, followed_after, turn_of}
 use Rattle.runs.specs.Joining.{HaveJoined, NetworkIsNamed, Joins}
-use Rattle.runs.specs.Naming.{Named, named_with, new_named}
-use Rattle.runs.specs.Replies.{IsReply}
+use Rattle.requests.specs.Naming.{Named, named_with, new_named}
+use Rattle.requests.specs.Replies.{IsReply}
 
 -- the networks that wait for an event that names them, the numbers that events have named, and of the networks that
 -- joined what is kept for lines that settle, and the journals

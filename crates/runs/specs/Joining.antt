@@ -1,7 +1,7 @@
 -- Which networks join, of those that lines of scripts declare.
 use Rattle.std.specs.Prelude.{◌≡◌, ◌⊎◌, ℕ, [], ◌∷◌, Option, Some, None}
 use Rattle.protocol.specs.Hosts.{Config}
-use Rattle.runs.specs.Outlines.{Outlined, IsConfigOf, Waiting, waiting_at, waiting_without}
+use Rattle.requests.specs.Outlines.{Outlined, IsConfigOf, Waiting, waiting_at, waiting_without}
 
 -- how a network of a configuration joins others
 abbrev pub Joins : Type 0 → Type 0

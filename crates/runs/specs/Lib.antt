@@ -1,13 +1,6 @@
-pub mod Outlines
+pub mod ReplyLines
 pub mod Hosting
 pub mod Joining
-pub mod Naming
-pub mod Lines
-pub mod Preparing
-pub mod Taking
-pub mod Requests
-pub mod Replies
-pub mod Telling
 pub mod Emissions
 pub mod Followed
 pub mod SettledLines

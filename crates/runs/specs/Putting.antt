@@ -3,11 +3,11 @@ use Rattle.std.specs.Prelude.{◌≡◌, ◌++◌, ◌∷◌, [], ℕ, not, fals
 use Rattle.scripts.specs.Script.{Bytes}
 use Rattle.types.specs.declared.event.Event.{Event}
 use Rattle.types.specs.declared.event.Event.TheVariants.{OpenSlot, CloseSlot}
-use Rattle.runs.specs.Outlines.{Waiting}
+use Rattle.requests.specs.Outlines.{Waiting}
 use Rattle.runs.specs.Plans.{Plan}
-use Rattle.runs.specs.Preparing.{IsPrepared}
+use Rattle.requests.specs.Preparing.{IsPrepared}
 use Rattle.runs.specs.Submitting.{IsComplete, IsDeclared, IsSubmitted}
-use Rattle.runs.specs.Telling.{Allowed, AsksOf, BadLinesAreUntold, IsBadToAsk, Refuses, is_closing}
+use Rattle.requests.specs.Telling.{Allowed, AsksOf, BadLinesAreUntold, IsBadToAsk, Refuses, is_closing}
 
 -- the network of a number is named, and its slot is to be opened
 abbrev pub IsOpened : ℕ → ℕ → Plan → Plan → Type 0

@@ -3,9 +3,9 @@ use Rattle.std.specs.Prelude.{◌≡◌, ℕ, true, List, Option, Some, None}
 use Rattle.scripts.specs.Script.{Bytes}
 use Rattle.types.specs.declared.event.Event.{Event}
 use Rattle.runs.specs.Hosting.{Hosting, IsPut}
-use Rattle.runs.specs.Preparing.{IsPrepared}
+use Rattle.requests.specs.Preparing.{IsPrepared}
 use Rattle.runs.specs.Settling.{IsSettled}
-use Rattle.runs.specs.Telling.{Allowed, AsksOf, BadLinesAreUntold, Refuses, Settles}
+use Rattle.requests.specs.Telling.{Allowed, AsksOf, BadLinesAreUntold, Refuses, Settles}
 
 -- what a line tells. A declaration that is taken prints nothing, names nothing, and nothing of the networks that joined
 -- changes. An event is put to its network, and the answer is printed. A line that settles hands on what nodes have

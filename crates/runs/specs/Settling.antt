@@ -11,7 +11,7 @@ use Rattle.network.specs.declared.plan.Emission.{Emission}
 use Rattle.runs.specs.Emissions.{OpenSlot}
 use Rattle.runs.specs.Followed.{handed_at, names_at, open_slot, waiting, with_handed}
 use Rattle.runs.specs.Hosting.{Hosting, IsApplied, IsBegun}
-use Rattle.runs.specs.Replies.{refusal_text}
+use Rattle.requests.specs.Replies.{refusal_text}
 use Rattle.runs.specs.SettledLines.{settled_text}
 
 -- ---- one emission

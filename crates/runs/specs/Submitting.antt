@@ -5,11 +5,11 @@ use Rattle.types.specs.declared.event.Event.{Event}
 use Rattle.protocol.specs.Hosts.{History}
 use Rattle.protocol.specs.Submissions.{config_of}
 use Rattle.crowds.specs.Submitted.{and_then, with_config}
-use Rattle.runs.specs.Outlines.{Waiting, waiting_at}
+use Rattle.requests.specs.Outlines.{Waiting, waiting_at}
 use Rattle.runs.specs.Joining.{HaveJoined, NetworkIsNamed, Joins}
-use Rattle.runs.specs.Naming.{Named, named_with, new_named}
-use Rattle.runs.specs.Preparing.{IsPrepared}
-use Rattle.runs.specs.Telling.{Allowed, AsksOf, BadLinesAreUntold, Refuses}
+use Rattle.requests.specs.Naming.{Named, named_with, new_named}
+use Rattle.requests.specs.Preparing.{IsPrepared}
+use Rattle.requests.specs.Telling.{Allowed, AsksOf, BadLinesAreUntold, Refuses}
 
 -- the networks that wait for an event that names them, the numbers that events have named, and what has been submitted
 pub record Submitting : Type 0 where

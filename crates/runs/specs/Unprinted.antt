@@ -12,7 +12,7 @@ use Rattle.runs.specs.Hosting.{Hosting, IsApplied, IsBegun, IsFinished}
 use Rattle.runs.specs.Running.{RefusesLine, Tells}
 use Rattle.runs.specs.Running.Tells.{declared, answered, settled}
 use Rattle.runs.specs.Settling.{HasSettled}
-use Rattle.runs.specs.Telling.{NamesNet}
+use Rattle.requests.specs.Telling.{NamesNet}
 
 -- for each line that was run, in order, the network that it names, and how many entries the journal of that one has
 -- after it

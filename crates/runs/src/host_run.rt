@@ -9,14 +9,14 @@ ghost use Rattle.runs.specs.Hosting.{IsApplied, IsBegun, IsFinished, IsPut, new_
 ghost use Rattle.runs.specs.Unprinted.{IsPutUnprinted, IsRunBy, IsSettledUnprinted};
 ghost use Rattle.runs.specs.Running.{BadLinesTellNothing, RefusesLine};
 ghost use Rattle.runs.specs.Settling.{AreHandedOn, HandedOnIsCounted, HasSettled, HeardWaitsOn, IsHanded, IsHeardBy, IsSettled, line_of, others};
-ghost use Rattle.runs.specs.Telling.{HasNoNode};
+ghost use Rattle.requests.specs.Telling.{HasNoNode};
 
 use crate::followed::turn_of;
 use crate::nets::Nets;
-use crate::replies::{line_of_refusal, reply};
-use crate::requests::{Request, request_of};
+use crate::replies::reply;
 use envstore::VecShelf;
 use network::Emission;
+use requests::{Request, line_of_refusal, request_of};
 use scripts::{LineError, LineRunner};
 use std::alloc::{AllocError, Global};
 use std::marker::Model;

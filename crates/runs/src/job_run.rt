@@ -3,11 +3,11 @@
 ghost use Rattle.std.specs.Prelude.{◌≡◌, Err, OnOk};
 ghost use Rattle.runs.specs.Plans.{new_plan};
 ghost use Rattle.runs.specs.Putting.{BadLinesPutNothing, IsCompletePlan, IsNoJob, IsOpened, IsJobOrOpening};
-ghost use Rattle.runs.specs.Telling.{HasNoNode};
+ghost use Rattle.requests.specs.Telling.{HasNoNode};
 
-use crate::requests::{Request, request_of};
 use crate::submission_run::SubmissionRun;
 use crowds::Submission;
+use requests::{Request, request_of};
 use scripts::{LineError, LineRunner};
 use std::alloc::{AllocError, Global};
 use std::marker::Model;

@@ -8,28 +8,21 @@
 #![tactic(auto)]
 
 mod emissions;
-mod events;
 mod followed;
 mod host_run;
 mod job_run;
-mod named;
 mod nets;
 mod networks;
-mod outlines;
-mod refusals;
 mod replies;
-mod requests;
 mod submission_run;
 mod trace;
 mod unprinted_run;
-mod verbs;
-mod waiting;
 
 pub use host_run::{
     HostRun, bad_lines_tell_nothing, emission_handed_on_was_heard, kept_emissions_are_found,
     open_slots_follow_journals,
 };
 pub use job_run::{JobRun, bad_lines_put_nothing};
-pub use replies::{line_of_reply, push_outs};
+pub use replies::line_of_reply;
 pub use submission_run::{SubmissionRun, bad_lines_submit_nothing};
 pub use unprinted_run::UnprintedRun;

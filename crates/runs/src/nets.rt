@@ -1,22 +1,19 @@
 //! The networks of a script, by number: what their lines have declared, and how far they are.
 
 ghost use Rattle.std.specs.Prelude.{◌≡◌, [], Err, IfOk, None, OnOk, false, true};
-ghost use Rattle.runs.specs.Outlines.{IsRevised, fresh, waiting_at, waiting_with, with_node, with_roster};
+ghost use Rattle.requests.specs.Outlines.{IsRevised, fresh, waiting_at, waiting_with, with_node, with_roster};
 ghost use Rattle.runs.specs.Followed.{also_followed};
 ghost use Rattle.runs.specs.Joining.{HasJoined, HaveJoined, NetworkIsNamed, IsTaken};
-ghost use Rattle.runs.specs.Naming.{named_with, new_named};
-ghost use Rattle.runs.specs.Preparing.{Prepares};
-ghost use Rattle.runs.specs.Taking.{takes};
-ghost use Rattle.runs.specs.declared.requests.Declaration.TheVariants.{Net, Node, Roster};
-ghost use Rattle.runs.specs.Telling.{HasNoNode};
+ghost use Rattle.requests.specs.Naming.{named_with, new_named};
+ghost use Rattle.requests.specs.Preparing.{Prepares};
+ghost use Rattle.requests.specs.Taking.{takes};
+ghost use Rattle.requests.specs.declared.request.Declaration.TheVariants.{Net, Node, Roster};
+ghost use Rattle.requests.specs.Telling.{HasNoNode};
 
 use crate::followed::Followed;
-use crate::named::Named;
 use crate::networks::Networks;
-use crate::outlines::Outline;
-use crate::requests::Declaration;
-use crate::waiting::Waiting;
 use configuration::{Budgets, NetConfig, Reservation};
+use requests::{Declaration, Named, Outline, Waiting};
 use scripts::LineError;
 use std::alloc::{AllocError, Global};
 use types::{Nested, NodeId};

@@ -1,13 +1,12 @@
-//! What is printed of the answer to an event.
+//! The lines of answers and of replies.
 
-ghost use Rattle.std.specs.Prelude.{◌≡◌, ◌++◌, IfOk, OnOk, codes, string_bytes};
-ghost use Rattle.std.specs.List.{flat_map};
+ghost use Rattle.std.specs.Prelude.{◌≡◌, IfOk, string_bytes};
 ghost use Rattle.world.specs.Worlds.{items_of};
-ghost use Rattle.runs.specs.Replies.{IsReply, answer_of, behind_space, refusal_text, text_of_out};
+ghost use Rattle.requests.specs.Replies.{IsReply};
+ghost use Rattle.runs.specs.ReplyLines.{answer_of};
 
-use crate::refusals::{name_of, number_of};
 use crowds::Reply;
-use scripts::{push_statement, push_value};
+use requests::{line_of_outs, line_of_refusal};
 use std::alloc::{AllocError, Global};
 use types::{Out, Refusal};
 
@@ -29,56 +28,5 @@ pub fn line_of_reply(alloc: Global, reply: &Reply) -> Result<String, AllocError>
     match reply {
         Reply::Done(outs) => line_of_outs(alloc, outs),
         Reply::Refused(refusal) => line_of_refusal(alloc, *refusal),
-    }
-}
-
-/// The line of what an event gives out.
-fn line_of_outs(alloc: Global, outs: &[Out]) -> Result<String, AllocError>
-    ensures { IfOk result (λ text. string_bytes text ≡ codes "ok" ++ flat_map behind_space outs.now) }
-{
-    let mut text = String::from_str(alloc, "ok")?;
-    push_outs(&mut text, outs)?;
-    Ok(text)
-}
-
-/// Adds what is given out, a space before each. Where memory is wanting, a part may have been added.
-pub fn push_outs(text: &mut String, outs: &[Out]) -> Result<(), AllocError>
-    ensures { OnOk result (string_bytes text.new ≡ string_bytes text.old ++ flat_map behind_space outs.now) }
-{
-    for out in outs {
-        text.push(' ')?;
-        push_out(text, out)?;
-    }
-    Ok(())
-}
-
-/// Adds what is given out. Where memory is wanting, a part may have been added.
-fn push_out(text: &mut String, out: &Out) -> Result<(), AllocError>
-    ensures { OnOk result (string_bytes text.new ≡ string_bytes text.old ++ text_of_out out.now) }
-{
-    match out {
-        Out::ArmNomination(round) => write!(text, "arm-nomination {round}"),
-        Out::ArmBallot(counter) => write!(text, "arm-ballot {counter}"),
-        Out::Emit(envelope) => {
-            text.push_str("emit ")?;
-            push_statement(text, envelope.body())
-        }
-        Out::Externalized(value) => {
-            text.push_str("externalized ")?;
-            push_value(text, value)
-        }
-    }
-}
-
-/// The line of a refusal: `refused`, its number, its name, and the number of the fault where bytes are no
-/// envelope.
-pub(crate) fn line_of_refusal(alloc: Global, refusal: Refusal) -> Result<String, AllocError>
-    ensures { IfOk result (λ text. string_bytes text ≡ refusal_text refusal) }
-{
-    let number = number_of(refusal);
-    let name = name_of(refusal);
-    match refusal {
-        Refusal::BadEnvelope(fault) => format!(in alloc; "refused {number} {name} {fault}"),
-        _ => format!(in alloc; "refused {number} {name}"),
     }
 }

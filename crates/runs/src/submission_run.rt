@@ -1,14 +1,14 @@
 //! What runs the lines of a script of networks for what they submit.
 
 ghost use Rattle.std.specs.Prelude.{◌≡◌, Err, OnOk, false, true};
-ghost use Rattle.runs.specs.Preparing.{Prepares};
+ghost use Rattle.requests.specs.Preparing.{Prepares};
 ghost use Rattle.runs.specs.Submitting.{BadLinesSubmitNothing, IsComplete, IsDeclared, IsSubmitted, new_submitting};
-ghost use Rattle.runs.specs.Taking.{takes};
-ghost use Rattle.runs.specs.Telling.{HasNoNode};
+ghost use Rattle.requests.specs.Taking.{takes};
+ghost use Rattle.requests.specs.Telling.{HasNoNode};
 
 use crate::nets::Nets;
-use crate::requests::{Declaration, Request, request_of};
 use crowds::Submission;
+use requests::{Declaration, Request, request_of};
 use scripts::{LineError, LineRunner};
 use std::alloc::{AllocError, Global};
 use std::marker::Model;

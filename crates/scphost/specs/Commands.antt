@@ -1,11 +1,10 @@
 -- A command line: the call that its words are, carried out, and the exit status.
-use Rattle.std.specs.Prelude.{◌≡◌, ◌⊎◌, ℕ, true, List, Option, Err}
+use Rattle.std.specs.Prelude.{◌≡◌, ◌⊎◌, ℕ, List, Option, Err}
 use Rattle.std.specs.Io.KnownBytes.{Keeps}
 use Rattle.scripts.specs.Script.{Bytes}
 use Rattle.scripts.specs.declared.run.Stop.TheVariants as stop
 use Rattle.command_line.specs.CommandLine.{IsCall}
-use Rattle.command_line.specs.ClapCommand.{clap_faults}
-use Rattle.command_line.specs.Help.{AreHelp, HelpsIfItCan, IsHelp, ask_for_help}
+use Rattle.command_line.specs.Help.{IsUsage}
 use Rattle.command_line.specs.Words.{Text}
 use Rattle.command_line.specs.declared.call.Call.{Call}
 use Rattle.command_line.specs.declared.call.Usage.{Usage}
@@ -21,12 +20,11 @@ IsCarriedOut call old new end =
     ⊎ (((input : Option Bytes) × IsPerformedAsItComes call input old new end)
     ⊎ ((end ≡ Err stop.CannotRead) × Keeps old new))
 
--- why words are not taken as a call: they are none, or memory is short; help is for words that ask for it, and for those
--- it is what they get where clap has it alone for them, but for want of memory
+-- why words are not taken as a call: they are none, or memory is short; they get help where they ask for it, and else
+-- what is wrong with them
 pub record IsUsageOf (words : List Text) (usage : Usage) : Type 0 where
   pub none : (call : Call) → IsCall words call → usage ≡ NoMemory
-  pub asked : IsHelp usage → ask_for_help words ≡ true
-  pub helps : AreHelp (clap_faults words) → ask_for_help words ≡ true → HelpsIfItCan usage
+  pub fits : IsUsage words usage
 
 -- words are answered: they are a call, which is carried out, and the status is that of how it ended; or they are not
 -- taken as one, which is told

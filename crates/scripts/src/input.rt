@@ -4,18 +4,22 @@ ghost use Rattle.std.specs.Prelude.{◌≡◌, ◌<◌, ◌≤◌, length, vec_l
 
 use std::alloc::Global;
 use std::io::{ErrorKind, Read};
+use thiserror::Error;
 
 /// The longest script, in bytes: 64 MiB.
 pub const LONGEST_SCRIPT: usize = 64 * 1024 * 1024;
 
 /// Why a file was not read.
-#[derive(Clone, Copy, Debug, PartialEq, Eq)]
+#[derive(Clone, Copy, Debug, PartialEq, Eq, Error)]
 pub enum ReadError {
     /// A read failed.
+    #[error("cannot read")]
     CannotRead,
     /// The file has more than `LONGEST_SCRIPT` bytes.
+    #[error("file too long")]
     TooLong,
     /// There was no memory for its bytes.
+    #[error("no memory")]
     NoMemory,
 }
 

@@ -11,6 +11,7 @@ ghost use Rattle.scripts.specs.Script.{is_ascii as ascii_test, is_no_record as n
 use crate::input::LONGEST_SCRIPT;
 use std::alloc::{AllocError, Global};
 use std::marker::Model;
+use thiserror::Error;
 
 /// One line of a script.
 #[derive(Clone, Copy)]
@@ -102,11 +103,13 @@ fn feed_in(text: &[u8]) -> Option<usize>
 }
 
 /// Why a line is not run.
-#[derive(Clone, Copy, Debug, PartialEq, Eq)]
+#[derive(Clone, Copy, Debug, PartialEq, Eq, Error)]
 pub enum LineError {
     /// The line is none that is described.
+    #[error("bad line")]
     Bad,
     /// There was no memory to run it, or to say what it prints. Nothing is run after it.
+    #[error("no memory")]
     NoMemory,
 }
 

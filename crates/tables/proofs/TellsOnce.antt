@@ -4,6 +4,7 @@ use Rattle.std.specs.Prelude.{Option, Some, None, Result, Ok, Err, codes}
 use Rattle.std.specs.List.{fold}
 use Rattle.scripts.specs.Script.{Bytes}
 use Rattle.scripts.specs.Words.{word_ballot}
+use Rattle.scripts.proofs.DigitLaws.{octets_fit}
 use Rattle.scripts.proofs.SlicesSpelled.{slices_spelled_once}
 use Rattle.types.specs.Trees.{Slices}
 use Rattle.types.specs.Statements.{Sent}
@@ -67,6 +68,13 @@ hands_once [] xs ys x y = absurd x
 hands_once (word ∷ []) xs ys x y = absurd x
 hands_once (word ∷ digits ∷ []) xs ys x y = same_some _ xs ys x.1 y.1
 hands_once (word ∷ digits ∷ field ∷ more) xs ys x y = absurd x
+
+-- what is handed over is bytes: numbers below 256
+hands_bytes : (fields : List Bytes) (bytes : Bytes) → Hands fields bytes → IsBytes bytes
+hands_bytes [] bytes x = absurd x
+hands_bytes (word ∷ []) bytes x = absurd x
+hands_bytes (word ∷ digits ∷ []) bytes x = octets_fit digits bytes x.1
+hands_bytes (word ∷ digits ∷ field ∷ more) bytes x = absurd x
 
 -- ---- no line asks for two things
 
@@ -171,26 +179,26 @@ listener_is : {p q : Option Bytes} {k l : HeardRows} → (p ≡ q) × (k ≡ l) 
 listener_is x = (x.0, ap (λ k. Some k) x.1)
 
 pub lines_tell_one_thing : LinesTellOneThing
-lines_tell_one_thing None new later fields p q fit (itself {c = c} x) (itself {c = d} y) =
+lines_tell_one_thing None new later fields p q (itself {c = c} x) (itself {c = d} y) =
     (refl, ap (λ (own : Configured). Some (record { configured = own; rows = [] })) (begins_once fields c d x y))
-lines_tell_one_thing (Some h) new later fields p q fit (ask {b = a} x s) (ask {b = b} y t) =
+lines_tell_one_thing (Some h) new later fields p q (ask {b = a} x s) (ask {b = b} y t) =
     (backs_once h b p q (subst (λ w. Backs h w p) (asks_once fields a b x y) s) t, refl)
-lines_tell_one_thing (Some h) new later fields p q fit (ask x s) (put y t) = absurd (asks_no_put _ fields _ _ x y)
-lines_tell_one_thing (Some h) new later fields p q fit (ask x s) (env y t) = absurd (asks_no_bytes fields _ _ x y)
-lines_tell_one_thing (Some h) new later fields p q fit (ask x s) (shown y) = absurd (asks_nothing_shown h fields _ q x y)
-lines_tell_one_thing (Some h) new later fields p q fit (put x s) (ask y t) = absurd (asks_no_put _ fields _ _ y x)
-lines_tell_one_thing (Some h) new later fields p q fit (put {k = k} {e = d} x s) (put {k = l} {e = e} y t) =
+lines_tell_one_thing (Some h) new later fields p q (ask x s) (put y t) = absurd (asks_no_put _ fields _ _ x y)
+lines_tell_one_thing (Some h) new later fields p q (ask x s) (env y t) = absurd (asks_no_bytes fields _ _ x y)
+lines_tell_one_thing (Some h) new later fields p q (ask x s) (shown y) = absurd (asks_nothing_shown h fields _ q x y)
+lines_tell_one_thing (Some h) new later fields p q (put x s) (ask y t) = absurd (asks_no_put _ fields _ _ y x)
+lines_tell_one_thing (Some h) new later fields p q (put {k = k} {e = d} x s) (put {k = l} {e = e} y t) =
     let same = puts_once h.configured.slot fields d e x y in
     listener_is (takes_once h e p q k l (subst (λ w. Takes h w p k) same s) t)
-lines_tell_one_thing (Some h) new later fields p q fit (put x s) (env y t) = absurd (puts_no_bytes _ fields _ _ x y)
-lines_tell_one_thing (Some h) new later fields p q fit (put x s) (shown y) = absurd (puts_nothing_shown h _ fields _ q x y)
-lines_tell_one_thing (Some h) new later fields p q fit (env x s) (ask y t) = absurd (asks_no_bytes fields _ _ y x)
-lines_tell_one_thing (Some h) new later fields p q fit (env x s) (put y t) = absurd (puts_no_bytes _ fields _ _ y x)
-lines_tell_one_thing (Some h) new later fields p q fit (env {k = k} {bytes = xs} x s) (env {k = l} {bytes = ys} y t) =
+lines_tell_one_thing (Some h) new later fields p q (put x s) (env y t) = absurd (puts_no_bytes _ fields _ _ x y)
+lines_tell_one_thing (Some h) new later fields p q (put x s) (shown y) = absurd (puts_nothing_shown h _ fields _ q x y)
+lines_tell_one_thing (Some h) new later fields p q (env x s) (ask y t) = absurd (asks_no_bytes fields _ _ y x)
+lines_tell_one_thing (Some h) new later fields p q (env x s) (put y t) = absurd (puts_no_bytes _ fields _ _ y x)
+lines_tell_one_thing (Some h) new later fields p q (env {k = k} {bytes = xs} x s) (env {k = l} {bytes = ys} y t) =
     let same = hands_once fields xs ys x y in
-    listener_is (decodes_once h ys p q k l (fit ys y) (subst (λ w. Decodes h w p k) same s) t)
-lines_tell_one_thing (Some h) new later fields p q fit (env x s) (shown y) = absurd (hands_nothing_shown h fields _ q x y)
-lines_tell_one_thing (Some h) new later fields p q fit (shown x) (ask y t) = absurd (asks_nothing_shown h fields _ p y x)
-lines_tell_one_thing (Some h) new later fields p q fit (shown x) (put y t) = absurd (puts_nothing_shown h _ fields _ p y x)
-lines_tell_one_thing (Some h) new later fields p q fit (shown x) (env y t) = absurd (hands_nothing_shown h fields _ p y x)
-lines_tell_one_thing (Some h) new later fields p q fit (shown x) (shown y) = (prints_once h fields p q x y, refl)
+    listener_is (decodes_once h ys p q k l (hands_bytes fields ys y) (subst (λ w. Decodes h w p k) same s) t)
+lines_tell_one_thing (Some h) new later fields p q (env x s) (shown y) = absurd (hands_nothing_shown h fields _ q x y)
+lines_tell_one_thing (Some h) new later fields p q (shown x) (ask y t) = absurd (asks_nothing_shown h fields _ p y x)
+lines_tell_one_thing (Some h) new later fields p q (shown x) (put y t) = absurd (puts_nothing_shown h _ fields _ p y x)
+lines_tell_one_thing (Some h) new later fields p q (shown x) (env y t) = absurd (hands_nothing_shown h fields _ p y x)
+lines_tell_one_thing (Some h) new later fields p q (shown x) (shown y) = (prints_once h fields p q x y, refl)

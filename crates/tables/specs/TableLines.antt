@@ -15,7 +15,6 @@ use Rattle.types.specs.declared.kind.Kind.TheVariants.{Nomination}
 use Rattle.codec.specs.Answers.{fault_number}
 use Rattle.codec.specs.Grammar.{IsFault}
 use Rattle.codec.specs.Spelling.{Spells}
-use Rattle.codec.specs.Steps.{IsBytes}
 use Rattle.codec.specs.declared.error.Fault.{Fault}
 use Rattle.latest.specs.Senders.{senders}
 use Rattle.protocol.specs.Reach.{IsReach}
@@ -180,12 +179,8 @@ BadLinesAreUntold =
     (old new : Option HeardRows) (fields : List Bytes) (printed : Option Bytes) → Refuses old fields
     → ¬ Tells old fields printed new
 
--- what the line hands over, if anything, is bytes: numbers below 256
-abbrev pub HandsBytes : List Bytes → Type 0
-HandsBytes fields = (bytes : Bytes) → Hands fields bytes → IsBytes bytes
-
 -- a line tells one thing: what it prints, and what becomes of the listener
 abbrev pub LinesTellOneThing : Type 0
 LinesTellOneThing =
-    (old new other : Option HeardRows) (fields : List Bytes) (printed said : Option Bytes) → HandsBytes fields
-    → Tells old fields printed new → Tells old fields said other → (printed ≡ said) × (new ≡ other)
+    (old new other : Option HeardRows) (fields : List Bytes) (printed said : Option Bytes) → Tells old fields printed new
+    → Tells old fields said other → (printed ≡ said) × (new ≡ other)

@@ -40,7 +40,7 @@ fn use_slot<S: Shelf + Drop, H: Wait + Drop, R: Wait>(
     let slot = seat.number();
     for turn in 0..EACH {
         if let Some(event) = event_at(alloc, slot, turn) {
-            let _outs = cell.apply(rt, seat, event);
+            let _answer = cell.apply(rt, seat, event);
         }
     }
 }
@@ -91,7 +91,7 @@ fn tell_and_stop<S: Shelf + Drop, H: Wait + Drop, R: Wait>(
     cell: &Cell<S, H>,
     seats: &mut Vec<Seat<S, H>>,
     watch: &mut Watch,
-) -> (usize, Option<usize>, Option<CellRefusal>)
+) -> (Option<usize>, Option<usize>, Option<CellRefusal>)
     requires two { 2 ≤ length seats.old.items }
     requires theirs { All (IsSeatOf cell.now) seats.old.items }
     ensures { All (IsSeatOf cell.now) seats.new.items }
@@ -112,11 +112,14 @@ fn close<S: Shelf + Drop, H: Wait + Drop, R: Wait>(
     requires { All (IsSeatOf cell) seats.items }
 {
     match cell.close_watched(rt, seats) {
-        Ok((journal, seats, board)) => Some((
-            journal.len(),
-            count_of_x(board.as_slice()),
-            count_receipts(seats.as_slice()),
-        )),
+        Ok((journal, seats, board)) => match board {
+            Some(board) => Some((
+                journal.len(),
+                count_of_x(board.as_slice()),
+                count_receipts(seats.as_slice()),
+            )),
+            None => None,
+        },
         Err(_) => None,
     }
 }
@@ -131,7 +134,7 @@ fn count_receipts<S: Shelf, H: Wait + Drop>(seats: &[Seat<S, H>]) -> usize {
 }
 
 /// What a watch is told of a cell that four seats used at once, and how a seat is refused when it is stopped.
-type Told = (usize, Option<usize>, Option<CellRefusal>);
+type Told = (Option<usize>, Option<usize>, Option<CellRefusal>);
 
 /// What is left of it.
 type Left = (usize, Option<usize>, usize);
@@ -161,7 +164,7 @@ fn use_and_close<R: Threads + Wait + Sync + Send + Drop + Copy>(
 #[test]
 fn four_threads_make_one_history(rt: HostRuntime) -> Result<(), Fail> {
     let (told, left, after) = use_and_close(&rt, rt.alloc()).ok_or("memory")?;
-    assert_eq!(rt; told, (0, Some(68), Some(CellRefusal::Closed)));
+    assert_eq!(rt; told, (Some(0), Some(68), Some(CellRefusal::Closed)));
     assert_eq!(rt; left, (200, Some(68), 200));
     assert_eq!(rt; after, None);
     Ok(())

@@ -85,8 +85,8 @@ fn race<R: Threads + Wait + Sync + Drop + Send>(
     )
 }
 
-/// How many reads were wrong, how many decisions there are in the end, and what is read when the publisher has given
-/// them up.
+/// How many reads were wrong, how many decisions there are in the end if the watch is told of them, and what is read when
+/// the publisher has given them up.
 fn read_and_take<R: Threads + Wait + Sync + Drop + Send + Copy>(
     rt: &R,
     alloc: Global,
@@ -94,9 +94,13 @@ fn read_and_take<R: Threads + Wait + Sync + Drop + Send + Copy>(
     let publisher = Publisher::new(alloc, *rt, 1).ok()?;
     let mut watch = publisher.watch().ok()?;
     let (publisher, wrong) = race(rt, alloc, publisher, &mut watch);
-    publisher.tell(rt, &mut watch);
+    let is_told = publisher.tell(&mut watch);
     let board = publisher.take();
-    let count = count_in_order(board.as_slice());
+    let count = if is_told {
+        count_in_order(board.as_slice())
+    } else {
+        None
+    };
     Some((wrong, count, read(&mut watch)))
 }
 

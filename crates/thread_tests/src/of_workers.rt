@@ -1,9 +1,7 @@
 //! Hosts run by several workers, with gates that hold jobs up and count them.
 
 use envstore::SharedHandle;
-use fixtures::{
-    Reports, Tally, close_all, host_of_networks, openings, proposals, report, run_jobs,
-};
+use fixtures::{Tally, close_all, host_of_networks, openings, proposals, report, run_jobs};
 use std::alloc::Global;
 use std::sync::Wait;
 use std::sync::atomic::{AtomicU64, Ordering};
@@ -96,7 +94,7 @@ fn run_two<R: Threads + Wait + Sync + Send + Drop>(
     rt: &R,
     alloc: Global,
     host: &mut Host<SharedHandle<R>, R>,
-) -> Option<(Reports, Report, u64)> {
+) -> Option<(Report, Report, u64)> {
     let holding = Holding {
         held: AtomicU64::new(0),
         released: AtomicU64::new(0),
@@ -105,7 +103,7 @@ fn run_two<R: Threads + Wait + Sync + Send + Drop>(
     let counting = Counting::new();
     // Network 1 and network 2 by turns, three times.
     let proposed = run_jobs(rt, alloc, host, (6, 1), proposals(alloc, 2, 3), &counting)?;
-    Some((opened, proposed.1, counting.turns.load(Ordering::SeqCst)))
+    Some((opened, proposed, counting.turns.load(Ordering::SeqCst)))
 }
 
 // What follows from a job comes before the next job, or there would be more turns.
@@ -115,7 +113,7 @@ fn a_network_that_is_held_up_holds_up_no_other(rt: HostRuntime) -> Result<(), Fa
     let said = run_two(&rt, rt.alloc(), &mut host);
     drop(host);
     let (opened, proposed, turns) = said.ok_or("memory")?;
-    assert_eq!(rt; opened, (report(0), report(2)));
+    assert_eq!(rt; opened, report(2));
     assert!(rt; proposed.applied > 6);
     assert_eq!(rt; turns, 6);
     Ok(())
@@ -127,8 +125,8 @@ fn run_four<R: Threads + Wait + Sync + Send + Drop>(
     alloc: Global,
     host: &mut Host<SharedHandle<R>, R>,
     gate: &Counting,
-) -> Option<(Reports, Reports)> {
-    // The queue has a place for 16 of them. The others are applied at once.
+) -> Option<(Report, Report)> {
+    // The queue has a place for 16 of them, so they are done in four turns.
     let opened = run_jobs(rt, alloc, host, (16, 4), openings(alloc, 64), gate)?;
     let proposed = run_jobs(rt, alloc, host, (192, 4), proposals(alloc, 64, 3), gate)?;
     Some((opened, proposed))
@@ -138,7 +136,7 @@ fn run_four<R: Threads + Wait + Sync + Send + Drop>(
 fn run_and_close<R: Threads + Wait + Sync + Send + Drop + Copy>(
     rt: &R,
     alloc: Global,
-) -> Option<(Reports, Reports, (u64, u64), Tally)> {
+) -> Option<(Report, Report, (u64, u64), Tally)> {
     let gate = Counting::new();
     let mut host = host_of_networks(rt, alloc, 64, 3, 4)?;
     let said = run_four(rt, alloc, &mut host, &gate);
@@ -150,16 +148,15 @@ fn run_and_close<R: Threads + Wait + Sync + Send + Drop + Copy>(
 #[test]
 fn four_workers_leave_journals_of_one_thread(rt: HostRuntime) -> Result<(), Fail> {
     let (opened, proposed, seen, tally) = run_and_close(&rt, rt.alloc()).ok_or("memory")?;
-    assert_eq!(rt; opened, (report(48), report(16)));
-    let (offered, ran) = proposed;
-    assert_eq!(rt; (offered, ran.unrun), (report(0), 0));
+    assert_eq!(rt; opened, report(64));
+    assert_eq!(rt; proposed.unrun, 0);
     // Each journal is applied once more by one thread, which gives out the same.
     assert_eq!(rt; tally.unlike, 0);
-    let entered = ran.applied.saturating_add(64);
+    let entered = proposed.applied.saturating_add(64);
     assert_eq!(rt; (tally.entries, tally.receipts), (entered, entered));
     assert_eq!(rt; tally.decisions, 192);
     // For each emission a job for each of the two other nodes.
-    let served = ran.applied.saturating_add(ran.refused);
+    let served = proposed.applied.saturating_add(proposed.refused);
     let heard = tally.emissions.saturating_mul(2);
     assert_eq!(rt; served, heard.saturating_add(192));
     let all = served.saturating_add(64);

@@ -1,5 +1,5 @@
-//! Tests of values, words, runs of lines and bytes, by what `types`, `scripts` and `codec` show to anybody: they stand
-//! here so that those crates are proved once. It holds nothing else.
+//! Tests of values, words, runs of lines, bytes and slices, by what `types`, `scripts`, `codec` and `flat_slices` show to
+//! anybody: they stand here so that those crates are proved once. It holds nothing else.
 #![tactic(auto)]
 
 #[cfg(test)]
@@ -8,5 +8,7 @@ mod of_codec;
 mod of_running;
 #[cfg(test)]
 mod of_scripts;
+#[cfg(test)]
+mod of_slices;
 #[cfg(test)]
 mod of_types;

@@ -6,6 +6,7 @@ pub mod Deals
 pub mod Worked
 pub mod Nets
 pub mod Crossing
+pub mod Crews
 pub mod Offers
 pub mod Handles
 pub mod Hosting

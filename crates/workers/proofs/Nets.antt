@@ -255,7 +255,7 @@ parts_fit f nets k view is le =
 
 -- what was gained
 
-gains_seats : (f : SeatSight → ℕ) (g : SeatSight → SeatSight → ℕ) → ((a b : SeatSight) → IsLater a b → f b ≡ f a + g a b) → (xs ys : List SeatSight) → AllGrown xs ys → weigh f ys ≡ weigh f xs + over_seats g xs ys
+pub gains_seats : (f : SeatSight → ℕ) (g : SeatSight → SeatSight → ℕ) → ((a b : SeatSight) → IsLater a b → f b ≡ f a + g a b) → (xs ys : List SeatSight) → AllGrown xs ys → weigh f ys ≡ weigh f xs + over_seats g xs ys
 gains_seats f g one [] [] all = refl
 gains_seats f g one [] (y ∷ ys) all = absurd all
 gains_seats f g one (x ∷ xs) [] all = absurd all
@@ -277,7 +277,7 @@ gained_is a b l = ap (drop (length a.me.receipts)) l.gained ∙ drop-append_seam
 denied_is : (a b : SeatSight) (l : IsLater a b) → denials_gained a b ≡ l.denials
 denied_is a b l = ap (drop (length a.me.denials)) l.refused ∙ drop-append_seam a.me.denials l.denials
 
-one_done : (h : Job → ℕ) (a b : SeatSight) → IsLater a b → seat_done h b ≡ seat_done h a + done_since h a b
+pub one_done : (h : Job → ℕ) (a b : SeatSight) → IsLater a b → seat_done h b ≡ seat_done h a + done_since h a b
 one_done h a b l =
     let p : applied_of h b.me.config b.me.receipts ≡ applied_of h a.me.config a.me.receipts + applied_of h a.me.config (receipts_gained a b) =
     (λ i. applied_of h (l.config i) (l.gained i)) ∙ weigh-append (λ (r : AppliedEvent). h (job a.me.config.number r.event)) a.me.receipts l.receipts ∙ ap (λ x. applied_of h a.me.config a.me.receipts + applied_of h a.me.config x) (sym (gained_is a b l)) in
@@ -285,14 +285,14 @@ one_done h a b l =
     (λ i. refused_of h (l.config i) (l.refused i)) ∙ weigh-append (λ (r : Denial). h (job a.me.config.number r.event)) a.me.denials l.denials ∙ ap (λ x. refused_of h a.me.config a.me.denials + refused_of h a.me.config x) (sym (denied_is a b l)) in
     omega arith
 
-one_heard : (h : Job → ℕ) (a b : SeatSight) → IsLater a b → seat_heard h b ≡ seat_heard h a + heard_since h a b
+pub one_heard : (h : Job → ℕ) (a b : SeatSight) → IsLater a b → seat_heard h b ≡ seat_heard h a + heard_since h a b
 one_heard h a b l =
     (λ i. heard_of h (l.config i) (l.gained i)) ∙ weigh-append (λ (r : AppliedEvent). weigh h (hears a.me.config r)) a.me.receipts l.receipts ∙ ap (λ x. heard_of h a.me.config a.me.receipts + heard_of h a.me.config x) (sym (gained_is a b l))
 
-one_applied : (a b : SeatSight) → IsLater a b → seat_applied b ≡ seat_applied a + length (receipts_gained a b)
+pub one_applied : (a b : SeatSight) → IsLater a b → seat_applied b ≡ seat_applied a + length (receipts_gained a b)
 one_applied a b l = ap (λ (x : List AppliedEvent). length x) l.gained ∙ length-append a.me.receipts l.receipts ∙ ap (λ (x : List AppliedEvent). length a.me.receipts + length x) (sym (gained_is a b l))
 
-one_refused : (a b : SeatSight) → IsLater a b → seat_refused b ≡ seat_refused a + length (denials_gained a b)
+pub one_refused : (a b : SeatSight) → IsLater a b → seat_refused b ≡ seat_refused a + length (denials_gained a b)
 one_refused a b l = ap (λ (x : List Denial). length x) l.refused ∙ length-append a.me.denials l.denials ∙ ap (λ (x : List Denial). length a.me.denials + length x) (sym (denied_is a b l))
 
 pub is_done : {S H P : Type 0} → (cs : List CellSight) (xs ys : List (SpareSeats S H P)) (came went : (Job → ℕ) → ℕ) (r : Report) → AllHosted cs xs → AllGrownSpares xs ys → IsWorked cs xs ys came went r → IsDone (nets_of cs xs) (nets_of cs ys) came went r

@@ -4,6 +4,7 @@ use Rattle.types.specs.declared.event.Out.{Out}
 use Rattle.types.specs.declared.event.Out.TheVariants.{ArmNomination, ArmBallot, Emit, Externalized}
 use Rattle.protocol.specs.Networks.{HostedNode}
 use Rattle.workers.specs.declared.walk.SlotEmission.{SlotEmission}
+use mathlib.Core.List.{IsPrefix}
 use Rattle.std.proofs.lemmas.Bool.{cases_eq}
 use Rattle.std.proofs.lemmas.List.{take-append-le, take_more, reverse-append, at_drop_more, at_drop_all, get_or_default, get_or-set_other, length-set}
 use Rattle.std.proofs.lemmas.List.Elements.{All-append, All-cons, All-nil}
@@ -11,7 +12,7 @@ use Rattle.std.proofs.lemmas.Slice.Zip.{AllZip-long}
 use Rattle.std.proofs.Common.{reverse}
 use Rattle.std.proofs.Math.ListN.{get_or-append}
 use Rattle.std.proofs.Common.{drop}
-use Rattle.protocol.specs.Hosts.{Config}
+use Rattle.protocol.specs.Hosts.{Config, Entry}
 use Rattle.work.specs.declared.rule.Job.{Job}
 use Rattle.work.specs.declared.rule.Hand.{Hand}
 use Rattle.work.specs.Hands.{weigh}
@@ -19,13 +20,15 @@ use Rattle.work.proofs.Balances.{weigh-append, weigh-snoc}
 use Rattle.cells.specs.Receipts.{AppliedEvent}
 use Rattle.cells.specs.Views.{Denial}
 use Rattle.cells.specs.Sights.{CellSight}
-use Rattle.cells.specs.Cells.{IsSeatOf}
+use Rattle.cells.specs.Cells.{IsApplied, IsDenial, IsSeatOf}
+use Rattle.cells.specs.declared.refusal.CellRefusal.{CellRefusal}
+use Rattle.std.proofs.Common.{IfErr, OnOk, Result, Ok, Err, is_ok}
 use Rattle.cells.specs.Sights.{SeatSight}
 use Rattle.workers.specs.declared.walk.Walk.{Walk}
 use Rattle.workers.specs.declared.worker.Worker.{Worker}
 use Rattle.workers.specs.Numbers.{IsElsewhere, Lacks, IsNumberAt}
 use Rattle.workers.proofs.Pairs.{zip-at, zip-same, zip-set, zip-then}
-use Rattle.workers.specs.Sums.{job, hears, applied_of, refused_of, heard_of, done_by, followed_by, applied_many, refused_many, seat_done, hand_of, IsWalk, AllSeated, IsLater, AllLater, IsDone, weight_done, weight_followed, weight_put, weight_taken, KeepsSums, with_put, with_taken, AllPast, AllPastBut, IsPast, hear_by, hears_of, hears_from, emission_in, IsNext, IsShort, SamePlaces, IsThrough, IsSummed, IsReady, IsBusy}
+use Rattle.workers.specs.Sums.{job, hears, applied_of, refused_of, heard_of, done_by, followed_by, applied_many, refused_many, seat_done, hand_of, IsWalk, AllSeated, IsLater, AllLater, IsDone, weight_done, weight_followed, weight_put, weight_taken, KeepsSums, with_put, with_taken, AllPast, AllPastBut, IsPast, hear_by, hears_of, hears_from, emission_in, IsNext, IsShort, SamePlaces, IsThrough, IsSummed, IsReady, IsBusy, IsSameWorker}
 use Rattle.work.specs.declared.line.Queue.{Queue}
 use Rattle.std.proofs.Common.{Option, Some, None, ⊎_elim}
 use Rattle.workers.specs.Sums.{IsPassing}
@@ -39,8 +42,11 @@ weigh_set f (x ∷ xs) (suc k) old w lt is = let s = weigh_set f xs k old w (ome
 
 -- the same seat later
 
+prefix_both : (a b c : List Entry) → IsPrefix a b → IsPrefix b c → IsPrefix a c
+prefix_both a b c p q = (p.0 ++ q.0, sym (append_assoc a p.0 q.0) ∙ ap (λ (x : List Entry). x ++ q.0) p.1 ∙ q.1)
+
 pub later_none : (a : SeatSight) → IsLater a a
-later_none a = record { cell = refl; number = refl; config = refl; seats = refl; closed = refl; stops = refl; receipts = []; denials = []; gained = sym (append-nil _); refused = sym (append-nil _) }
+later_none a = record { cell = refl; number = refl; config = refl; seats = refl; closed = refl; stops = refl; seen = ([], append-nil _); lasting = λ e. e; receipts = []; denials = []; gained = sym (append-nil _); refused = sym (append-nil _) }
 
 pub later_both : (a b c : SeatSight) → IsLater a b → IsLater b c → IsLater a c
 later_both a b c x y = record {
@@ -50,6 +56,8 @@ later_both a b c x y = record {
   seats = y.seats ∙ x.seats;
   closed = y.closed ∙ x.closed;
   stops = y.stops ∙ x.stops;
+  seen = prefix_both a.me.seen b.me.seen c.me.seen x.seen y.seen;
+  lasting = λ e. y.lasting (x.lasting e);
   receipts = x.receipts ++ y.receipts;
   denials = x.denials ++ y.denials;
   gained = y.gained ∙ ap (λ l. l ++ y.receipts) x.gained ∙ append_assoc a.me.receipts x.receipts y.receipts;
@@ -190,12 +198,12 @@ followed_same h a b more config place gained le =
 
 pub done_well : {S H P : Type 0} (a b : Walk S H P) (c : CellSight) (j : Job) (x : AppliedEvent) → c.config.number ≡ j.network → IsWalk c a → IsSeatOf c b.seat → b.place ≡ a.place → b.seat.me.number ≡ a.seat.me.number
     → x.event ≡ j.event → b.seat.me.receipts ≡ a.seat.me.receipts ++ x ∷ [] → b.seat.me.denials ≡ a.seat.me.denials → b.seat.me.stops ≡ a.seat.me.stops
-    → IsDone a b j true
-done_well a b c j x here walk seat place number event more same stops =
+    → IsPrefix a.seat.me.seen b.seat.me.seen → (a.seat.me.stopped ≡ true → b.seat.me.stopped ≡ true) → IsDone a b j true
+done_well a b c j x here walk seat place number event more same stops seen lasting =
     let config : b.seat.me.config ≡ a.seat.me.config = seat.config ∙ sym walk.0.config in
     let n : ℕ = a.seat.me.config.number in
     record {
-      later = record { cell = seat.cell ∙ sym walk.0.cell; number = number; config = config; seats = seat.seats ∙ sym walk.0.seats; closed = seat.open_yet ∙ sym walk.0.open_yet; stops = stops; receipts = x ∷ []; denials = []; gained = more; refused = same ∙ sym (append-nil _) };
+      later = record { cell = seat.cell ∙ sym walk.0.cell; number = number; config = config; seats = seat.seats ∙ sym walk.0.seats; closed = seat.open_yet ∙ sym walk.0.open_yet; stops = stops; seen = seen; lasting = lasting; receipts = x ∷ []; denials = []; gained = more; refused = same ∙ sym (append-nil _) };
       place = place;
       sum = λ h.
           let p : applied_of h b.seat.me.config b.seat.me.receipts ≡ applied_of h a.seat.me.config a.seat.me.receipts + h (job n x.event) = (λ i. applied_of h (config i) (more i)) ∙ weigh-append (λ (r : AppliedEvent). h (job n r.event)) a.seat.me.receipts (x ∷ []) ∙ omega arith in
@@ -209,13 +217,13 @@ done_well a b c j x here walk seat place number event more same stops =
 
 pub done_ill : {S H P : Type 0} (a b : Walk S H P) (c : CellSight) (j : Job) (x : Denial) → c.config.number ≡ j.network → IsWalk c a → IsSeatOf c b.seat → b.place ≡ a.place → b.seat.me.number ≡ a.seat.me.number
     → x.event ≡ j.event → b.seat.me.receipts ≡ a.seat.me.receipts → b.seat.me.denials ≡ a.seat.me.denials ++ x ∷ [] → b.seat.me.stops ≡ a.seat.me.stops
-    → IsDone a b j false
-done_ill a b c j x here walk seat place number event unchanged more stops =
+    → IsPrefix a.seat.me.seen b.seat.me.seen → (a.seat.me.stopped ≡ true → b.seat.me.stopped ≡ true) → IsDone a b j false
+done_ill a b c j x here walk seat place number event unchanged more stops seen lasting =
     let config : b.seat.me.config ≡ a.seat.me.config = seat.config ∙ sym walk.0.config in
     let same : b.seat.me.receipts ≡ a.seat.me.receipts ++ [] = unchanged ∙ sym (append-nil _) in
     let n : ℕ = a.seat.me.config.number in
     record {
-      later = record { cell = seat.cell ∙ sym walk.0.cell; number = number; config = config; seats = seat.seats ∙ sym walk.0.seats; closed = seat.open_yet ∙ sym walk.0.open_yet; stops = stops; receipts = []; denials = x ∷ []; gained = same; refused = more };
+      later = record { cell = seat.cell ∙ sym walk.0.cell; number = number; config = config; seats = seat.seats ∙ sym walk.0.seats; closed = seat.open_yet ∙ sym walk.0.open_yet; stops = stops; seen = seen; lasting = lasting; receipts = []; denials = x ∷ []; gained = same; refused = more };
       place = place;
       sum = λ h.
           let p : applied_of h b.seat.me.config b.seat.me.receipts ≡ applied_of h a.seat.me.config a.seat.me.receipts = λ i. applied_of h (config i) (unchanged i) in
@@ -290,6 +298,32 @@ kept_done cs a b j k old new well lt at one walks pass applied refused = record 
   parts = ap (λ p. (hand_of p).parts) pass;
 }
 
+-- nothing was done
+pub kept_same : {S H P : Type 0} → (cs : List CellSight) (a b : (Worker S H P)) → IsSameWorker a b → KeepsSums cs [] a b
+kept_same cs a b same = record {
+  lacking = [];
+  elsewhere = All-nil (IsElsewhere cs);
+  sum = λ h.
+      let d : weight_done h b ≡ weight_done h a = ap (weigh (done_by h)) same.walks in
+      let k : weight_followed h b ≡ weight_followed h a = ap (weigh (followed_by h)) same.walks in
+      let p : weight_put h b ≡ weight_put h a = ap (λ p. weigh h (hand_of p).put) same.pass in
+      let t : weight_taken h b ≡ weight_taken h a = ap (λ p. weigh h (hand_of p).taken) same.pass in
+      omega arith;
+  applied = let m : weigh applied_many b.walks.items ≡ weigh applied_many a.walks.items = ap (weigh applied_many) same.walks in let n = same.applied in omega arith;
+  refused = let m : weigh refused_many b.walks.items ≡ weigh refused_many a.walks.items = ap (weigh refused_many) same.walks in let n = same.refused in omega arith;
+  later = subst (AllLater a.walks.items) (sym same.walks) (all_later_none a.walks.items);
+  parts = ap (λ p. (hand_of p).parts) same.pass;
+}
+
+-- the walk there was put back as it was
+set_same : {S H P : Type 0} → (ws : List (Walk S H P)) (k : ℕ) (w : (Walk S H P)) → k < length ws → w ≡ get_or ws k w → slice_set ws k w ≡ ws
+set_same [] k w lt is = absurd (omega arith)
+set_same (x ∷ xs) zero w lt is = ap (λ (y : (Walk _ _ _)). y ∷ xs) is
+set_same (x ∷ xs) (suc k) w lt is = ap (λ l. x ∷ l) (set_same xs k w (omega arith) is)
+
+pub walks_same : {S H P : Type 0} → (ws : List (Walk S H P)) (k : ℕ) (old new : (Walk S H P)) → k < length ws → old ≡ get_or ws k old → new ≡ old → slice_set ws k new ≡ ws
+walks_same ws k old new lt at same = ap (slice_set ws k) same ∙ set_same ws k old lt at
+
 -- the job went into the queue
 pub kept_put : {S H P : Type 0} → (cs : List CellSight) (a b : (Worker S H P)) (j : Job) → b.walks ≡ a.walks → b.applied ≡ a.applied → b.refused ≡ a.refused → hand_of b.pass ≡ with_put (hand_of a.pass) j → KeepsSums cs (j ∷ []) a b
 kept_put cs a b j walks applied refused pass =
@@ -341,6 +375,8 @@ kept_moved cs a b c k w v r xs lt at next short is seat place walks pass applied
       seats = ap (λ (s : SeatSight). s.me.seats) seat;
       closed = ap (λ (s : SeatSight). s.me.closed) seat;
       stops = ap (λ (s : SeatSight). s.me.stops) seat;
+      seen = subst (λ (s : SeatSight). IsPrefix w.seat.me.seen s.me.seen) (sym seat) ([], append-nil _);
+      lasting = subst (λ (s : SeatSight). w.seat.me.stopped ≡ true → s.me.stopped ≡ true) (sym seat) (λ e. e);
       receipts = [];
       denials = [];
       gained = ap (λ (s : SeatSight). s.me.receipts) seat ∙ sym (append-nil _);
@@ -432,6 +468,14 @@ ready_same cs q a b walks passing r =
     let items : b.walks.items ≡ a.walks.items = ap (λ v. v.items) walks in
     record { seated = subst (AllSeated cs) (sym items) r.seated; passing = passing; past = subst AllPast (sym items) r.past }
 
+-- the same worker
+pub ready_still : {S H P : Type 0} → (cs : List CellSight) (q : Option Queue) (a b : (Worker S H P)) → IsSameWorker a b → IsReady cs q a → IsReady cs q b
+ready_still cs q a b same r = record {
+  seated = subst (AllSeated cs) (sym same.walks) r.seated;
+  passing = subst (IsPassing q) (sym same.pass) r.passing;
+  past = subst AllPast (sym same.walks) r.past;
+}
+
 -- one walk was changed
 pub busy_set : {S H P : Type 0} → (cs : List CellSight) (q : Option Queue) (k : ℕ) (a b : (Worker S H P)) (c : CellSight) (v : (Walk S H P)) → b.walks.items ≡ slice_set a.walks.items k v → b.pass ≡ a.pass → c ≡ get_or cs k c → IsWalk c v → IsBusy cs q k a → IsBusy cs q k b
 busy_set cs q k a b c v items pass at walk r = record {
@@ -450,3 +494,9 @@ weigh-reverse h (x ∷ xs) = ap (weigh h) (reverse-append (x ∷ []) xs) ∙ wei
 
 pub weigh-turned : {X : Type 0} (h : X → ℕ) (xs ys : List X) → ys ≡ reverse xs → weigh h ys ≡ weigh h xs
 weigh-turned h xs ys is = ap (weigh h) is ∙ weigh-reverse h xs
+
+-- a job was applied, or refused, as the cell answered
+pub answered : {S H P A : Type 0} (a b : Walk S H P) (c : CellSight) (j : Job) (r : Result A CellRefusal) → c.config.number ≡ j.network → IsWalk c a → IsSeatOf c b.seat → b.place ≡ a.place → b.seat.me.number ≡ a.seat.me.number
+    → OnOk r (IsApplied c j.event a.seat b.seat) → IfErr r (λ x. IsDenial j.event x a.seat b.seat) → IsPrefix a.seat.me.seen b.seat.me.seen → (a.seat.me.stopped ≡ true → b.seat.me.stopped ≡ true) → IsDone a b j (is_ok r)
+answered a b c j (Ok x) here walk seat place number ok err seen lasting = done_well a b c j _ here walk seat place number refl ok.receipts ok.denials ok.stops seen lasting
+answered a b c j (Err x) here walk seat place number ok err seen lasting = done_ill a b c j _ here walk seat place number refl err.receipts err.denials err.stops seen lasting

@@ -1,5 +1,5 @@
 -- The networks of a host, and what a run makes of them.
-use Rattle.std.specs.Prelude.{◌≡◌, ◌<◌, ◌≤◌, ◌+◌, ◌⊎◌, ◌≢◌, nat_lt, ℕ, List, [], ◌∷◌, length, drop, map, if◌then◌else◌, None}
+use Rattle.std.specs.Prelude.{◌≡◌, ◌<◌, ◌≤◌, ◌+◌, ◌≢◌, nat_lt, ℕ, List, [], ◌∷◌, length, drop, map, if◌then◌else◌, None}
 use Rattle.std.specs.List.{All, AllZip}
 use Rattle.hoststep.specs.Logs.{Log}
 use Rattle.work.specs.declared.rule.Job.{Job}
@@ -97,17 +97,3 @@ pub record IsDone (xs ys : List Net) (came went : (Job → ℕ) → ℕ) (r : Re
   pub applied : r.applied ≡ over_nets (λ a b. length (receipts_gained a b)) xs ys
   pub refused : r.refused ≡ over_nets (λ a b. length (denials_gained a b)) xs ys + length lacking
   pub unrun : r.unrun ≡ 0
-
--- Nothing was done. However jobs are weighed: those that came in are those that went out and those that are left; and
--- the report has the number of these.
-pub record IsUndone (xs ys : List Net) (came went : (Job → ℕ) → ℕ) (r : Report) : Type 0 where
-  pub same : ys ≡ xs
-  pub applied : r.applied ≡ 0
-  pub refused : r.refused ≡ 0
-  pub left : List Job
-  pub sum : (h : Job → ℕ) → went h + weigh h left ≡ came h
-  pub unrun : r.unrun ≡ length left
-
--- all was done, or nothing
-abbrev pub IsAllOrNothing : List Net → List Net → ((Job → ℕ) → ℕ) → ((Job → ℕ) → ℕ) → Report → Type 0
-IsAllOrNothing xs ys came went r = IsDone xs ys came went r ⊎ IsUndone xs ys came went r

@@ -1,5 +1,6 @@
 -- What workers have done, weighed: any weight of jobs is counted on both sides.
-use Rattle.std.specs.Prelude.{◌≡◌, ◌≢◌, ◌==◌, ℕ, ◌+◌, ◌≤◌, ◌<◌, List, [], ◌∷◌, ◌++◌, length, take, Bool, if◌then◌else◌, Option, Some, None, slice_index_or}
+use Rattle.std.specs.Prelude.{◌≡◌, ◌≢◌, ◌==◌, ℕ, ◌+◌, ◌≤◌, ◌<◌, List, [], ◌∷◌, ◌++◌, length, take, Bool, true, if◌then◌else◌, Option, Some, None, slice_index_or}
+use mathlib.Core.List.{IsPrefix}
 use Rattle.std.specs.List.{All, AllZip}
 use Rattle.std.specs.Option.{option_to_list}
 use Rattle.crossbeam_queue.specs.Passes.{Pass, view}
@@ -117,7 +118,7 @@ IsWalk c w = IsSeatOf c w.seat × (w.place ≤ length w.seat.me.receipts)
 abbrev pub AllSeated : {S H P : Type 0} → List CellSight → List (Walk S H P) → Type 0
 AllSeated cs ws = AllZip IsWalk cs ws
 
--- the same seat later: it has gained receipts and denials, and set no stop mark
+-- the same seat later: it has seen more, gained receipts and denials, and set no stop mark
 pub record IsLater (a b : SeatSight) : Type 0 where
   pub cell : b.cell ≡ a.cell
   pub number : b.me.number ≡ a.me.number
@@ -125,6 +126,8 @@ pub record IsLater (a b : SeatSight) : Type 0 where
   pub seats : b.me.seats ≡ a.me.seats
   pub closed : b.me.closed ≡ a.me.closed
   pub stops : b.me.stops ≡ a.me.stops
+  pub seen : IsPrefix a.me.seen b.me.seen
+  pub lasting : a.me.stopped ≡ true → b.me.stopped ≡ true
   pub receipts : List AppliedEvent
   pub denials : List Denial
   pub gained : b.me.receipts ≡ a.me.receipts ++ receipts
@@ -184,6 +187,13 @@ pub record KeepsSums {S H P : Type 0} (cells : List CellSight) (handed : List Jo
   pub refused : b.refused + denials_of a ≡ a.refused + denials_of b + length lacking
   pub later : AllLater a.walks.items b.walks.items
   pub parts : (hand_of b.pass).parts ≡ (hand_of a.pass).parts
+
+-- the worker is as it was
+pub record IsSameWorker {S H P : Type 0} (a b : (Worker S H P)) : Type 0 where
+  pub walks : b.walks.items ≡ a.walks.items
+  pub pass : b.pass ≡ a.pass
+  pub applied : b.applied ≡ a.applied
+  pub refused : b.refused ≡ a.refused
 
 -- a pass of this queue, or none
 abbrev pub IsPassing : Option Queue → Option (Pass Job Hand) → Type 0

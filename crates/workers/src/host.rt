@@ -11,7 +11,7 @@ use crate::shared::Shared;
 use cells::{Cell, Seat};
 use envstore::Shelf;
 use hoststep::Journal;
-use std::alloc::{AllocError, Global};
+use std::alloc::Global;
 use std::marker::Model;
 use std::sync::Wait;
 
@@ -121,23 +121,26 @@ impl<S: Shelf + Drop, H: Wait + Drop> Host<S, H> {
         }
     }
 
-    /// The first so many networks, and the others, each as a host of their own. An error says that memory is
-    /// short, and all networks are gone.
-    pub fn split_at(self, count: usize) -> Result<(Host<S, H>, Host<S, H>), AllocError>
+    /// The first so many networks, and the others, each as a host of their own. Where memory is short, the host is
+    /// handed back as it was.
+    pub fn split_at(self, count: usize) -> Result<(Host<S, H>, Host<S, H>), Host<S, H>>
         requires { count ≤ length self }
-        ensures { IfOk result (λ r. (r.0 ≡ take count self) × (r.1 ≡ drop count self)) }
+        ensures ok { IfOk result (λ r. (r.0 ≡ take count self) × (r.1 ≡ drop count self)) }
+        ensures back { IfErr result (λ h. h ≡ self) }
     {
         let Host {
             alloc,
             mut host_state,
         } = self;
-        let others = host_state.split_off(count)?;
-        Ok((
-            Host { alloc, host_state },
-            Host {
-                alloc,
-                host_state: others,
-            },
-        ))
+        match host_state.split_off(alloc, count) {
+            Ok(others) => Ok((
+                Host { alloc, host_state },
+                Host {
+                    alloc,
+                    host_state: others,
+                },
+            )),
+            Err(_) => Err(Host { alloc, host_state }),
+        }
     }
 }

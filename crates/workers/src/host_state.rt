@@ -1,13 +1,13 @@
 //! The cells of a host, and the seats at them.
 
-ghost use Rattle.std.specs.Prelude.{◌≡◌, ◌<◌, ◌≤◌, ◌∷◌, IfOk, length, insert, IsTrue, vec_len, vec_capacity};
+ghost use Rattle.std.specs.Prelude.{◌≡◌, ◌<◌, ◌≤◌, ◌∷◌, IfOk, OnErr, length, insert, IsTrue, vec_len, vec_capacity};
 ghost use Rattle.workers.specs.HostStates.{AreParts, HasRoom, IsPut, IsRemoved, IsSameHostState};
 
 use crate::deal::SpareSeats;
 use crate::shared::Shared;
 use cells::{Cell, Seat};
 use envstore::Shelf;
-use std::alloc::AllocError;
+use std::alloc::{AllocError, Global};
 use std::sync::Wait;
 
 /// What workers share, and the seats that they do not have now, in the order of the cells.
@@ -68,21 +68,39 @@ impl<S: Shelf + Drop, H: Wait + Drop> HostState<S, H> {
         (cell, seats)
     }
 
-    /// The networks behind the first so many leave, without the queue. An error says that memory is short.
-    pub(crate) fn split_off(&mut self, count: usize) -> Result<HostState<S, H>, AllocError>
+    /// The networks behind the first so many leave, without the queue. An error says that memory is short, and all
+    /// are as they were.
+    pub(crate) fn split_off(
+        &mut self,
+        alloc: Global,
+        count: usize,
+    ) -> Result<HostState<S, H>, AllocError>
         requires { (count ≤ length self.old.shared.numbers.items) × (count ≤ length self.old.shared.cells.items) × (count ≤ length self.old.spares.items) }
-        ensures { IfOk result (λ r. AreParts self.old count self.new r) }
+        ensures ok { IfOk result (λ r. AreParts self.old count self.new r) }
+        ensures err { OnErr result (IsSameHostState self.old self.new) }
     {
-        let numbers = self.shared.numbers.split_off(count)?;
-        let cells = self.shared.cells.split_off(count)?;
-        let spares = self.spares.split_off(count)?;
-        Ok(HostState {
-            shared: Shared {
-                numbers,
-                cells,
-                queue: None,
-            },
-            spares,
-        })
+        let mut numbers = Vec::new(alloc);
+        numbers.extend_from_slice(&self.shared.numbers[count..])?;
+        let mut cells = self.shared.cells.split_off(count)?;
+        match self.spares.split_off(count) {
+            Ok(spares) => {
+                self.shared.numbers.truncate(count);
+                Ok(HostState {
+                    shared: Shared {
+                        numbers,
+                        cells,
+                        queue: None,
+                    },
+                    spares,
+                })
+            }
+            // Memory: the cells go back to where they were, where there is room for them.
+            Err(_) => {
+                let Ok(()) = self.shared.cells.append(&mut cells) else {
+                    unreachable!()
+                };
+                Err(AllocError)
+            }
+        }
     }
 }

@@ -1,17 +1,18 @@
 //! Workers: threads that take jobs from one queue and apply them to the networks of a host (this host's profile).
 //!
-//! A [`Host`] has networks, each a cell with all its seats. In a [`run`] each worker has a seat at each network
-//! and a pass of the queue. It takes a job, and applies the event by its seat at the job's network. Then it goes
-//! through the receipts that the seat has gained: for each emission, each other hosted node of that network hears
-//! it, by a job that the worker applies at once. That goes on until no receipt is left, and only then the worker
-//! takes the next job from the queue. [`offer`] puts jobs before a run. A [`Gate`] sees each application begin
-//! and end.
+//! A [`Host`] has networks, each a cell with all its seats. [`offer`] puts jobs into the queue, and a [`Crew`] is
+//! room for workers, made before they begin. In a [`run`] each worker has a seat at each network and a pass of the
+//! queue. It takes a job, and applies the event by its seat at the job's network. Then it goes through the receipts
+//! that the seat has gained: for each emission, each other hosted node of that network hears it, by a job that the
+//! worker applies at once. That goes on until no receipt is left, and only then the worker takes the next job from
+//! the queue. A [`Gate`] sees each application begin and end.
 //!
 //! Networks know nothing of one another, and each has a lock of its own. In which order jobs are taken is open;
 //! what is proved is the sum: what came into the queue and what emissions make heard was applied, refused, or is
 //! counted in the [`Report`] as what it is.
 #![tactic(auto)]
 
+mod crew;
 mod deal;
 mod gate;
 mod host;
@@ -23,6 +24,7 @@ mod walk;
 mod worker;
 mod workplace;
 
+pub use crew::Crew;
 pub use gate::Gate;
 pub use host::{Host, MAX_NETWORKS};
 pub use running::{Report, offer, run};

@@ -45,16 +45,9 @@ pub(crate) fn apply_by<S: Shelf + Drop, H: Wait + Drop, R: Wait, G: Gate>(
 {
     gate.before(rt, &job);
     let Job { network, event } = job;
-    match cell.apply(rt, &mut walk.seat, event) {
-        Ok(_) => {
-            gate.after(rt, network);
-            true
-        }
-        Err(_) => {
-            gate.after(rt, network);
-            false
-        }
-    }
+    let answer = cell.apply(rt, &mut walk.seat, event);
+    gate.after(rt, network);
+    answer.is_ok()
 }
 
 /// Whether there is a receipt at the place.

@@ -1,10 +1,10 @@
 //! A worker, with a seat at each cell.
 
-ghost use Rattle.std.specs.Prelude.{◌≡◌, ◌<◌, ◌+◌, if◌then◌else◌, length, [], ◌∷◌, None, MatchOption, MatchResult, IfSome, slice_index_or};
+ghost use Rattle.std.specs.Prelude.{◌≡◌, ◌<◌, ◌+◌, if◌then◌else◌, length, [], ◌∷◌, None, MatchOption, IfSome, slice_index_or};
 ghost use Rattle.std.specs.Option.{option_to_list};
 ghost use Rattle.cells.specs.Sights.{CellSight};
 ghost use Rattle.workers.specs.Numbers.{IsNumbered, IsNumberAt};
-ghost use Rattle.workers.specs.Sums.{IsBusy, KeepsSums, IsPassing, IsReady, IsShort, SamePlaces, hand_of, hear_by, hears_of, with_put, with_taken};
+ghost use Rattle.workers.specs.Sums.{IsBusy, KeepsSums, IsPassing, IsReady, IsShort, SamePlaces, hand_of, hear_by, hears_of, with_taken};
 
 use crate::gate::Gate;
 use crate::shared::Shared;
@@ -97,19 +97,6 @@ impl<S: Shelf + Drop, H: Wait + Drop> Worker<S, H> {
         self.count(workplace.rt, is_applied);
     }
 
-    /// Puts a job where there is a queue with room, or hands it back.
-    fn put<R: Wait>(&mut self, rt: &R, shared: &Shared<S, H>, job: Job) -> Result<(), Job>
-        requires { IsPassing shared.now.queue self.old.pass }
-        ensures pass { IsPassing shared.now.queue self.new.pass }
-        ensures same { (self.new.walks ≡ self.old.walks) × (self.new.applied ≡ self.old.applied) × (self.new.refused ≡ self.old.refused) }
-        ensures put { MatchResult result (λ _. hand_of self.new.pass ≡ with_put (hand_of self.old.pass) job) (λ x. (x ≡ job) × (hand_of self.new.pass ≡ hand_of self.old.pass)) }
-    {
-        match (&shared.queue, &mut self.pass) {
-            (Some(queue), Some(pass)) => queue.put(rt, pass, job),
-            _ => Err(job),
-        }
-    }
-
     /// Takes a job where there is a queue with one.
     fn take<R: Wait>(&mut self, rt: &R, shared: &Shared<S, H>) -> Option<Job>
         requires { IsPassing shared.now.queue self.old.pass }
@@ -200,7 +187,7 @@ impl<S: Shelf + Drop, H: Wait + Drop> Worker<S, H> {
         }
     }
 
-    /// Takes and serves jobs until the queue was empty after the last put.
+    /// Takes and serves jobs until the queue was empty.
     pub(crate) fn work<R: Wait, G: Gate>(&mut self, workplace: &Workplace<'_, S, H, R, G>)
         requires order { IsNumbered workplace.now.shared.now.numbers.items workplace.now.shared.now.cells.items }
         requires ready { IsReady workplace.now.shared.now.cells.items workplace.now.shared.now.queue self.old }
@@ -228,36 +215,6 @@ impl<S: Shelf + Drop, H: Wait + Drop> Worker<S, H> {
     {
         while let Some(job) = jobs.pop() {
             self.serve(workplace, job);
-        }
-    }
-
-    /// Puts a job, or serves it where no queue has room.
-    fn submit<R: Wait, G: Gate>(&mut self, workplace: &Workplace<'_, S, H, R, G>, job: Job)
-        requires order { IsNumbered workplace.now.shared.now.numbers.items workplace.now.shared.now.cells.items }
-        requires ready { IsReady workplace.now.shared.now.cells.items workplace.now.shared.now.queue self.old }
-        ensures ready { IsReady workplace.now.shared.now.cells.items workplace.now.shared.now.queue self.new }
-        ensures kept { KeepsSums workplace.now.shared.now.cells.items (job ∷ []) self.old self.new }
-    {
-        match self.put(workplace.rt, workplace.shared, job) {
-            Ok(()) => {}
-            Err(job) => self.serve(workplace, job),
-        }
-    }
-
-    /// Submits jobs in their order.
-    pub(crate) fn submit_all<R: Wait, G: Gate>(
-        &mut self,
-        workplace: &Workplace<'_, S, H, R, G>,
-        mut jobs: Vec<Job>,
-    )
-        requires order { IsNumbered workplace.now.shared.now.numbers.items workplace.now.shared.now.cells.items }
-        requires ready { IsReady workplace.now.shared.now.cells.items workplace.now.shared.now.queue self.old }
-        ensures ready { IsReady workplace.now.shared.now.cells.items workplace.now.shared.now.queue self.new }
-        ensures kept { KeepsSums workplace.now.shared.now.cells.items jobs.items self.old self.new }
-    {
-        jobs.reverse();
-        while let Some(job) = jobs.pop() {
-            self.submit(workplace, job);
         }
     }
 }

@@ -10,19 +10,23 @@ use envstore::Shelf;
 use hoststep::Journal;
 use std::alloc::Global;
 use std::marker::Model;
+use thiserror::Error;
 use types::{Event, Out, Refusal};
 
 /// The most networks of a host (this host's profile).
 pub const MAX_NETWORKS: usize = 4096;
 
 /// Why a network is not added.
-#[derive(Clone, Copy, Debug, PartialEq, Eq)]
+#[derive(Clone, Copy, Debug, PartialEq, Eq, Error)]
 pub enum WorldError {
     /// There is a network of that number.
+    #[error("there is a network of that number")]
     NetTwice,
     /// There are 4,096 networks.
+    #[error("there are 4,096 networks")]
     TooManyNets,
     /// Memory was wanting.
+    #[error("memory is wanting")]
     NoMemory,
 }
 
@@ -127,7 +131,8 @@ impl<S: Shelf> World<S> {
 
     /// One event of a network, by its journal. The event of a network that is not there is refused.
     ///
-    /// An error is the first refusal that applies, or says that memory is short; the host is as it was.
+    /// An error is the first refusal that applies, or says that memory is short, as by [`Journal::apply`]; the host
+    /// is as it was.
     pub fn apply(&mut self, number: u32, event: Event) -> Result<Vec<Out>, Refusal>
         ensures answer { IsAnswered self.old number event result self.new }
         ensures same { OnErr result (self.new ≡ self.old) }

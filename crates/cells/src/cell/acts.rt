@@ -1,6 +1,6 @@
 //! What the seats of a cell do.
 
-ghost use Rattle.std.specs.Prelude.{◌≡◌, ◌≤◌, ◌<◌, ◌↔◌, false, true, length, IfOk, IfErr, Err, ℕ, IsTrue, map, replicate, []};
+ghost use Rattle.std.specs.Prelude.{◌≡◌, ◌≤◌, ◌<◌, ◌↔◌, false, true, length, IfOk, IfErr, IfSome, OnOk, Err, ℕ, IsTrue, map, replicate, []};
 ghost use Rattle.std.specs.List.{All};
 ghost use mathlib.Core.List.{IsPrefix};
 ghost use Rattle.crossbeam_queue.specs.Passes.{view, IsSamePass, IsPassOf};
@@ -13,7 +13,7 @@ ghost use Rattle.cells.specs.Sounds.{IsSound, IsWhy};
 
 use super::Cell;
 use crate::cell_state::CellState;
-use crate::lock::{add, deny, give, take};
+use crate::lock::{add, deny, give, take, try_take};
 use crate::refusal::CellRefusal;
 use crate::rule::{Checks, Closes, Ends, Lock, SeatPass, Shows, Sits};
 use crate::seat::Seat;
@@ -25,7 +25,8 @@ use std::alloc::{AllocError, Global};
 use std::marker::Brand;
 use std::snapshot::Snapshot;
 use std::sync::Wait;
-use types::{Event, Out};
+use std::thread;
+use types::Event;
 
 /// Not all seats of the cell were there. It and those that were are handed back.
 #[derive(Drop)]
@@ -147,6 +148,45 @@ impl<S: Shelf + Drop, H: Wait + Drop> Cell<S, H> {
 }
 
 impl<S: Shelf + Drop, H: Wait + Drop + Copy> Cell<S, H> {
+    /// A cell with 1 to 64 seats, numbered from 0 on, for a network where nothing has happened, over a shelf. What it
+    /// decides goes to a publisher with nothing appended, if there is one. An error says that memory is short.
+    fn open_with(
+        rt: &H,
+        alloc: Global,
+        config: NetConfig,
+        seats: u64,
+        shelf: S,
+        publisher: Option<Publisher<H>>,
+    ) -> Result<(Cell<S, H>, Vec<Seat<S, H>>), AllocError>
+        requires some { 0 < seats }
+        requires few { seats ≤ 64 }
+        requires publisher { IfSome publisher (λ p. (p.0 ≡ []) × (p.1 ≡ [])) }
+        ensures cell { IfOk result (λ r. (r.0.config ≡ config) × (r.0.seats ≡ seats)) }
+        ensures seats { IfOk result (λ r. length r.1.items ≡ seats) }
+        ensures fresh { IfOk result (λ r. AllFresh r.0.cell config seats r.1.items) }
+        ensures theirs { IfOk result (λ r. All (IsSeatOf r.0) r.1.items) }
+    {
+        let kept = config.try_copy(alloc)?;
+        let mut all = Vec::with_capacity(alloc, seats as usize)?;
+        let (lock, mut opener) = Lock::ruled(alloc, 1)?;
+        let cell_state = CellState::new(alloc, config, shelf, seats, publisher);
+        give::<Brand, S, H, H>(rt, &lock, &mut opener, cell_state);
+        for number in 0..seats {
+            let pass = lock.another::<Sits>(&mut opener);
+            all.push_reserved(Seat {
+                pass,
+                number,
+                receipts: Vec::new(alloc),
+            });
+        }
+        let cell = Cell {
+            lock,
+            config: kept,
+            seats,
+        };
+        Ok((cell, all))
+    }
+
     /// A cell with 1 to 64 seats, numbered from 0 on, for a network where nothing has happened, over a shelf, and
     /// up to 64 watches of what it decides. An error says that memory is short.
     pub fn open_watched(
@@ -165,29 +205,13 @@ impl<S: Shelf + Drop, H: Wait + Drop + Copy> Cell<S, H> {
         ensures watches { IfOk result (λ r. r.2.items ≡ replicate users.watches []) }
     {
         let CellUsers { seats, watches } = users;
-        let kept = config.try_copy(alloc)?;
-        let mut all = Vec::with_capacity(alloc, seats as usize)?;
-        let (lock, mut opener) = Lock::ruled(alloc, 1)?;
         let (publisher, given) = publisher_and_watches(*rt, alloc, watches)?;
-        let cell_state = CellState::new(alloc, config, shelf, seats, publisher);
-        give::<Brand, S, H, H>(rt, &lock, &mut opener, cell_state);
-        for number in 0..seats {
-            let pass = lock.another::<Sits>(&mut opener);
-            all.push_reserved(Seat {
-                pass,
-                number,
-                receipts: Vec::new(alloc),
-            });
-        }
-        let cell = Cell {
-            lock,
-            config: kept,
-            seats,
-        };
+        let (cell, all) = Cell::open_with(rt, alloc, config, seats, shelf, Some(publisher))?;
         Ok((cell, all, given))
     }
 
-    /// A cell as by [`Cell::open_watched`], with no watch.
+    /// A cell as by [`Cell::open_watched`], with no watch: it has no publisher either, and what it decides is found in
+    /// its journal alone.
     pub fn open_on(
         rt: &H,
         alloc: Global,
@@ -202,14 +226,13 @@ impl<S: Shelf + Drop, H: Wait + Drop + Copy> Cell<S, H> {
         ensures fresh { IfOk result (λ r. AllFresh r.0.cell config seats r.1.items) }
         ensures theirs { IfOk result (λ r. All (IsSeatOf r.0) r.1.items) }
     {
-        let users = CellUsers { seats, watches: 0 };
-        let (cell, all, _watches) = Cell::open_watched(rt, alloc, config, shelf, users)?;
-        Ok((cell, all))
+        Cell::open_with(rt, alloc, config, seats, shelf, None)
     }
 }
 
 impl<S: Shelf + Drop, H: Wait + Drop> Cell<S, H> {
-    /// Applies an event under the lock, and answers what it gives out; the seat gains its receipt.
+    /// Applies an event under the lock: the seat gains its receipt, behind the others, which has what the event gives
+    /// out. It waits for the lock.
     ///
     /// What the journal decided is published, as far as there is memory; the rest goes with a later call. Beside
     /// the lock it waits for watches that read.
@@ -221,29 +244,62 @@ impl<S: Shelf + Drop, H: Wait + Drop> Cell<S, H> {
         &self,
         rt: &R,
         seat: &mut Seat<S, H>,
-        event: Event,
-    ) -> Result<Vec<Out>, CellRefusal>
+        mut event: Event,
+    ) -> Result<(), CellRefusal>
         requires { IsSeatOf self.now seat.old }
         ensures seat { IsSeatOf self.now seat.new }
         ensures number { seat.new.me.number ≡ seat.old.me.number }
         ensures seen { IsPrefix seat.old.me.seen seat.new.me.seen }
         ensures lasting { seat.old.me.stopped ≡ true → seat.new.me.stopped ≡ true }
-        ensures ok { IfOk result (λ outs. IsApplied self.now event outs.items seat.old seat.new) }
+        ensures ok { OnOk result (IsApplied self.now event seat.old seat.new) }
         ensures err { IfErr result (λ r. IsDenial event r seat.old seat.new) }
         ensures refusal { IfErr result (IsWhy self.now.config seat.new.me.seen seat.new.me.stopped event) }
         ensures closed { (result ≡ Err Closed) ↔ (seat.new.me.stopped ≡ true) }
     {
+        for _ in rt.forever() {
+            match self.try_apply(rt, seat, event) {
+                Ok(answer) => return answer,
+                Err(back) => event = back,
+            }
+            thread::yield_now();
+        }
+        unreachable!()
+    }
+
+    /// As [`Cell::apply`], with one attempt at the lock: where another seat has it, or another thread is in the way, the
+    /// event is handed back at once, and nothing has changed. So who has other work need not wait.
+    ///
+    /// Once it has the lock it may still wait for watches that read, as far as something is published.
+    pub fn try_apply<R: Wait>(
+        &self,
+        rt: &R,
+        seat: &mut Seat<S, H>,
+        event: Event,
+    ) -> Result<Result<(), CellRefusal>, Event>
+        requires { IsSeatOf self.now seat.old }
+        ensures seat { IsSeatOf self.now seat.new }
+        ensures number { seat.new.me.number ≡ seat.old.me.number }
+        ensures seen { IsPrefix seat.old.me.seen seat.new.me.seen }
+        ensures lasting { seat.old.me.stopped ≡ true → seat.new.me.stopped ≡ true }
+        ensures ok { IfOk result (λ a. OnOk a (IsApplied self.now event seat.old seat.new)) }
+        ensures err { IfOk result (λ a. IfErr a (λ r. IsDenial event r seat.old seat.new)) }
+        ensures refusal { IfOk result (λ a. IfErr a (IsWhy self.now.config seat.new.me.seen seat.new.me.stopped event)) }
+        ensures closed { IfOk result (λ a. (a ≡ Err Closed) ↔ (seat.new.me.stopped ≡ true)) }
+        ensures busy { IfErr result (λ e. (e ≡ event) × (seat.new ≡ seat.old)) }
+    {
+        let Some(mut cell_state) = try_take(&self.lock, &mut seat.pass) else {
+            return Err(event);
+        };
         let asked = Snapshot::of(&event);
-        let mut cell_state = take(rt, &self.lock, &mut seat.pass);
         match cell_state.enter(&mut seat.receipts, event) {
-            Ok(entered) => {
+            Ok(made) => {
                 let cell_state = cell_state.publish();
-                add::<Brand, S, H, R>(rt, &self.lock, &mut seat.pass, cell_state, &entered.made);
-                Ok(entered.answer)
+                add::<Brand, S, H, R>(rt, &self.lock, &mut seat.pass, cell_state, &made);
+                Ok(Ok(()))
             }
             Err(refusal) => {
                 deny::<Brand, S, H, R>(rt, &self.lock, &mut seat.pass, cell_state, &asked, refusal);
-                Err(refusal)
+                Ok(Err(refusal))
             }
         }
     }
@@ -263,37 +319,38 @@ impl<S: Shelf + Drop, H: Wait + Drop> Cell<S, H> {
 
     /// Publishes what the journal decided, as far as there is memory, and has a watch of this cell see all that is
     /// published. It answers how many more decisions the journal has that the seat has now seen: none, where there
-    /// was memory. For a watch of another cell it may wait for ever.
-    pub fn tell<R: Wait>(&self, rt: &R, seat: &mut Seat<S, H>, watch: &mut Watch) -> usize
+    /// was memory. None says that the watch is not of this cell: then no more is known than that what it saw has
+    /// grown.
+    pub fn tell<R: Wait>(&self, rt: &R, seat: &mut Seat<S, H>, watch: &mut Watch) -> Option<usize>
         requires { IsSeatOf self.now seat.old }
         ensures seat { IsSeatOf self.now seat.new }
         ensures number { seat.new.me.number ≡ seat.old.me.number }
         ensures seen { IsPrefix seat.old.me.seen seat.new.me.seen }
         ensures lasting { seat.old.me.stopped ≡ true → seat.new.me.stopped ≡ true }
         ensures same { IsSameButSeen seat.old seat.new }
-        ensures told { IsToldBut seat.new.me.seen result watch.new }
+        ensures told { IfSome result (λ missing. IsToldBut seat.new.me.seen missing watch.new) }
         ensures grows { IsPrefix watch.old watch.new }
     {
         let cell_state = take(rt, &self.lock, &mut seat.pass).publish();
-        let missing = cell_state.tell(rt, watch);
+        let missing = cell_state.tell(watch);
         give::<Brand, S, H, R>(rt, &self.lock, &mut seat.pass, cell_state);
         missing
     }
 
-    /// The journal, the seats with their receipts, and what was published, where all seats of the cell are there.
-    /// Watches read nothing from now on. It takes no memory.
+    /// The journal, the seats with their receipts, and what was published, where all seats of the cell are there. Watches
+    /// read nothing from now on. A cell of [`Cell::open_on`] has published nothing, and there is None. It takes no memory.
     ///
     /// An error hands the cell and the seats back, as they were.
     pub fn close_watched<R: Wait>(
         self,
         rt: &R,
         mut seats: Vec<Seat<S, H>>,
-    ) -> Result<(Journal<S>, Vec<Seat<S, H>>, Box<Board>), SeatsMissing<S, H>>
+    ) -> Result<(Journal<S>, Vec<Seat<S, H>>, Option<Box<Board>>), SeatsMissing<S, H>>
         requires { All (IsSeatOf self) seats.items }
         ensures config { IfOk result (λ r. r.0.config ≡ self.config) }
         ensures ended { IfOk result (λ r. r.1.items ≡ map ended_sight seats.items) }
         ensures history { IfOk result (λ r. IsOneHistory self.seats r.0 r.1.items) }
-        ensures published { IfOk result (λ r. IsPrefix r.2.value (decisions_known r.0.entries)) }
+        ensures published { IfOk result (λ r. IfSome r.2 (λ b. IsPrefix b.value (decisions_known r.0.entries))) }
         ensures back { IfErr result (λ m. (m.cell ≡ self) × (m.seats.items ≡ seats.items)) }
         ensures missing { IfErr result (λ m. (k : ℕ) × (k < self.seats) × ¬ HasNumber seats.items k) }
     {

@@ -11,10 +11,7 @@ use std::sync::Wait;
 use std::thread::Threads;
 use types::{Event, Out};
 use work::{Job, Queue};
-use workers::{Gate, Host, Report, offer, run};
-
-/// What was reported of jobs when they were offered, and when they were run.
-pub(super) type Reports = (Report, Report);
+use workers::{Crew, Gate, Host, Report, offer, run};
 
 /// How much the journals of a host have, and their seats; and how many journals are not those of one thread.
 #[derive(Clone, Copy)]
@@ -97,8 +94,8 @@ pub(super) fn report(applied: u64) -> Report {
     }
 }
 
-/// The jobs are offered to a queue of so many places, and run by so many workers, which have a pass each. `None` where
-/// there was no memory for them.
+/// The jobs are run by so many workers, which have a pass each of a queue of so many places; those for which there is
+/// no place, when the others are done. `None` where there was no memory for them.
 pub(super) fn run_jobs<R: Threads + Wait + Sync + Send + Drop, G: Gate + Sync>(
     rt: &R,
     alloc: Global,
@@ -106,18 +103,43 @@ pub(super) fn run_jobs<R: Threads + Wait + Sync + Send + Drop, G: Gate + Sync>(
     queue: (usize, usize),
     jobs: Option<Vec<Job>>,
     gate: &G,
-) -> Option<Reports>
+) -> Option<Report>
     requires { (0 < queue.0) × (queue.0 ≤ 65536) × (0 < queue.1) × (queue.1 ≤ 64) }
 {
-    let jobs = jobs?;
-    let (places, workers) = queue;
-    match Queue::new(alloc, places, workers) {
-        Ok(queue) => {
-            let (queue, offered) = offer(rt, host, queue, jobs, gate);
-            Some((offered, run(rt, host, queue, workers, gate)))
+    let mut jobs = jobs?;
+    jobs.reverse();
+    let mut report = Report::none();
+    for _ in rt.forever() {
+        if jobs.is_empty() {
+            return Some(report);
         }
-        Err(_) => None,
+        match run_turn(rt, alloc, host, queue, &mut jobs, gate) {
+            Some(turn) => report = report.plus(rt, turn),
+            None => return None,
+        }
     }
+    None
+}
+
+/// As many of the jobs as there are places for.
+fn run_turn<R: Threads + Wait + Sync + Send + Drop, G: Gate + Sync>(
+    rt: &R,
+    alloc: Global,
+    host: &mut Host<SharedHandle<R>, R>,
+    queue: (usize, usize),
+    jobs: &mut Vec<Job>,
+    gate: &G,
+) -> Option<Report>
+    requires { (0 < queue.0) × (queue.0 ≤ 65536) × (0 < queue.1) × (queue.1 ≤ 64) }
+{
+    let (places, workers) = queue;
+    let crew = Crew::new(alloc, &*host, workers).ok()?;
+    let Ok((queue, mut passes)) = Queue::new(alloc, places, workers) else {
+        drop(crew);
+        return None;
+    };
+    offer(rt, &queue, &mut passes[0], jobs);
+    Some(run(rt, host, crew, (queue, passes), gate))
 }
 
 /// Whether a node gives out the same in both; of what it emits, the sender and the statement.

@@ -18,7 +18,7 @@ join-first-requires-send-F g t c κs within =
 
 pub returns : goal.returns
 returns g t c =
-    let parts = c.in_ok-low.ensures in
-    let low = IfOk-at_ok (λ written. AreJournalLines c.in_ok-low.low (string_bytes written.decided) (string_bytes written.lengths)) c.in_ok-first.was c.join-first.ensures.first in
-    let high = IfOk-at_ok (λ written. AreJournalLines c.in_ok-low.high (string_bytes written.decided) (string_bytes written.lengths)) c.in_ok-others.was c.join-first.ensures.second in
-    written_both c.args.host c.in_ok-low.low c.in_ok-low.high _ _ _ _ _ _ _ parts.0 parts.1 low high c.in_ok-written.ensures.0 c.in_ok-written.ensures.1
+    let parts = c.in-Ok.ensures.ok in
+    let low = IfOk-at_ok (λ written. AreJournalLines c.in-Ok.parts.0 (string_bytes written.decided) (string_bytes written.lengths)) c.in_ok-first.was c.join-first.ensures.first in
+    let high = IfOk-at_ok (λ written. AreJournalLines c.in-Ok.parts.1 (string_bytes written.decided) (string_bytes written.lengths)) c.in_ok-others.was c.join-first.ensures.second in
+    written_both c.args.host c.in-Ok.parts.0 c.in-Ok.parts.1 _ _ _ _ _ _ _ parts.0 parts.1 low high c.in_ok-written.ensures.0 c.in_ok-written.ensures.1

@@ -1,11 +1,19 @@
-use denote.Param.Send.{sendable}
-use Rattle.std.proofs.Crossing.{crosses}
-use Rattle.workers.proofs.Handles.{handle_send}
-use Rattle.pooled.proofs.PassLaws.{done}
+use Rattle.std.proofs.Common.{[], ◌∙◌, arith, rules, zero-add}
+use Rattle.workers.proofs.Sums.{weigh-turned}
+use Rattle.workers.proofs.Worked.{empty}
+use Rattle.pooled.proofs.TurnLaws.{none_done, turn_more, turns_done}
 use Rattle.pooled.proofs.pool.run_jobs.Goals as goal
+use Rattle.pooled.proofs.pool.run_jobs.Goals.{in-None, in-Some+then-is_empty}
 
-pub run-ran-requires-send-S : goal.run-ran-requires-send-S
-run-ran-requires-send-S g c κs within = let h = handle_send _ c.type_bounds.send-R c.type_bounds.sync-R in search (sendable, crosses) depth 10
+pub loop-init : goal.loop-init
+loop-init g c = ([], (λ h. zero-add _ ∙ weigh-turned h c.args.jobs.items c.reverse.new.self.items c.reverse.ensures.items), none_done _ _ c.none-report.ensures)
+
+pub loop-preserved : goal.loop-preserved
+loop-preserved g c = turn_more _ _ _ _ _ _ _ _ _ c.plus-report.ensures c.loop.invariant c.in-Ok.ensures
 
 pub returns : goal.returns
-returns g c = done c.in_ok-queue.queue.0 _ _ _ _ _ _ _ _ c.in_ok-queue.ensures.3 c.offer-queue.ensures.same c.offer-queue.ensures.offered c.run-ran.ensures.same c.run-ran.ensures.run
+returns g c =
+    elim c.match-next.branch [
+      | in-None w ↦ search rules
+      | in-Some+then-is_empty w ↦ turns_done _ c.loop.jobs.items _ _ _ (empty c.loop.jobs.items (search rules)) c.loop.invariant
+    ]

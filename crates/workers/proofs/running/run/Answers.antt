@@ -1,12 +1,24 @@
-use Rattle.std.proofs.Common.{inl, inr, refl, sym, subst, arith}
+use Rattle.std.proofs.Common.{List, refl, sym, subst, ap, ◌∙◌, arith, length}
+use Rattle.std.proofs.lemmas.Slice.Zip.{AllZip-long}
+use Rattle.workers.specs.NetSights.{Net}
 use Rattle.workers.specs.Spares.{AllHave}
-use Rattle.workers.proofs.Nets.{done_after, host_state_after, grown_after, nets_same}
+use Rattle.workers.specs.declared.deal.SpareSeats.{SpareSeats}
+use Rattle.workers.proofs.Nets.{done_after, host_state_after, grown_after, nets_len}
 use Rattle.workers.proofs.Worked.{hosted_have}
 use Rattle.workers.proofs.running.run.Goals as goal
 
-pub fewest_seats-many-requires-clause-seats : goal.fewest_seats-many-requires-clause-seats
-fewest_seats-many-requires-clause-seats g c =
+pub into_room-worker_room-requires-clause-seats : goal.into_room-worker_room-requires-clause-seats
+into_room-worker_room-requires-clause-seats g c =
     subst (AllHave 1) (sym c.as_slice.ensures.value) (hosted_have c.host.inside.host_state.shared.cells.items c.host.inside.host_state.spares.items c.host.invariant.hosted)
+
+pub into_room-worker_room-requires-clause-room : goal.into_room-worker_room-requires-clause-room
+into_room-worker_room-requires-clause-room g c =
+    let f = c.host.inside.host_state in
+    let s = ap (λ (l : List (SpareSeats _ _ _)). length l) c.as_slice.ensures.value in
+    let n = nets_len f.shared.cells.items f.spares.items c.host.invariant.hosted in
+    let h = AllZip-long _ f.shared.cells.items f.spares.items c.host.invariant.hosted in
+    let v = ap (λ (l : List Net). length l) c.host.view_is in
+    let r = c.requires.room in omega arith
 
 pub run_workers-requires-clause-there : goal.run_workers-requires-clause-there
 run_workers-requires-clause-there g c κs within = (c.args.queue.0, refl)
@@ -16,26 +28,12 @@ invariant_of-host g c =
     let e = c.run_workers.ensures in
     host_state_after c.host.inside.host_state c.run_workers.new.host_state c.host.invariant e.shared.0 e.shared.1 e.shared.2 e.grown
 
-pub returns-in-Ok-clause-same : goal.returns-in-Ok-clause-same
-returns-in-Ok-clause-same g c =
+pub returns-clause-same : goal.returns-clause-same
+returns-clause-same g c =
     let e = c.run_workers.ensures in
     grown_after c.host.inside.host_state c.run_workers.new.host_state c.args.host.now c.host.invariant c.host.view_is e.shared.1 e.grown
 
-pub returns-in-Ok-clause-run : goal.returns-in-Ok-clause-run
-returns-in-Ok-clause-run g c =
+pub returns-clause-done : goal.returns-clause-done
+returns-clause-done g c =
     let e = c.run_workers.ensures in
-    inl (done_after c.host.inside.host_state c.run_workers.new.host_state c.args.host.now _ _ c.run_workers.result c.host.invariant c.host.view_is e.shared.1 e.grown e.worked)
-
-pub returns-in-Err-clause-same : goal.returns-in-Err-clause-same
-returns-in-Err-clause-same g c = nets_same c.args.host.now
-
-pub returns-in-Err-clause-run : goal.returns-in-Err-clause-run
-returns-in-Err-clause-run g c =
-    inr (record {
-      same = refl;
-      applied = refl;
-      refused = refl;
-      left = c.close.result.items;
-      sum = λ h. sym (c.close.ensures h);
-      unrun = (let n = c.len-in-Err.ensures in let ok = c.close.result.ok.0 in omega arith);
-    })
+    done_after c.host.inside.host_state c.run_workers.new.host_state c.args.host.now _ _ c.run_workers.result c.host.invariant c.host.view_is e.shared.1 e.grown e.worked

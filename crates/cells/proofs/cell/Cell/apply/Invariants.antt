@@ -1,9 +1,5 @@
-use Rattle.crossbeam_queue.specs.Passes.{view}
-use Rattle.cells.specs.Rule.{after_application, after_denial}
+use Rattle.std.proofs.Common.{◌≡◌}
 use Rattle.cells.proofs.cell.Cell.apply.Given as goal
 
-abbrev pub ghosts-add : goal.ghosts-add
-ghosts-add g a = record { next = after_application (view a.pass.now) a.made.now.value }
-
-abbrev pub ghosts-deny : goal.ghosts-deny
-ghosts-deny g a = record { next = after_denial (view a.pass.now) a.asked.now.value a.refusal }
+abbrev pub invariant-loop : goal.invariant-loop
+invariant-loop g l = (l.seat ≡ l.initial.seat) × (l.event ≡ l.initial.event)

@@ -3,10 +3,11 @@ use mathlib.Core.List.{IsPrefix}
 use Rattle.decisions.specs.declared.decision.Decision.{Decision}
 use Rattle.cells.specs.Publishing.{decisions_known}
 use Rattle.cells.specs.Views.{CellStateSight}
-use Rattle.cells.proofs.Published.{published_begins}
+use Rattle.cells.proofs.Published.{published_begins, there}
 use Rattle.cells.proofs.cell_state.CellState.into_parts.Goals as goal
 
-pub returns-clause-published : goal.returns-clause-published
-returns-clause-published g c =
+pub returns-in-Some-clause-published : goal.returns-in-Some-clause-published
+returns-in-Some-clause-published g c =
     let d = c.self.inside in
-    subst (λ (y : List Decision × CellStateSight). IsPrefix y.0 (decisions_known y.1.log.entries)) (λ i. (sym c.take.ensures i, c.self.view_is i)) (published_begins d.journal.entries d.appended d.publisher c.self.invariant)
+    subst (λ (y : List Decision × CellStateSight). IsPrefix y.0 (decisions_known y.1.log.entries)) (λ i. (sym c.take.ensures i, c.self.view_is i))
+    (published_begins d.journal.entries d.appended c.in-Some.publisher (there d.journal.entries d.appended d.publisher c.in-Some.publisher c.in-Some.is c.self.invariant))

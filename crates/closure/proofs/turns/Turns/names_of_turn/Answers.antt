@@ -1,5 +1,4 @@
-use Rattle.std.proofs.Common.{◌≡◌, ◌∙◌, ◌==◌, ap, sym, subst, Vec, Global, ℕ, List, slice_get, option_map, Option, Some}
-use Rattle.std.proofs.lemmas.List.Sorted.{list_any-IsPermutation}
+use Rattle.std.proofs.Common.{◌≡◌, ◌∙◌, ap, sym, subst, Vec, Global, ℕ, List, slice_get, option_map, Option, Some}
 use Rattle.types.specs.declared.node_id.NodeId.{NodeId}
 use Rattle.closure.specs.Announcing.{names_of}
 use Rattle.closure.specs.Turns.{IsGiven, all_added}
@@ -21,5 +20,4 @@ returns-clause-given g c =
           c.requires.ready read.0 c.requires.there read.1
           (ap (λ (v : Vec NodeId Global). v.items) w.names-is ∙ (w.in_ok-names-in-Some.ensures ∙ ap (λ (ns : List ℕ). all_added c.args.self.now.slot run (names_of c.args.members.now) c.args.turn.now.node ns) w.deref.ensures.value))
     ] in
-    given_sorted nodes c.args.self.now.slot run (names_of c.args.members.now) c.args.turn.now.node c.match-branch-2.names.items c.sort_unstable.new.self.items unsorted
-    (λ u. sym (list_any-IsPermutation (λ x. x == u) c.match-branch-2.names.items c.sort_unstable.new.self.items c.sort_unstable.ensures.permutation))
+    given_sorted nodes c.args.self.now.slot run (names_of c.args.members.now) c.args.turn.now.node c.match-branch-2.names.items c.put_in_order.new.names.items unsorted c.put_in_order.ensures.same

@@ -1,6 +1,7 @@
-use Rattle.std.proofs.Common.{◌≡◌, ◌<◌, ◌≤◌, suc, get_or, slice_get, Some, length, arith}
-use Rattle.std.proofs.lemmas.Option.{slice_get-get_or}
-use Rattle.closure.specs.Announcing.{names_of}
+use Rattle.std.proofs.Common.{◌≡◌, ◌<◌, ◌≤◌, ◌+◌, suc, subst, get_or, slice_get, Some, length, arith}
+use Rattle.std.proofs.lemmas.Option.{slice_get-get_or, slice_get_past}
+use Rattle.closure.specs.Announcing.{AreMembersAt, names_of}
+use Rattle.closure.specs.Announcing.AreMembersAt.{turn, again}
 use Rattle.closure.specs.Turns.{lists_after_turn}
 use Rattle.closure.proofs.ClosureSteps.{all_given}
 use Rattle.closure.proofs.Growing.{names_length, sweeping_begins, sweeping_goes_on, sweep_settles, members_bound}
@@ -8,7 +9,7 @@ use Rattle.closure.proofs.Readiness.{turned_within}
 use Rattle.closure.proofs.turns.Turns.sweep.Goals as goal
 
 pub loop-place-init : goal.loop-place-init
-loop-place-init g c = (sweeping_begins (g.J.Announcements.nodes c.args.self.now.journal.now) c.args.self.now.slot (g.J.Announcements.entries c.args.self.now.journal.now) c.args.members.now, c.requires.ready, omega arith)
+loop-place-init g c = (sweeping_begins (g.J.Announcements.nodes c.args.self.now.journal.now) c.args.self.now.slot (g.J.Announcements.entries c.args.self.now.journal.now) c.args.members.now, c.requires.ready, omega arith, λ v h. h)
 
 pub loop-place-smaller : goal.loop-place-smaller
 loop-place-smaller g c =
@@ -30,9 +31,18 @@ loop-place-preserved g c =
           c.in_ok-take.ensures.grown c.in_ok-take.ensures.settled,
       c.in_ok-take.ensures.ready,
       omega (arith, counted, more),
+      λ v h.
+          let next : suc c.loop-place.place ≡ c.loop-place.place + 1 = omega arith in
+          subst (λ n. AreMembersAt (g.J.Announcements.nodes c.args.self.now.journal.now) c.args.self.now.slot v (g.J.Announcements.entries c.args.self.now.journal.now) n c.take.new.members) next
+          (turn (c.loop-place.invariant.3 v h) there (c.in_ok-take.ensures.turn (get_or (names_of c.loop-place.members) c.loop-place.place 0) there)),
     )
 
 pub returns-clause-settled : goal.returns-clause-settled
 returns-clause-settled g c =
     sweep_settles (g.J.Announcements.nodes c.args.self.now.journal.now) c.args.self.now.slot (g.J.Announcements.entries c.args.self.now.journal.now)
     c.args.members.now c.loop-place.members c.loop-place.place c.loop-place.invariant.0 (omega (arith, c.loop-place-test.false, c.len.ensures.value))
+
+pub returns-clause-in_turn : goal.returns-clause-in_turn
+returns-clause-in_turn g c = λ v h.
+    again (c.loop-place.invariant.3 v h)
+    (slice_get_past (names_of c.loop-place.members) c.loop-place.place (omega (arith, c.loop-place-test.false, c.len.ensures.value, names_length c.loop-place.members)))

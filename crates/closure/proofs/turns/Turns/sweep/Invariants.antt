@@ -1,5 +1,5 @@
-use Rattle.std.proofs.Common.{suc, ◌-◌, ◌≤◌, length}
-use Rattle.closure.specs.Announcing.{names_of}
+use Rattle.std.proofs.Common.{ℕ, suc, ◌-◌, ◌≤◌, length}
+use Rattle.closure.specs.Announcing.{AreMembersAt, names_of}
 use Rattle.closure.specs.Turns.{IsReady}
 use Rattle.closure.proofs.Growing.{IsSweeping}
 use Rattle.closure.proofs.ClosureSteps.{all_given}
@@ -10,6 +10,8 @@ invariant-loop-place g l =
     IsSweeping (g.J.Announcements.nodes l.self.journal.now) l.self.slot (g.J.Announcements.entries l.self.journal.now) l.initial.members l.members l.place
     × IsReady (g.J.Announcements.nodes l.self.journal.now) l.self.slot (g.J.Announcements.entries l.self.journal.now) (names_of l.members) l.ready
     × (l.place ≤ length l.ready)
+    × ((v : ℕ) → AreMembersAt (g.J.Announcements.nodes l.self.journal.now) l.self.slot v (g.J.Announcements.entries l.self.journal.now) 0 l.initial.members
+    → AreMembersAt (g.J.Announcements.nodes l.self.journal.now) l.self.slot v (g.J.Announcements.entries l.self.journal.now) l.place l.members)
 
 abbrev pub decreases-loop-place : goal.decreases-loop-place
 decreases-loop-place g l = suc (length (all_given (g.J.Announcements.nodes l.self.journal.now) l.self.slot (g.J.Announcements.entries l.self.journal.now))) - l.place

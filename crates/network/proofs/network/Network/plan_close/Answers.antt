@@ -2,7 +2,7 @@ use Rattle.std.proofs.Common.{rules, ◌≡◌, Err, sym, subst}
 use Rattle.types.specs.declared.event.Refusal.TheVariants.{SlotNotOpen}
 use Rattle.protocol.specs.Networks.{source}
 use Rattle.protocol.specs.Networks.Step.{Closes}
-use Rattle.network.specs.Deeds.{IsPlanned}
+use Rattle.network.specs.Deeds.{IsPlannedSurely}
 use Rattle.network.specs.Standing.{IsStanding}
 use Rattle.network.proofs.Openings.{closes-full, closes-nowhere, closes-plan}
 use Rattle.network.proofs.Planned.{room-err, room-ok}
@@ -12,7 +12,7 @@ pub returns-in_err-slot_at : goal.returns-in_err-slot_at
 returns-in_err-slot_at g c =
     let m = c.args.self.now in
     let e : c.from_residual.result ≡ Err SlotNotOpen = search rules in
-    subst (IsPlanned m (Closes c.args.slot)) (sym e) (closes-nowhere m c.args.slot c.in_err-slot_at.ensures.1)
+    subst (IsPlannedSurely m (Closes c.args.slot)) (sym e) (closes-nowhere m c.args.slot c.in_err-slot_at.ensures.1)
 
 pub has_room-requires : goal.has_room-requires
 has_room-requires g c = (source c.args.self.now.config.roster (Closes c.args.slot), c.openings-drawn.ensures.closes c.args.slot)
@@ -22,7 +22,7 @@ returns-in_err-has_room g c =
     let m = c.args.self.now in
     let r = c.in_err-has_room.field-0.0 in
     let e : c.from_residual-in_err-has_room.result ≡ Err r = search rules in
-    subst (IsPlanned m (Closes c.args.slot)) (sym e)
+    subst (IsPlannedSurely m (Closes c.args.slot)) (sym e)
     (closes-full m c.args.slot c.in_ok-slot_at.slot_at r c.in_ok-slot_at.ensures (room-err m (λ o. source o (Closes c.args.slot)) c.openings-drawn.result r (c.openings-drawn.ensures.closes c.args.slot) c.in_err-has_room.ensures))
 
 pub returns : goal.returns

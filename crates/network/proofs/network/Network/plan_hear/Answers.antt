@@ -2,7 +2,7 @@ use Rattle.std.proofs.Common.{rules, ◌≡◌, ◌==◌, false, Err, sym, subst
 use Rattle.network.specs.Lodgings.{seat_of}
 use Rattle.types.specs.declared.event.Refusal.TheVariants.{NoSuchNode, SlotNotOpen}
 use Rattle.protocol.specs.Networks.Step.{Hears}
-use Rattle.network.specs.Deeds.{IsPlan, IsPlanned}
+use Rattle.network.specs.Deeds.{IsPlan, IsPlannedSurely}
 use Rattle.network.specs.declared.plan.Deed.TheVariants.{Act}
 use Rattle.envstore.specs.declared.filed.Filed.{Filed}
 use Rattle.slot.specs.declared.filed.FiledEvent.TheVariants as events
@@ -15,13 +15,13 @@ pub returns-in_err-node_at : goal.returns-in_err-node_at
 returns-in_err-node_at g c =
     let m = c.args.self.now in
     let e : c.from_residual.result ≡ Err NoSuchNode = search rules in
-    subst (IsPlanned m (Hears c.args.slot c.args.node.now c.args.emission.now.from c.args.emission.now.kind c.args.emission.now.number)) (sym e) (hears-nowhere m c.args.slot c.args.node.now c.args.emission.now.from c.args.emission.now.kind c.args.emission.now.number c.in_err-node_at.ensures.1)
+    subst (IsPlannedSurely m (Hears c.args.slot c.args.node.now c.args.emission.now.from c.args.emission.now.kind c.args.emission.now.number)) (sym e) (hears-nowhere m c.args.slot c.args.node.now c.args.emission.now.from c.args.emission.now.kind c.args.emission.now.number c.in_err-node_at.ensures.1)
 
 pub returns-in_err-from_at : goal.returns-in_err-from_at
 returns-in_err-from_at g c =
     let m = c.args.self.now in
     let e : c.from_residual-in_err-from_at.result ≡ Err NoSuchNode = search rules in
-    subst (IsPlanned m (Hears c.args.slot c.args.node.now c.args.emission.now.from c.args.emission.now.kind c.args.emission.now.number)) (sym e) (hears-nobody m c.args.slot c.args.node.now c.args.emission.now.from c.args.emission.now.kind c.args.emission.now.number c.in_err-from_at.ensures.1)
+    subst (IsPlannedSurely m (Hears c.args.slot c.args.node.now c.args.emission.now.from c.args.emission.now.kind c.args.emission.now.number)) (sym e) (hears-nobody m c.args.slot c.args.node.now c.args.emission.now.from c.args.emission.now.kind c.args.emission.now.number c.in_err-from_at.ensures.1)
 
 pub returns-in_err-slot_at : goal.returns-in_err-slot_at
 returns-in_err-slot_at g c =
@@ -34,7 +34,7 @@ returns-in_err-slot_at g c =
     let differ : (u == w) ≡ false = search rules in
     let two : AreTwo m u h w j = record { node = c.in_ok-node_at.ensures; from = c.in_ok-from_at.ensures; differ = differ } in
     let e : c.from_residual-in_err-slot_at.result ≡ Err SlotNotOpen = search rules in
-    subst (IsPlanned m (Hears i u w c.args.emission.now.kind c.args.emission.now.number)) (sym e) (hears-closed m i u h w j c.args.emission.now.kind c.args.emission.now.number two c.in_err-slot_at.ensures.1)
+    subst (IsPlannedSurely m (Hears i u w c.args.emission.now.kind c.args.emission.now.number)) (sym e) (hears-closed m i u h w j c.args.emission.now.kind c.args.emission.now.number two c.in_err-slot_at.ensures.1)
 
 pub instance-requires : goal.instance-requires
 instance-requires g c =
@@ -57,7 +57,7 @@ returns-in_err-drawn g c =
     c.self.view_is c.self.invariant c.in_ok-node_at.ensures c.in_ok-from_at.ensures (search rules) c.in_ok-slot_at.ensures c.instance.ensures.seat c.emission.ensures.sent in
     let r = c.in_err-drawn.field-0.0 in
     let e : c.from_residual-in_err-drawn.result ≡ Err r = search rules in
-    subst (IsPlanned a.self.now (Hears a.slot a.node.now a.emission.now.from a.emission.now.kind a.emission.now.number)) (sym e)
+    subst (IsPlannedSurely a.self.now (Hears a.slot a.node.now a.emission.now.from a.emission.now.kind a.emission.now.number)) (sym e)
     (hears-full c.in-Some.emitted r x c.in-Some.is (c.in_err-drawn.ensures.room a.slot c.in_ok-slot_at.ensures))
 
 pub returns : goal.returns

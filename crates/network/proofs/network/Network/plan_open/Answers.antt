@@ -1,4 +1,4 @@
-use Rattle.std.proofs.Common.{rules, ◌≡◌, ◌∙◌, true, false, is_some, Err, refl, sym, ap, subst, inl, not, nat_lt, length, map}
+use Rattle.std.proofs.Common.{rules, ◌≡◌, ◌∙◌, true, false, is_some, Err, refl, sym, ap, subst, inl, inr, not, nat_lt, length, map}
 use Rattle.protocol.specs.Networks.{instances_of_new_slot, source}
 use Rattle.protocol.specs.Networks.Step.{Opens}
 use Rattle.network.specs.Deeds.{IsPlanned, index_of_slot}
@@ -12,7 +12,7 @@ pub returns-then-is_some : goal.returns-then-is_some
 returns-then-is_some g c =
     let m = c.args.self.now in
     let t : is_some (index_of_slot (map slot_of (machine_of m).slots) c.args.slot) ≡ true = search rules in
-    opens-again-so m c.args.slot t
+    inr (opens-again-so m c.args.slot t)
 
 pub returns-then-slots_are_full : goal.returns-then-slots_are_full
 returns-then-slots_are_full g c =
@@ -20,7 +20,7 @@ returns-then-slots_are_full g c =
     let f : is_some (index_of_slot (map slot_of (machine_of m).slots) c.args.slot) ≡ false = search rules in
     let none = none-so (index_of_slot (map slot_of (machine_of m).slots) c.args.slot) f in
     let l : not (nat_lt (length m.slots) m.config.budgets.slots) ≡ true = search rules in
-    opens-many m c.args.slot none l
+    inr (opens-many m c.args.slot none l)
 
 pub has_room-requires : goal.has_room-requires
 has_room-requires g c = (source c.args.self.now.config.roster (Opens c.args.slot), c.openings-drawn.ensures.opens c.args.slot)
@@ -34,7 +34,7 @@ returns-in_err-has_room g c =
     let r = c.in_err-has_room.field-0.0 in
     let e : c.from_residual.result ≡ Err r = search rules in
     subst (IsPlanned m (Opens c.args.slot)) (sym e)
-    (opens-full m c.args.slot r none l (room-err m (λ o. source o (Opens c.args.slot)) c.openings-drawn.result r (c.openings-drawn.ensures.opens c.args.slot) c.in_err-has_room.ensures))
+    (inr (opens-full m c.args.slot r none l (room-err m (λ o. source o (Opens c.args.slot)) c.openings-drawn.result r (c.openings-drawn.ensures.opens c.args.slot) c.in_err-has_room.ensures)))
 
 pub returns-in-Err : goal.returns-in-Err
 returns-in-Err g c =

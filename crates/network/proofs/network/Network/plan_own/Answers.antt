@@ -1,5 +1,5 @@
 use Rattle.std.proofs.Common.{rules, ◌≡◌, Err, sym, subst}
-use Rattle.network.specs.Deeds.{IsPlanned, IsPlan}
+use Rattle.network.specs.Deeds.{IsPlannedSurely, IsPlan}
 use Rattle.network.specs.declared.plan.Plan.{Plan}
 use Rattle.network.specs.Standing.{IsStanding}
 use Rattle.network.proofs.Planned.{own-full, own-nowhere, own-plan}
@@ -10,7 +10,7 @@ returns-in_err-spot g c =
     let m = c.args.self.now in
     let r = c.in_err-spot.field-0.0 in
     let q : c.from_residual.result ≡ Err r = search rules in
-    λ e own. subst (IsPlanned m e) (sym q) (own-nowhere m c.args.slot c.args.node.now c.args.event e r c.in_err-spot.ensures own)
+    λ e own. subst (IsPlannedSurely m e) (sym q) (own-nowhere m c.args.slot c.args.node.now c.args.event e r c.in_err-spot.ensures own)
 
 pub own_room-requires-clause-slot : goal.own_room-requires-clause-slot
 own_room-requires-clause-slot g c = (c.args.slot, c.in_ok-spot.ensures.slot)
@@ -20,7 +20,7 @@ returns-in_err-drawn g c =
     let m = c.args.self.now in
     let r = c.in_err-drawn.field-0.0 in
     let q : c.from_residual-in_err-drawn.result ≡ Err r = search rules in
-    λ e own. subst (IsPlanned m e) (sym q) (own-full m c.args.slot c.args.node.now c.in_ok-spot.spot c.args.event e r c.in_ok-spot.ensures (c.in_err-drawn.ensures c.args.slot c.in_ok-spot.ensures.slot) own)
+    λ e own. subst (IsPlannedSurely m e) (sym q) (own-full m c.args.slot c.args.node.now c.in_ok-spot.spot c.args.event e r c.in_ok-spot.ensures (c.in_err-drawn.ensures c.args.slot c.in_ok-spot.ensures.slot) own)
 
 pub returns : goal.returns
 returns g c =

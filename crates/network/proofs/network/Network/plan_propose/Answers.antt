@@ -1,4 +1,4 @@
-use Rattle.std.proofs.Common.{rules, ◌≡◌, ◌∙◌, true, false, Err, refl, sym, ap, subst, inl}
+use Rattle.std.proofs.Common.{rules, ◌≡◌, ◌∙◌, true, false, Err, refl, sym, ap, subst, inl, inr}
 use Rattle.protocol.specs.Networks.{is_bad_value}
 use Rattle.protocol.specs.Networks.Step.{Proposes}
 use Rattle.slot.specs.declared.filed.FiledEvent.TheVariants as events
@@ -17,12 +17,12 @@ returns-in_err-spot g c =
     let m = c.args.self.now in
     let r = c.in_err-spot.field-0.0 in
     let e : c.from_residual.result ≡ Err r = search rules in
-    subst (IsPlanned m (Proposes c.args.slot c.args.node.now c.args.value.now)) (sym e) (asks-nowhere m c.args.slot c.args.node.now c.args.value.now r c.in_err-spot.ensures)
+    subst (IsPlanned m (Proposes c.args.slot c.args.node.now c.args.value.now)) (sym e) (inr (asks-nowhere m c.args.slot c.args.node.now c.args.value.now r c.in_err-spot.ensures))
 
 pub returns-then-is_bad : goal.returns-then-is_bad
 returns-then-is_bad g c =
     let bad : is_bad_value c.args.value.now ≡ true = search rules in
-    asks-bad c.args.self.now c.args.slot c.args.node.now c.args.value.now c.in_ok-spot.spot c.in_ok-spot.ensures bad
+    inr (asks-bad c.args.self.now c.args.slot c.args.node.now c.args.value.now c.in_ok-spot.spot c.in_ok-spot.ensures bad)
 
 pub instance-requires : goal.instance-requires
 instance-requires g c =
@@ -36,7 +36,7 @@ returns-then-has_proposal g c =
     let m = c.args.self.now in
     let st : IsStanding m = subst IsStanding c.self.view_is c.self.invariant in
     let bad : is_bad_value c.args.value.now ≡ false = search rules in
-    asks-again m c.args.slot c.args.node.now c.args.value.now c.in_ok-spot.spot (seat_of c.instance.result.now) c.has_proposal.result st c.in_ok-spot.ensures c.instance.ensures.seat bad c.has_proposal.ensures c.if-has_proposal.true
+    inr (asks-again m c.args.slot c.args.node.now c.args.value.now c.in_ok-spot.spot (seat_of c.instance.result.now) c.has_proposal.result st c.in_ok-spot.ensures c.instance.ensures.seat bad c.has_proposal.ensures c.if-has_proposal.true)
 
 pub own_room-requires-clause-slot : goal.own_room-requires-clause-slot
 own_room-requires-clause-slot g c = (c.args.slot, c.in_ok-spot.ensures.slot)
@@ -49,7 +49,7 @@ returns-in_err-drawn g c =
     let e : c.from_residual-in_err-drawn.result ≡ Err r = search rules in
     let bad : is_bad_value c.args.value.now ≡ false = search rules in
     subst (IsPlanned m (Proposes c.args.slot c.args.node.now c.args.value.now)) (sym e)
-    (asks-full m c.args.slot c.args.node.now c.args.value.now c.in_ok-spot.spot (seat_of c.instance.result.now) c.has_proposal.result r st c.in_ok-spot.ensures c.instance.ensures.seat bad c.has_proposal.ensures c.if-has_proposal.false (c.in_err-drawn.ensures c.args.slot c.in_ok-spot.ensures.slot))
+    (inr (asks-full m c.args.slot c.args.node.now c.args.value.now c.in_ok-spot.spot (seat_of c.instance.result.now) c.has_proposal.result r st c.in_ok-spot.ensures c.instance.ensures.seat bad c.has_proposal.ensures c.if-has_proposal.false (c.in_err-drawn.ensures c.args.slot c.in_ok-spot.ensures.slot)))
 
 pub returns-in-Err : goal.returns-in-Err
 returns-in-Err g c =

@@ -1,4 +1,4 @@
-use Rattle.std.proofs.Common.{rules, ◌≡◌, ◌∙◌, Err, refl, sym, ap, subst, inl}
+use Rattle.std.proofs.Common.{rules, ◌≡◌, ◌∙◌, Err, refl, sym, ap, subst, inl, inr}
 use Rattle.protocol.specs.Networks.Step.{Reslices}
 use Rattle.slot.specs.declared.filed.FiledEvent.TheVariants as events
 use Rattle.types.specs.Trees.{Slices}
@@ -15,7 +15,7 @@ returns-in_err-spot g c =
     let r = c.in_err-spot.field-0.0 in
     let q : c.from_residual.result ≡ Err r = search rules in
     subst (IsPlanned a.self.now (Reslices a.slot a.node.now a.slices.now)) (sym q)
-    (own-nowhere a.self.now a.slot a.node.now (events.Reslice a.slices.now) (Reslices a.slot a.node.now a.slices.now) r c.in_err-spot.ensures (reslice-own a.slot a.node.now a.slices.now))
+    (inr (own-nowhere a.self.now a.slot a.node.now (events.Reslice a.slices.now) (Reslices a.slot a.node.now a.slices.now) r c.in_err-spot.ensures (reslice-own a.slot a.node.now a.slices.now)))
 
 pub own_room-requires-clause-slot : goal.own_room-requires-clause-slot
 own_room-requires-clause-slot g c = (c.args.slot, c.in_ok-spot.ensures.slot)
@@ -26,7 +26,7 @@ returns-in_err-drawn g c =
     let r = c.in_err-drawn.field-0.0 in
     let q : c.from_residual-in_err-drawn.result ≡ Err r = search rules in
     subst (IsPlanned a.self.now (Reslices a.slot a.node.now a.slices.now)) (sym q)
-    (own-full a.self.now a.slot a.node.now c.in_ok-spot.spot (events.Reslice a.slices.now) (Reslices a.slot a.node.now a.slices.now) r c.in_ok-spot.ensures (c.in_err-drawn.ensures a.slot c.in_ok-spot.ensures.slot) (reslice-own a.slot a.node.now a.slices.now))
+    (inr (own-full a.self.now a.slot a.node.now c.in_ok-spot.spot (events.Reslice a.slices.now) (Reslices a.slot a.node.now a.slices.now) r c.in_ok-spot.ensures (c.in_err-drawn.ensures a.slot c.in_ok-spot.ensures.slot) (reslice-own a.slot a.node.now a.slices.now)))
 
 pub returns-in-Err : goal.returns-in-Err
 returns-in-Err g c =

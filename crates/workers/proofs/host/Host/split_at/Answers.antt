@@ -7,14 +7,14 @@ pub split_off-requires : goal.split_off-requires
 split_off-requires g c = parts_fit c.self.inside.host_state c.args.self c.args.count c.self.view_is c.self.invariant c.requires
 
 pub invariant_of-result : goal.invariant_of-result
-invariant_of-result g c = (parted c.self.inside.host_state c.split_off.new.self c.in_ok-others.others c.args.count c.self.invariant c.in_ok-others.ensures).0
+invariant_of-result g c = (parted c.self.inside.host_state c.split_off.new.self c.in-Ok.others c.args.count c.self.invariant c.in-Ok.ensures.ok).0
 
-pub invariant_of-result-2 : goal.invariant_of-result-2
-invariant_of-result-2 g c = (parted c.self.inside.host_state c.split_off.new.self c.in_ok-others.others c.args.count c.self.invariant c.in_ok-others.ensures).1
+pub invariant_of-result-in-Ok : goal.invariant_of-result-in-Ok
+invariant_of-result-in-Ok g c = (parted c.self.inside.host_state c.split_off.new.self c.in-Ok.others c.args.count c.self.invariant c.in-Ok.ensures.ok).1
 
-pub returns : goal.returns
-returns g c =
-    let parts = parted c.self.inside.host_state c.split_off.new.self c.in_ok-others.others c.args.count c.self.invariant c.in_ok-others.ensures in (
+pub returns-in-Ok-clause-ok : goal.returns-in-Ok-clause-ok
+returns-in-Ok-clause-ok g c =
+    let parts = parted c.self.inside.host_state c.split_off.new.self c.in-Ok.others c.args.count c.self.invariant c.in-Ok.ensures.ok in (
       parts.2 ∙ ap (λ (ns : List Net). take c.args.count ns) c.self.view_is,
       parts.3 ∙ ap (λ (ns : List Net). drop c.args.count ns) c.self.view_is,
     )

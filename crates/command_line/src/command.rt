@@ -1,0 +1,35 @@
+//! The commands by their names.
+
+ghost use Rattle.std.specs.Prelude.{◌≡◌};
+ghost use Rattle.command_line.specs.Commands.{command_in};
+
+/// A command, the first word of a call.
+#[derive(Clone, Copy)]
+pub enum Command {
+    /// `table`: runs the lines of a table file.
+    Table,
+    /// `run`: runs the lines of a script of networks.
+    Run,
+    /// `closure`: reports whom a node depends on.
+    Closure,
+    /// `compare`: compares what concerns a node in two scripts.
+    Compare,
+    /// `crowd`: compares what was submitted for a node in two scripts.
+    Crowd,
+}
+
+impl Command {
+    /// The command of this name, if there is one.
+    pub fn named(name: &str) -> Option<Command>
+        ensures { result ≡ command_in name.now }
+    {
+        match name {
+            "table" => Some(Command::Table),
+            "run" => Some(Command::Run),
+            "closure" => Some(Command::Closure),
+            "compare" => Some(Command::Compare),
+            "crowd" => Some(Command::Crowd),
+            _ => None,
+        }
+    }
+}

@@ -1,0 +1,181 @@
+//! The forms of the commands as they are told: their operands and options, and what is said of each.
+
+use crate::command::Command;
+use crate::options::Options;
+
+/// The commands in the order in which they are told.
+pub const COMMANDS: [Command; 5] = [
+    Command::Table,
+    Command::Run,
+    Command::Closure,
+    Command::Compare,
+    Command::Crowd,
+];
+
+/// A command, an operand or an option as it is spelled, and what is said of it.
+#[derive(Clone, Copy)]
+pub struct Part<'a> {
+    /// As it is spelled.
+    pub name: &'a str,
+    /// What is said of it.
+    pub about: &'a str,
+}
+
+/// The form of a command.
+#[derive(Clone, Copy)]
+pub struct Form<'a> {
+    /// The command.
+    pub command: Part<'a>,
+    /// Its operands, all of which it wants.
+    pub operands: &'a [Part<'a>],
+    /// Its options beside `--help`.
+    pub options: &'a [Part<'a>],
+    /// What stands at the end of its help.
+    pub more: &'a str,
+}
+
+const NET: Part<'static> = Part {
+    name: "<NET>",
+    about: "The number of the network",
+};
+
+const SLOT: Part<'static> = Part {
+    name: "<SLOT>",
+    about: "The slot",
+};
+
+const NODE: Part<'static> = Part {
+    name: "<NODE>",
+    about: "The name of the node",
+};
+
+const SCRIPT: Part<'static> = Part {
+    name: "<SCRIPT>",
+    about: "The script, or - for the standard input",
+};
+
+const FIRST: Part<'static> = Part {
+    name: "<SCRIPT1>",
+    about: "The first script, or - for the standard input",
+};
+
+const SECOND: Part<'static> = Part {
+    name: "<SCRIPT2>",
+    about: "The second script, or - for the standard input",
+};
+
+const FILE: Part<'static> = Part {
+    name: "<FILE>",
+    about: "The table file, or - for the standard input",
+};
+
+const WORKERS: Part<'static> = Part {
+    name: "--workers <N>",
+    about: "Runs the events as jobs of N workers, 1 to 64; without it, in order",
+};
+
+const FORMAT: Part<'static> = Part {
+    name: "--format <FORM>",
+    about: "The form of the report: text, dot or svg; text where it is left out",
+};
+
+const EXPLAIN: Part<'static> = Part {
+    name: "--explain",
+    about: "Shows both sides of a difference, with files and lines",
+};
+
+/// `table FILE`.
+const TABLE: Form<'static> = Form {
+    command: Part {
+        name: "table",
+        about: "Runs the lines of a table file",
+    },
+    operands: &[FILE],
+    options: &[],
+    more: "A table file names one node, its slot and its slices, then offers envelopes and asks.
+For example:
+  self A 1 2[A,B]
+  put B 2[A,B] prep(1:x,-,0,0,0)
+  reach",
+};
+
+/// `run SCRIPT`.
+const RUN: Form<'static> = Form {
+    command: Part {
+        name: "run",
+        about: "Runs the lines of a script of networks",
+    },
+    operands: &[SCRIPT],
+    options: &[WORKERS],
+    more: "A script declares networks with their nodes, opens slots and puts events to them.
+For example:
+  net 1 events 10 bytes 0 slots 1
+  node 1 A 1[A]
+  open 1 1
+
+With --workers the slots are opened first, and all other events are jobs, taken in any order; what
+a node emits is heard by the others of its network. Lines that settle or close a slot are bad then,
+and no event is run where a line is bad. It prints what each node has externalized, how many entries
+each journal has, and how many jobs were applied, refused and not run. For example:
+  scphost run nets.txt --workers 4
+  scphost run --workers=4 nets.txt",
+};
+
+/// `closure SCRIPT NET SLOT NODE`.
+const CLOSURE: Form<'static> = Form {
+    command: Part {
+        name: "closure",
+        about: "Reports whom a node depends on, after a script",
+    },
+    operands: &[SCRIPT, NET, SLOT, NODE],
+    options: &[FORMAT],
+    more: "The script is run without printing. Then there is a line for each node that NODE depends on at
+SLOT of network NET, with who named it, and one for each hosted one of them, with those single
+nodes that block its slices. For example:
+  scphost closure nets.txt 1 1 A
+  scphost closure nets.txt 1 1 A --format svg
+  scphost closure --format=dot nets.txt 1 1 A",
+};
+
+/// `compare SCRIPT1 SCRIPT2 NET SLOT NODE`.
+const COMPARE: Form<'static> = Form {
+    command: Part {
+        name: "compare",
+        about: "Compares what concerns a node in two scripts, and what it gave out",
+    },
+    operands: &[FIRST, SECOND, NET, SLOT, NODE],
+    options: &[EXPLAIN],
+    more: "Both scripts are run without printing. Where what concerns NODE at SLOT of network NET is the same
+in both, so is what each hosted node on which it depends gave out: `same` and these. Else the
+first difference is named, and the status is 1. For example:
+  scphost compare quiet.txt flooded.txt 1 1 A
+  scphost compare quiet.txt flooded.txt 1 1 A --explain
+  scphost compare --explain quiet.txt flooded.txt 1 1 A",
+};
+
+/// `crowd SCRIPT1 SCRIPT2 NET SLOT NODE`.
+const CROWD: Form<'static> = Form {
+    command: Part {
+        name: "crowd",
+        about: "Compares what was submitted for a node in two scripts, and the answers",
+    },
+    operands: &[FIRST, SECOND, NET, SLOT, NODE],
+    options: &[],
+    more: "Both scripts are run without printing. Where the nodes on which NODE depends at SLOT of network NET
+stand on one roster, and the same was submitted for them, applied or refused, so are the answers:
+`same` and these. Else the first difference is named, and the status is 1. For example:
+  scphost crowd quiet.txt flooded.txt 1 1 A
+  scphost crowd -- quiet.txt flooded.txt 1 1 A
+  scphost crowd - flooded.txt 1 1 A",
+};
+
+/// The form of a command.
+pub fn form_of(command: Command) -> Form<'static> {
+    match command {
+        Command::Table => TABLE,
+        Command::Run => RUN,
+        Command::Closure => CLOSURE,
+        Command::Compare => COMPARE,
+        Command::Crowd => CROWD,
+    }
+}

@@ -1,0 +1,223 @@
+//! The words behind a command: its operands, with options before or behind them.
+
+ghost use Rattle.std.specs.Prelude.{◌≡◌, ◌<◌, IfOk, IfSome, IsOkAnd, List, None, length, map, option_map};
+ghost use Rattle.command_line.specs.Options.{AreOptions, HasForm, behind, next_in, no_options, option_in, value_in, with_explanation, with_format, with_workers, workers_in};
+ghost use Rattle.command_line.specs.Subjects.{format_or_text};
+ghost use Rattle.command_line.specs.Words.{Text};
+
+use crate::command::Command;
+use crate::operands::{operands_of, plain_count};
+use crate::pool_size::PoolSize;
+use crate::subject::{Format, format_of};
+use scripts::number_of;
+use std::convert::AsStr;
+
+/// What the options of a command ask for.
+#[derive(Clone, Copy)]
+pub struct Options {
+    /// `--workers N`: how many workers a pool has.
+    pub workers: Option<PoolSize>,
+    /// `--format FORM`: the form of a report.
+    pub format: Option<Format>,
+    /// `--explain`: a difference is explained.
+    pub explain: bool,
+}
+
+impl Options {
+    /// Nothing is asked for.
+    fn none() -> Options
+        ensures { result ≡ no_options }
+    {
+        Options {
+            workers: None,
+            format: None,
+            explain: false,
+        }
+    }
+
+    /// The form of report that is asked for; without one it is text.
+    pub fn format_or_text(&self) -> Format
+        ensures { result ≡ format_or_text self.now.format }
+    {
+        match self.format {
+            Some(format) => format,
+            None => Format::Text,
+        }
+    }
+
+    /// Something is asked for.
+    pub fn are_given(&self) -> bool {
+        self.workers.is_some() || self.format.is_some() || self.explain
+    }
+}
+
+/// What is asked for, and the operands, in the words behind a command; else the words at which the reading stopped.
+pub fn options_and_operands<S: AsStr>(
+    command: Command,
+    words: &[S],
+) -> Result<(Options, &[S]), &[S]>
+    ensures found { IfOk result (λ p. HasForm command (map S.text words.now) p.0 (map S.text p.1.now)) }
+    ensures all { (asked : Options) → (operands : List Text) → HasForm command (map S.text words.now) asked operands
+        → IsOkAnd result (λ p. (p.0 ≡ asked) × (map S.text p.1.now ≡ operands)) }
+{
+    let count = plain_count(words);
+    if count == 0 {
+        let (asked, rest) = options_before(command, Options::none(), words);
+        return match operands_of(rest) {
+            Some(operands) => Ok((asked, operands)),
+            None => Err(&rest[plain_count(rest)..]),
+        };
+    }
+    let (operands, rest) = words.split_at(count);
+    match options_before(command, Options::none(), rest) {
+        (asked, []) => Ok((asked, operands)),
+        (_, left) => Err(left),
+    }
+}
+
+/// What is asked for with the options beside it that the words begin with, and the words behind them.
+fn options_before<S: AsStr>(command: Command, asked: Options, words: &[S]) -> (Options, &[S])
+    ensures given { AreOptions command asked (map S.text words.now) result.0 (map S.text result.1.now) }
+    ensures ended { option_in command result.0 (map S.text result.1.now) ≡ None }
+{
+    match option_before(command, &asked, words) {
+        Some((more, rest)) => options_before(command, more, rest),
+        None => (asked, words),
+    }
+}
+
+/// What is asked for with the option of a command beside it that the first words are, and the words behind it.
+fn option_before<'a, S: AsStr>(
+    command: Command,
+    asked: &Options,
+    words: &'a [S],
+) -> Option<(Options, &'a [S])>
+    ensures option { option_map (λ p. (p.0, map S.text p.1.now)) result ≡ option_in command asked.now (map S.text words.entry.now) }
+    ensures shorter { IfSome result (λ p. length p.1.now < length words.entry.now) }
+{
+    match command {
+        Command::Table => None,
+        Command::Run => match value_before(b"--workers", words) {
+            Some((value, rest)) => with_workers(asked, value, rest),
+            None => None,
+        },
+        Command::Closure => match value_before(b"--format", words) {
+            Some((value, rest)) => with_format(asked, value, rest),
+            None => None,
+        },
+        Command::Compare => with_explanation(asked, words),
+        Command::Crowd => None,
+    }
+}
+
+/// What is asked for with a number of workers beside it, if there was none.
+fn with_workers<'a, S: AsStr>(
+    asked: &Options,
+    value: &[u8],
+    rest: &'a [S],
+) -> Option<(Options, &'a [S])>
+    ensures option { option_map (λ p. (p.0, map S.text p.1.now)) result ≡ with_workers asked.now (value.now, map S.text rest.entry.now) }
+    ensures rest { IfSome result (λ p. p.1.now ≡ rest.entry.now) }
+{
+    if asked.workers.is_some() {
+        return None;
+    }
+    match workers_in(value) {
+        Some(workers) => {
+            let next = Options {
+                workers: Some(workers),
+                format: asked.format,
+                explain: asked.explain,
+            };
+            Some((next, rest))
+        }
+        None => None,
+    }
+}
+
+/// The same with a form of report.
+fn with_format<'a, S: AsStr>(
+    asked: &Options,
+    value: &[u8],
+    rest: &'a [S],
+) -> Option<(Options, &'a [S])>
+    ensures option { option_map (λ p. (p.0, map S.text p.1.now)) result ≡ with_format asked.now (value.now, map S.text rest.entry.now) }
+    ensures rest { IfSome result (λ p. p.1.now ≡ rest.entry.now) }
+{
+    if asked.format.is_some() {
+        return None;
+    }
+    match format_of(value) {
+        Some(format) => {
+            let next = Options {
+                workers: asked.workers,
+                format: Some(format),
+                explain: asked.explain,
+            };
+            Some((next, rest))
+        }
+        None => None,
+    }
+}
+
+/// The same with an explanation.
+fn with_explanation<'a, S: AsStr>(asked: &Options, words: &'a [S]) -> Option<(Options, &'a [S])>
+    ensures option { option_map (λ p. (p.0, map S.text p.1.now)) result ≡ with_explanation asked.now (map S.text words.entry.now) }
+    ensures shorter { IfSome result (λ p. length p.1.now < length words.entry.now) }
+{
+    match words {
+        [word, rest @ ..] if word.as_str() == "--explain" && !asked.explain => {
+            let next = Options {
+                workers: asked.workers,
+                format: asked.format,
+                explain: true,
+            };
+            Some((next, rest))
+        }
+        _ => None,
+    }
+}
+
+/// The value that the first words give to the option of this name, and the words behind it: it is the next word, or
+/// stands behind `=` in the same one.
+fn value_before<'a, S: AsStr>(name: &[u8], words: &'a [S]) -> Option<(&'a [u8], &'a [S])>
+    ensures value { option_map (λ p. (p.0.now, map S.text p.1.now)) result ≡ value_in name.now (map S.text words.entry.now) }
+    ensures shorter { IfSome result (λ p. length p.1.now < length words.entry.now) }
+{
+    let [word, rest @ ..] = words else {
+        return None;
+    };
+    match behind(name, word.as_str().as_bytes()) {
+        Some([]) => next_word(rest),
+        Some([b'=', value @ ..]) => Some((value, rest)),
+        _ => None,
+    }
+}
+
+/// The first word, and the words behind it.
+fn next_word<S: AsStr>(words: &[S]) -> Option<(&[u8], &[S])>
+    ensures word { option_map (λ p. (p.0.now, map S.text p.1.now)) result ≡ next_in (map S.text words.now) }
+    ensures shorter { IfSome result (λ p. length p.1.now < length words.now) }
+{
+    match words {
+        [value, rest @ ..] => Some((value.as_str().as_bytes(), rest)),
+        [] => None,
+    }
+}
+
+/// What stands behind these bytes at the beginning of a word.
+fn behind<'a>(front: &[u8], word: &'a [u8]) -> Option<&'a [u8]>
+    ensures { option_map (λ w. w.now) result ≡ behind front.now word.entry.now }
+{
+    word.strip_prefix(front)
+}
+
+/// How many workers a word asks for.
+fn workers_in(word: &[u8]) -> Option<PoolSize>
+    ensures { result ≡ workers_in word.now }
+{
+    match number_of(word) {
+        Some(number) => PoolSize::new(number),
+        None => None,
+    }
+}

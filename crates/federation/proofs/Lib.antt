@@ -1,0 +1,3 @@
+mod SameAnswers
+mod Chosen
+mod Region

@@ -1,0 +1,25 @@
+-- The general form of federated voting, and what a node takes as accepted and confirmed by what it sees.
+use Rattle.std.specs.Prelude.{◌≡◌, ℕ, Bool, List, Option, IsTrue, ◌↔◌}
+use Rattle.types.specs.Trees.{Slices}
+use Rattle.types.specs.Statements.{Sent}
+use Rattle.types.specs.declared.kind.Kind.{Kind}
+use Rattle.types.specs.declared.statement.Statement.{Statement}
+use Rattle.protocol.specs.Satisfaction.{sat}
+use Rattle.protocol.specs.Backing.{slices_by}
+use Rattle.protocol.specs.Views.{accepted, confirmed, seen}
+use Rattle.fedvote.specs.Seeing.{standing}
+use Rattle.fedvote.specs.Voting.{Accepted, Confirmed}
+
+-- whatever answers exactly by federated voting over the rows of a table answers what is accepted by what a node sees
+abbrev pub AcceptedAlike : Type 0
+AcceptedAlike =
+    (own : ℕ) (configured : Slices) (leaders : List ℕ) (table : List Sent) (kind : Kind) (position : Option Statement) (backs accepts : Statement → Bool) (b : Bool)
+    → IsTrue b ↔ Accepted sat (slices_by own configured table kind) (standing own table kind position backs) (standing own table kind position accepts) own
+    → b ≡ accepted (seen own configured leaders table) kind position backs accepts
+
+-- and what is confirmed by it
+abbrev pub ConfirmedAlike : Type 0
+ConfirmedAlike =
+    (own : ℕ) (configured : Slices) (leaders : List ℕ) (table : List Sent) (kind : Kind) (position : Option Statement) (accepts : Statement → Bool) (b : Bool)
+    → IsTrue b ↔ Confirmed sat (slices_by own configured table kind) (standing own table kind position accepts) own
+    → b ≡ confirmed (seen own configured leaders table) kind position accepts

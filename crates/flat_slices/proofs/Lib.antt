@@ -1,0 +1,4 @@
+mod FlatteningLaws
+mod Found
+mod MeetingLaws
+mod NumberLaws

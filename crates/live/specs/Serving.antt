@@ -1,0 +1,95 @@
+-- What a line of a served network does: its event, and then what the others hear of it.
+use Rattle.std.specs.Prelude.{◌≡◌, ◌==◌, ◌++◌, ◌⊎◌, not, ℕ, filter, map, List, [], ◌∷◌, Option, Some, None}
+use Rattle.std.specs.List.{flat_map}
+use Rattle.types.specs.Statements.{Sent, kind_of}
+use Rattle.types.specs.declared.event.Out.{Out}
+use Rattle.types.specs.declared.event.Refusal.{Refusal}
+use Rattle.types.specs.declared.event.Refusal.TheVariants.{NoMemory}
+use Rattle.protocol.specs.Networks.{Net, Reply, Step, emissions, first_that, net_step, tests}
+use Rattle.protocol.specs.Networks.Reply.{Done, Refused}
+use Rattle.protocol.specs.Networks.Step.{Hears}
+use Rattle.configuration.specs.Configs.{names_of}
+use Rattle.network.specs.declared.plan.Emission.{Emission}
+use Rattle.network.specs.Marks.{marks_in, slot_and_node_of}
+use Rattle.network.specs.Standing.{AreBytesRead}
+
+-- ---- who hears what
+
+-- a node that is to hear an emission
+pub record Hearing : Type 0 where
+  pub node : ℕ
+  pub emission : Emission
+
+-- it hears it at a slot
+abbrev pub step_of_hearing : ℕ → Hearing → Step
+step_of_hearing i h = Hears i h.node h.emission.from h.emission.kind h.emission.number
+
+-- emissions by the names under which others hear them
+abbrev pub named : List Sent → List ℕ → List Emission
+named [] ks = []
+named (e ∷ es) [] = []
+named (e ∷ es) (k ∷ ks) = record { from = e.sender; kind = kind_of e.body; number = k } ∷ named es ks
+
+-- each of these names hears an emission, but the node whose it is
+abbrev pub hearings_of : List ℕ → Emission → List Hearing
+hearings_of us e = map (λ u. record { node = u; emission = e }) (filter (λ u. not (u == e.from)) us)
+
+-- each of these names hears each of the emissions, one emission after the other
+abbrev pub all_hearings : List ℕ → List Emission → List Hearing
+all_hearings us es = flat_map (hearings_of us) es
+
+-- the emissions of a step that was answered
+abbrev pub emitted_by : Net → Step → Reply → List Emission
+emitted_by net e (Done os) = named (emissions os) (marks_in net e)
+emitted_by net e (Refused r) = []
+
+-- who is to hear them: every other hosted node
+abbrev pub waits_after : Net → Step → Reply → List Hearing
+waits_after net e r = all_hearings (names_of net.nodes) (emitted_by net e r)
+
+-- ---- what is told
+
+-- whose step it was, and what it gave out, or why it was refused
+pub record Telling : Type 0 where
+  pub node : ℕ
+  pub reply : Reply
+
+-- a step that gave nothing out is not told
+abbrev pub told_of : ℕ → Reply → List Telling
+told_of u (Done []) = []
+told_of u (Done (o ∷ os)) = record { node = u; reply = Done (o ∷ os) } ∷ []
+told_of u (Refused r) = record { node = u; reply = Refused r } ∷ []
+
+-- what the node of an event gave out; openings and closings have no node, and give nothing out
+abbrev pub told_at : Option (ℕ × ℕ) → List Out → List Telling
+told_at None os = []
+told_at (Some at) os = told_of at.1 (Done os)
+
+-- ---- steps that are tried
+
+-- a step is the network's step; or memory is wanting, where no refusal applies or bytes are being read, and then nothing
+-- changes
+pub data IsTried (old : Net) (e : Step) : Reply → Net → Type 0 where
+  stepped : IsTried old e (net_step old e).1 (net_step old e).0
+  wanting : (first_that (tests old e) ≡ None) ⊎ AreBytesRead old.nodes e → IsTried old e (Refused NoMemory) old
+
+-- what waits at a slot is heard, one hearing after the other; what it makes wait joins the end, and a hearing that is
+-- refused is told and not tried again. These are told.
+pub data AreHeard (i : ℕ) : List Hearing → Net → List Telling → Net → Type 0 where
+  all_heard : {net : Net} → AreHeard i [] net [] net
+  one_heard : {h : Hearing} {hs : List Hearing} {old now new : Net} {told : List Telling} (r : Reply)
+      → IsTried old (step_of_hearing i h) r now
+      → AreHeard i (hs ++ waits_after old (step_of_hearing i h) r) now told new
+      → AreHeard i (h ∷ hs) old (told_of h.node r ++ told) new
+
+-- the slot at which the others hear of a step
+abbrev pub slot_at : Option (ℕ × ℕ) → ℕ
+slot_at None = 0
+slot_at (Some at) = at.0
+
+-- an event is served: it is refused, and that is all; or it is done, told, and then heard of
+pub data IsServed (old : Net) (e : Step) : Option Refusal → List Telling → Net → Type 0 where
+  refused : (r : Refusal) → IsTried old e (Refused r) old → IsServed old e (Some r) [] old
+  done : {now new : Net} {told : List Telling} (os : List Out) → IsTried old e (Done os) now
+      → AreHeard (slot_at (slot_and_node_of e)) (waits_after old e (Done os)) now told new
+      → IsServed old e None (told_at (slot_and_node_of e) os ++ told) new

@@ -1,0 +1,55 @@
+-- What was told and what waits, as code keeps it.
+use Rattle.std.specs.Prelude.{◌≡◌, ◌++◌, ℕ, List, [], map, Result, Ok, Err, Vec}
+use Rattle.std.specs.Global.{Global}
+use Rattle.types.specs.declared.event.Out.{Out}
+use Rattle.types.specs.declared.event.Refusal.{Refusal}
+use Rattle.protocol.specs.Networks.{Net, Reply, Step, emissions}
+use Rattle.protocol.specs.Networks.Reply.{Done, Refused}
+use Rattle.network.specs.declared.plan.Emission.{Emission}
+use Rattle.network.specs.Standing.{Machine, StandsFor}
+use Rattle.live.specs.Serving.{AreHeard, Hearing, IsServed, Telling, all_hearings, named}
+use Rattle.live.specs.Steps.{LeadsTo}
+use Rattle.live.specs.declared.hearing.Following.{Following}
+use Rattle.live.specs.declared.hearing.Told.{Told}
+use Rattle.live.specs.declared.served.Served.{Served}
+use Rattle.live.specs.declared.stepping.Given.{Given}
+
+-- what a step was answered
+abbrev pub outcome_of : Result Given Refusal → Reply
+outcome_of (Ok g) = Done g.outs.items
+outcome_of (Err r) = Refused r
+
+-- the emissions of a step that was answered
+abbrev pub emissions_of : Result Given Refusal → List Emission
+emissions_of (Ok g) = named (emissions g.outs.items) g.marks.items
+emissions_of (Err r) = []
+
+abbrev pub reply_of : Result (Vec Out Global) Refusal → Reply
+reply_of (Ok v) = Done v.items
+reply_of (Err r) = Refused r
+
+abbrev pub telling_of : Told → Telling
+telling_of t = record { node = t.node; reply = reply_of t.answer }
+
+abbrev pub tellings_of : List Told → List Telling
+tellings_of ts = map telling_of ts
+
+-- These hearings of the nodes of a network come to what was noted: more emissions that wait behind the others, and more
+-- that is told.
+abbrev pub IsHeardByAll : ℕ → List ℕ → List Hearing → Machine → Following → Following → Machine → Type 0
+IsHeardByAll i us front old before after new =
+    (more : List Emission) × (told : List Telling) × (after.emissions.items ≡ before.emissions.items ++ more)
+    × (tellings_of after.told.items ≡ tellings_of before.told.items ++ told)
+    × LeadsTo i front old (all_hearings us more) told new
+
+-- for each network that the machine stands for, what waits at the slot is heard, these are told, and the machine after
+-- it stands for what becomes of that network
+abbrev pub HaveHeard : ℕ → List Hearing → Machine → List Telling → Machine → Type 0
+HaveHeard i hs old told new =
+    (net : Net) → StandsFor old net → (after : Net) × AreHeard i hs net told after × StandsFor new after
+
+-- likewise an event is served, and this came of it
+abbrev pub IsServedBy : Machine → Step → Machine → Served → Type 0
+IsServedBy old e new s =
+    (net : Net) → StandsFor old net
+    → (after : Net) × IsServed net e s.refused (tellings_of s.told.items) after × StandsFor new after

@@ -1,0 +1,176 @@
+//! What waits to be heard, and what is told of it.
+
+ghost use Rattle.std.specs.Prelude.{◌≡◌, ◌++◌, ◌∷◌, [], List, OnOk};
+ghost use Rattle.types.specs.declared.event.Event.TheVariants.{Hear};
+ghost use Rattle.configuration.specs.Configs.{names_of};
+ghost use Rattle.network.specs.Standing.{machine_of};
+ghost use Rattle.protocol.specs.Networks.{emissions};
+ghost use Rattle.live.specs.Serving.{Telling, all_hearings, hearings_of, named, told_of};
+ghost use Rattle.live.specs.Telling.{HaveHeard, IsHeardByAll, emissions_of, outcome_of, tellings_of};
+
+use crate::stepping::{Given, step};
+use envstore::Shelf;
+use network::{Emission, Network};
+use std::alloc::{AllocError, Global};
+use types::{Event, NodeId, Out, Refusal};
+
+/// Whose step it was, and what it gave out, or why it was refused.
+#[derive(Drop)]
+pub struct Told {
+    pub node: NodeId,
+    pub answer: Result<Vec<Out>, Refusal>,
+}
+
+/// The emissions of one line, in their order, those that wait behind those that were heard; and what is told of the
+/// line.
+#[derive(Drop)]
+pub(crate) struct Following {
+    pub emissions: Vec<Emission>,
+    pub told: Vec<Told>,
+}
+
+impl Following {
+    /// Nothing was emitted. It takes no memory.
+    pub fn nothing(alloc: Global) -> Following
+        ensures { (result.emissions.items ≡ []) × (result.told.items ≡ []) }
+    {
+        Following {
+            emissions: Vec::new(alloc),
+            told: Vec::new(alloc),
+        }
+    }
+
+    /// A step of a node was answered: its emissions wait behind the others, and it is told if it gave anything out or
+    /// was refused. An error says that memory is short; then a part may have been noted.
+    pub fn note(&mut self, node: NodeId, answer: Result<Given, Refusal>) -> Result<(), AllocError>
+        ensures emissions { OnOk result (self.new.emissions.items ≡ self.old.emissions.items ++ emissions_of answer) }
+        ensures told { OnOk result (tellings_of self.new.told.items ≡ tellings_of self.old.told.items ++ told_of node (outcome_of answer)) }
+    {
+        match answer {
+            Err(refusal) => self.tell(node, Err(refusal)),
+            Ok(given) => {
+                let Given {
+                    place: _,
+                    outs,
+                    marks,
+                } = given;
+                push_named(&outs, &marks, &mut self.emissions)?;
+                if outs.is_empty() {
+                    return Ok(());
+                }
+                self.tell(node, Ok(outs))
+            }
+        }
+    }
+
+    /// One step more is told.
+    fn tell(&mut self, node: NodeId, answer: Result<Vec<Out>, Refusal>) -> Result<(), AllocError>
+        ensures emissions { self.new.emissions ≡ self.old.emissions }
+        ensures told { OnOk result (self.new.told.items ≡ self.old.told.items ++ (record { node = node; answer = answer }) ∷ []) }
+    {
+        match self.told.push(Told { node, answer }) {
+            Ok(()) => Ok(()),
+            // Memory: the list has no room.
+            Err(_) => Err(AllocError),
+        }
+    }
+}
+
+/// The emissions among what was given out wait behind the others, each by its number. Where memory is short, a part
+/// may have been added.
+fn push_named(outs: &[Out], marks: &[u64], waiting: &mut Vec<Emission>) -> Result<(), AllocError>
+    ensures { OnOk result (waiting.new.items ≡ waiting.old.items ++ named (emissions outs.now) marks.now) }
+{
+    match outs {
+        [] => Ok(()),
+        [Out::Emit(envelope), more @ ..] => match marks {
+            [] => Ok(()),
+            [number, rest @ ..] => {
+                let emission = Emission {
+                    from: *envelope.sender(),
+                    kind: envelope.body().kind(),
+                    number: *number,
+                };
+                match waiting.push(emission) {
+                    Ok(()) => push_named(more, rest, waiting),
+                    // Memory: the list has no room.
+                    Err(_) => Err(AllocError),
+                }
+            }
+        },
+        [_, more @ ..] => push_named(more, marks, waiting),
+    }
+}
+
+/// All other nodes of a network hear the emissions of a line, and those that hearings give out behind them, until none
+/// waits. A hearing that is refused is told, and not tried again. An error says that memory is short for what is
+/// told; then some were heard.
+pub(crate) fn hear_all<S: Shelf>(
+    network: &mut Network<S>,
+    names: &[NodeId],
+    slot: u64,
+    following: &mut Following,
+) -> Result<(), AllocError>
+    requires { names.now ≡ names_of network.old.config.nodes }
+    ensures heard { OnOk result ((told : List Telling) × (tellings_of following.new.told.items ≡ tellings_of following.old.told.items ++ told) × HaveHeard slot (all_hearings names.now following.old.emissions.items) (machine_of network.old) told (machine_of network.new)) }
+    ensures config { network.new.config ≡ network.old.config }
+{
+    let mut at = 0;
+    while at < following.emissions.len() {
+        let emission = following.emissions[at];
+        let_others_hear(network, names, slot, &emission, following)?;
+        at += 1;
+    }
+    Ok(())
+}
+
+/// Each other node hears an emission, ascending.
+fn let_others_hear<S: Shelf>(
+    network: &mut Network<S>,
+    names: &[NodeId],
+    slot: u64,
+    emission: &Emission,
+    following: &mut Following,
+) -> Result<(), AllocError>
+    requires { names.now ≡ names_of network.old.config.nodes }
+    ensures heard { OnOk result (IsHeardByAll slot (names_of network.old.config.nodes) (hearings_of names.now emission.now) (machine_of network.old) following.old following.new (machine_of network.new)) }
+    ensures config { network.new.config ≡ network.old.config }
+{
+    for name in names {
+        hear(network, slot, *name, emission, following)?;
+    }
+    Ok(())
+}
+
+/// A node hears an emission, unless it is its own.
+fn hear<S: Shelf>(
+    network: &mut Network<S>,
+    slot: u64,
+    node: NodeId,
+    emission: &Emission,
+    following: &mut Following,
+) -> Result<(), AllocError>
+    ensures heard { OnOk result (IsHeardByAll slot (names_of network.old.config.nodes) (hearings_of (node ∷ []) emission.now) (machine_of network.old) following.old following.new (machine_of network.new)) }
+    ensures config { network.new.config ≡ network.old.config }
+{
+    if node.is_same(&emission.from) {
+        return Ok(());
+    }
+    let event = hearing(slot, node, emission);
+    let answer = step(network, &event);
+    drop(event);
+    following.note(node, answer)
+}
+
+/// The event by which a node hears an emission.
+fn hearing(slot: u64, node: NodeId, emission: &Emission) -> Event
+    ensures { result ≡ Hear slot node emission.now.from emission.now.kind emission.now.number }
+{
+    Event::Hear {
+        slot,
+        node,
+        from: emission.from,
+        kind: emission.kind,
+        number: emission.number,
+    }
+}

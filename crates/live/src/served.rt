@@ -1,0 +1,110 @@
+//! A network whose nodes hear one another.
+
+ghost use Rattle.std.specs.Prelude.{◌≡◌, [], IfOk};
+ghost use Rattle.protocol.specs.Hosts.{new_net};
+ghost use Rattle.network.specs.Decoding.{step_of};
+ghost use Rattle.network.specs.Standing.{StandsFor};
+ghost use Rattle.live.specs.Telling.{IsServedBy};
+
+use crate::hearing::{Following, Told, hear_all};
+use crate::stepping::step;
+use configuration::NetConfig;
+use envstore::Shelf;
+use network::Network;
+use std::alloc::{AllocError, Global};
+use std::marker::Model;
+use types::{Event, NodeId, Refusal};
+
+/// A network in which what hosted nodes emit is heard by the others without a line that says so: its configuration,
+/// its open slots with the nodes there, and how much of its budgets and shares is used up. It keeps no journal.
+///
+/// Contracts see its parts with whole envelopes, and say of which networks of the definitions it keeps the state.
+#[derive(Drop)]
+pub struct ServedNetwork<S: Shelf> {
+    alloc: Global,
+    network: Network<S>,
+    names: Vec<NodeId>,
+}
+
+/// What came of an event and of what the others heard of it: why it was refused, if it was; the slot; and each step
+/// that gave anything out or was refused, in order, the event's own first.
+#[derive(Drop)]
+pub struct Served {
+    pub refused: Option<Refusal>,
+    pub slot: u64,
+    pub told: Vec<Told>,
+}
+
+impl<S: Shelf> Model for ServedNetwork<S> {
+    ghost use Rattle.std.specs.Coded.{codes};
+    ghost use Rattle.std.specs.Prelude.{◌≡◌};
+    ghost use Rattle.types.specs.Trees.{members_code};
+    ghost use Rattle.configuration.specs.Configs.{names_of};
+    ghost use Rattle.network.specs.Standing.{Machine, machine_of};
+
+    ghost Value = { Machine };
+
+    ghost coded = { Prim.hlevel (codes, members_code) };
+
+    ghost view = { λ m. machine_of m.network };
+
+    ghost invariant = { λ m. m.names.items ≡ names_of m.network.config.nodes };
+}
+
+impl<S: Shelf + Drop> ServedNetwork<S> {
+    /// A network where nothing has happened, whatever lies on the shelf. An error says that memory is short.
+    pub fn new(alloc: Global, config: NetConfig, shelf: S) -> Result<ServedNetwork<S>, AllocError>
+        ensures parts { IfOk result (λ n. n ≡ record { config = config; slots = []; events = 0; bytes = 0; opens = 0 }) }
+        ensures state { IfOk result (λ n. StandsFor n (new_net config)) }
+    {
+        let names = config
+            .nodes()
+            .iter()
+            .map(|hosted| *hosted.name())
+            .collect(alloc)?;
+        Ok(ServedNetwork {
+            alloc,
+            network: Network::new(alloc, config, shelf),
+            names,
+        })
+    }
+
+    /// Its configuration.
+    pub fn config(&self) -> &NetConfig
+        ensures { result.now ≡ self.now.config }
+    {
+        self.network.config()
+    }
+
+    /// An event, and then all that the other nodes hear of it, until no emission waits.
+    ///
+    /// An error says that there is no memory for what is told; some of it happened then.
+    pub fn serve(&mut self, event: &Event) -> Result<Served, AllocError>
+        ensures { IfOk result (IsServedBy self.old (step_of event.now) self.new) }
+    {
+        let mut following = Following::nothing(self.alloc);
+        match step(&mut self.network, event) {
+            Err(refusal) => Ok(Served {
+                refused: Some(refusal),
+                slot: 0,
+                told: following.told,
+            }),
+            Ok(given) => match given.place {
+                None => Ok(Served {
+                    refused: None,
+                    slot: 0,
+                    told: following.told,
+                }),
+                Some((slot, node)) => {
+                    following.note(node, Ok(given))?;
+                    hear_all(&mut self.network, &self.names, slot, &mut following)?;
+                    Ok(Served {
+                        refused: None,
+                        slot,
+                        told: following.told,
+                    })
+                }
+            },
+        }
+    }
+}

@@ -1,0 +1,3 @@
+mod OutlineLaws
+mod RosterLaws
+mod SayingLaws

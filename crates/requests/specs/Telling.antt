@@ -1,0 +1,68 @@
+-- What the lines of scripts of networks are.
+use Rattle.std.specs.Prelude.{◌≡◌, ◌||◌, not, ℕ, Bool, true, false, List, [], ◌∷◌, Option, Some, None, IfSome}
+use Rattle.scripts.specs.Script.{Bytes}
+use Rattle.scripts.specs.Runs.{Refusing, Telling}
+use Rattle.scripts.specs.Words.{word_counter}
+use Rattle.types.specs.declared.event.Event.{Event}
+use Rattle.types.specs.declared.event.Event.TheVariants.{CloseSlot}
+use Rattle.requests.specs.declared.request.Request.{Request}
+use Rattle.requests.specs.declared.request.Request.TheVariants.{Declare, Apply, Settle}
+use Rattle.requests.specs.Outlines.{Outlined, Waiting, waiting_at}
+use Rattle.requests.specs.Naming.{Named}
+use Rattle.requests.specs.Requests.{IsRequested}
+use Rattle.requests.specs.Taking.{takes}
+
+-- the line asks the network of a number for an event
+abbrev pub AsksOf : List Bytes → ℕ → Event → Type 0
+AsksOf fields g e = IsRequested fields (Some (g, Apply e))
+
+-- the line settles a slot of the network of a number
+abbrev pub Settles : List Bytes → ℕ → ℕ → Type 0
+Settles fields g slot = IsRequested fields (Some (g, Settle slot))
+
+-- the line names the network of a number
+abbrev pub NamesNet : List Bytes → ℕ → Type 0
+NamesNet (word ∷ number ∷ fields) g = word_counter number ≡ Some g
+NamesNet fields g = ⊥
+
+-- ---- bad lines
+
+abbrev pub IsBare : Option Outlined → Type 0
+IsBare None = ⊥
+IsBare (Some d) = d.nodes ≡ []
+
+-- the network of a number is declared, no event has named it, and it has no node
+abbrev pub HasNoNode : Waiting → ℕ → Type 0
+HasNoNode ws g = IsBare (waiting_at ws g)
+
+-- the event closes a slot
+abbrev pub is_closing : Event → Bool
+is_closing (CloseSlot slot) = true
+is_closing e = false
+
+-- whether lines may ask that a slot settles, and that one is closed. They may ask for all else.
+pub record Allowed : Type 0 where
+  pub settling : Bool
+  pub closing : Bool
+
+-- it is bad to ask the network of a number: for what is not allowed, always; for what is, where the network has no node
+abbrev pub IsBadToAsk : Bool → Waiting → ℕ → Type 0
+IsBadToAsk false ws g = Unit {0}
+IsBadToAsk true ws g = HasNoNode ws g
+
+-- what asks this of the network of a number is bad: a declaration that is not taken; an event, and a slot that is to
+-- settle, which is not allowed, or whose network has no node
+abbrev pub IsBadRequest : Allowed → Waiting → Named → ℕ → Request → Type 0
+IsBadRequest a ws n g (Declare d) = takes ws n g d ≡ false
+IsBadRequest a ws n g (Apply e) = IsBadToAsk (a.closing || not (is_closing e)) ws g
+IsBadRequest a ws n g (Settle slot) = IsBadToAsk a.settling ws g
+
+-- the line has none of the forms, or what it asks for is bad
+abbrev pub Refuses : Allowed → Waiting → Named → List Bytes → Type 0
+Refuses a ws n fields =
+    (asked : Option (ℕ × Request)) × IsRequested fields asked × IfSome asked (λ r. IsBadRequest a ws n r.0 r.1)
+
+-- no line is both bad and told
+abbrev pub BadLinesAreUntold : {S : Type 0} → Telling S → Refusing S → Type 0
+BadLinesAreUntold {S} tells refuses =
+    (old new : S) (fields : List Bytes) (printed : Option Bytes) → refuses old fields → ¬ tells old fields printed new

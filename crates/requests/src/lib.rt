@@ -1,0 +1,21 @@
+//! What the lines of networks ask for, and what they declare, of whatever runs them.
+//!
+//! [`request_of`] reads a line's fields as a [`Request`]. [`Waiting`] and [`Named`] say at which stage each network is,
+//! and so which declarations are taken. [`line_of_outs`] and [`line_of_refusal`] print what an event is answered.
+#![tactic(auto)]
+
+mod events;
+mod named;
+mod outlines;
+mod refusals;
+mod replies;
+mod request;
+mod verbs;
+mod waiting;
+
+pub use named::Named;
+pub use outlines::Outline;
+pub use replies::{line_of_outs, line_of_refusal, push_outs};
+pub use request::{Declaration, Request, request_of};
+pub use verbs::{EventVerb, Verb};
+pub use waiting::Waiting;

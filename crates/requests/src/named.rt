@@ -1,0 +1,85 @@
+//! The numbers of networks that an event of a script has named.
+
+ghost use Rattle.std.specs.Prelude.{◌<◌, ◌≡◌, ◌^◌, None, OnOk, length};
+ghost use Rattle.requests.specs.Naming.{is_in, named_with, new_named, with_number};
+
+use std::alloc::{AllocError, Global};
+use std::collections::BTreeSet;
+use std::marker::Model;
+
+/// The numbers that an event of a script has named, and those of them whose network was declared by then.
+#[derive(Drop)]
+pub struct Named {
+    numbers: BTreeSet<u32>,
+    running: BTreeSet<u32>,
+}
+
+impl Model for Named {
+    ghost use Rattle.std.specs.Coded.{codes};
+    ghost use Rattle.types.specs.Trees.{members_code};
+    ghost use Rattle.requests.specs.Naming.{Named};
+
+    ghost Value = { Named };
+
+    ghost coded = { Prim.hlevel (codes, members_code) };
+
+    ghost view = { λ named. record { numbers = named.numbers.keys; running = named.running.keys } };
+}
+
+impl Named {
+    /// No number has been named. It takes no memory.
+    pub fn none(alloc: Global) -> Named
+        ensures { result ≡ new_named }
+    {
+        Named {
+            numbers: BTreeSet::new(alloc),
+            running: BTreeSet::new(alloc),
+        }
+    }
+
+    /// Whether an event has named the number.
+    pub fn has(&self, number: u32) -> bool
+        ensures { result ≡ is_in self.now.numbers number }
+    {
+        self.numbers.contains(&number)
+    }
+
+    /// Whether an event has named the network of a number after it was declared.
+    pub fn is_running(&self, number: u32) -> bool
+        ensures { result ≡ is_in self.now.running number }
+    {
+        self.running.contains(&number)
+    }
+
+    /// How many networks events have named after they were declared.
+    pub fn count(&self) -> usize
+        ensures count { result ≡ length self.now.running }
+        ensures small { result < 2 ^ 63 }
+    {
+        self.running.len()
+    }
+
+    /// An event has named a number of which no network waits.
+    pub fn name(&mut self, number: u32) -> Result<(), AllocError>
+        ensures { OnOk result (self.new ≡ named_with number None self.old) }
+    {
+        match self.numbers.insert(number) {
+            Ok(_) => Ok(()),
+            // Memory: the set has no room.
+            Err(_) => Err(AllocError),
+        }
+    }
+
+    /// An event has named the network of a number, which waited for it.
+    pub fn run(&mut self, number: u32) -> Result<(), AllocError>
+        ensures { OnOk result
+            (self.new ≡ record { numbers = with_number self.old.numbers number; running = with_number self.old.running number }) }
+    {
+        self.name(number)?;
+        match self.running.insert(number) {
+            Ok(_) => Ok(()),
+            // Memory: the set has no room.
+            Err(_) => Err(AllocError),
+        }
+    }
+}

@@ -1,0 +1,152 @@
+//! A network while its lines are still coming.
+
+ghost use Rattle.std.specs.Prelude.{◌≡◌, ◌==◌, [], Err, IfOk, None, OnOk, Some, false, true};
+ghost use Rattle.std.specs.List.{list_any};
+ghost use Rattle.types.specs.Trees.{all_differ as names_differ};
+ghost use Rattle.requests.specs.Outlines.{IsConfigOf, fresh, with_node, with_roster};
+ghost use Rattle.requests.specs.Taking.{is_roster, takes_node, takes_roster};
+
+use configuration::{
+    Budgets, ConfigError, HostedNode, MAX_NODES, MAX_ROSTER, MAX_SHARE, NetConfig, Reservation,
+    Shares,
+};
+use scripts::LineError;
+use std::alloc::Global;
+use std::marker::Model;
+use types::{Nested, NodeId};
+
+/// What the lines of a network have declared so far: its budgets, its nodes in the order of their lines, and
+/// its roster.
+///
+/// Nodes may come in any order, none twice: C, then A are nodes of an outline, and C is not taken again.
+#[derive(Drop)]
+pub struct Outline {
+    alloc: Global,
+    budgets: Budgets,
+    nodes: Vec<HostedNode>,
+    roster: Option<Reservation>,
+}
+
+impl Model for Outline {
+    ghost use Rattle.std.specs.Coded.{codes};
+    ghost use Rattle.std.specs.Prelude.{option_map};
+    ghost use Rattle.types.specs.Trees.{members_code};
+    ghost use Rattle.requests.specs.Outlines.{Outlined, IsSound};
+
+    ghost Value = { Outlined };
+
+    ghost coded = { Prim.hlevel (codes, members_code) };
+
+    ghost view = { λ d. record { budgets = d.budgets; nodes = d.nodes.items; roster = option_map (λ r. (r.names.items, r.shares)) d.roster } };
+
+    ghost invariant = { λ d. IsSound (record { budgets = d.budgets; nodes = d.nodes.items; roster = option_map (λ r. (r.names.items, r.shares)) d.roster }) };
+}
+
+impl Outline {
+    /// A network with these budgets and no node. It takes no memory.
+    pub fn new(alloc: Global, budgets: Budgets) -> Outline
+        ensures { result ≡ fresh budgets }
+    {
+        Outline {
+            alloc,
+            budgets,
+            nodes: Vec::new(alloc),
+            roster: None,
+        }
+    }
+
+    /// One node more. It is a bad line where the network has a node of that name, or 256 nodes.
+    pub fn host(&mut self, name: NodeId, slices: Nested) -> Result<(), LineError>
+        ensures hosted { OnOk result (self.new ≡ with_node self.old name slices) }
+        ensures taken { OnOk result (takes_node (Some self.old) name ≡ true) }
+        ensures bad { result ≡ Err LineError.Bad → takes_node (Some self.old) name ≡ false }
+    {
+        if self.nodes.len() >= MAX_NODES || has_node(&self.nodes, &name) {
+            return Err(LineError::Bad);
+        }
+        match self.nodes.push(HostedNode::new(name, slices)) {
+            Ok(()) => Ok(()),
+            // Memory: the list has no room.
+            Err(_) => Err(LineError::NoMemory),
+        }
+    }
+
+    /// Its roster. It is a bad line where there is one already, and where the configuration refuses it: a
+    /// name stands twice on it, it has more than 1,024 names, or a share is above 2^40.
+    pub fn reserve(&mut self, roster: Reservation) -> Result<(), LineError>
+        ensures reserved { OnOk result (self.new ≡ with_roster self.old roster.names.items roster.shares) }
+        ensures taken { OnOk result (takes_roster (Some self.old) roster.names.items roster.shares ≡ true) }
+        ensures bad { result ≡ Err LineError.Bad → takes_roster (Some self.old) roster.names.items roster.shares ≡ false }
+    {
+        if self.roster.is_some() || !is_allowed(&roster) {
+            return Err(LineError::Bad);
+        }
+        self.roster = Some(roster);
+        Ok(())
+    }
+
+    /// The configuration of the network of this number that has been declared. It is a bad line where no node
+    /// has been.
+    pub fn config(self, number: u32) -> Result<NetConfig, LineError>
+        ensures config { IfOk result (IsConfigOf number self) }
+        ensures bad { result ≡ Err LineError.Bad → self.nodes ≡ [] }
+    {
+        let Outline {
+            alloc,
+            budgets,
+            nodes,
+            roster,
+        } = self;
+        if nodes.is_empty() {
+            return Err(LineError::Bad);
+        }
+        let made = match roster {
+            None => NetConfig::new(alloc, number, nodes, budgets),
+            Some(roster) => NetConfig::with_roster(alloc, number, nodes, budgets, roster),
+        };
+        match made {
+            Ok(config) => Ok(config),
+            Err(ConfigError::NoMemory) => Err(LineError::NoMemory),
+            Err(_) => Err(LineError::Bad),
+        }
+    }
+}
+
+/// The configuration takes the roster.
+fn is_allowed(roster: &Reservation) -> bool
+    ensures { result ≡ is_roster roster.now.names.items roster.now.shares }
+{
+    let Shares {
+        own,
+        pair,
+        bytes,
+        opens,
+    } = roster.shares;
+    roster.names.len() <= MAX_ROSTER
+        && own.max(pair).max(bytes).max(opens) <= MAX_SHARE
+        && all_differ(&roster.names)
+}
+
+/// A node has the name.
+fn has_node(nodes: &[HostedNode], name: &NodeId) -> bool
+    ensures { result ≡ list_any (λ hosted. hosted.name == name.now) nodes.now }
+{
+    nodes.iter().any(|node| *node.name() == *name)
+}
+
+/// No name stands twice.
+fn all_differ(names: &[NodeId]) -> bool
+    ensures { result ≡ names_differ names.now }
+{
+    match names {
+        [] => true,
+        [first, rest @ ..] => !has_name(rest, first) && all_differ(rest),
+    }
+}
+
+/// The name is among them.
+fn has_name(names: &[NodeId], name: &NodeId) -> bool
+    ensures { result ≡ list_any (λ w. w == name.now) names.now }
+{
+    names.iter().any(|other| *other == *name)
+}

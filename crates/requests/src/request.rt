@@ -1,0 +1,222 @@
+//! What a line asks for.
+
+ghost use Rattle.std.specs.Prelude.{◌≡◌, Err, IfOk, None, Some, map, option_map};
+ghost use Rattle.requests.specs.Lines.{IsRead};
+ghost use Rattle.requests.specs.Requests.{AreAllowed, AsksNode, AsksRoster, IsRequest, IsRequested, budgets_in, number_behind, names_in, only_names, settling_in, shares_in};
+
+use crate::events::event_of;
+use crate::verbs::{Verb, is_word, verb_of};
+use configuration::{Budgets, Reservation, Shares};
+use scripts::{LineError, counter_of, name_of, number_of, slices_of};
+use std::alloc::{AllocError, Global};
+use types::{Event, Nested, NodeId};
+
+/// What a line asks for, of the network of a number.
+#[derive(Drop)]
+pub enum Request {
+    /// The network, or something of it, is declared.
+    Declare(Declaration),
+    /// An event of the network.
+    Apply(Event),
+    /// What was emitted at a slot is to be handed on.
+    Settle(u64),
+}
+
+/// What a line declares.
+#[derive(Drop)]
+pub enum Declaration {
+    /// A network with its budgets.
+    Net(Budgets),
+    /// A hosted node of the network.
+    Node(NodeId, Nested),
+    /// The roster of the network.
+    Roster(Reservation),
+}
+
+/// The number of the network that a line names, and what it asks for. It is a bad line where it has none of
+/// the forms.
+pub fn request_of(alloc: Global, fields: &[&[u8]]) -> Result<(u32, Request), LineError>
+    ensures asked { IfOk result (λ r. IsRequested (map (λ field. field.now) fields.now) (Some (r.0, r.1))) }
+    ensures bad { result ≡ Err LineError.Bad → IsRequested (map (λ field. field.now) fields.now) None }
+{
+    match asked_by(alloc, fields)? {
+        Some((number, request)) => Ok((number, request)),
+        None => Err(LineError::Bad),
+    }
+}
+
+/// The number of the network that a line names, and what it asks for, where it has one of the forms.
+fn asked_by(alloc: Global, fields: &[&[u8]]) -> Result<Option<(u32, Request)>, AllocError>
+    ensures { IfOk result (IsRequested (map (λ field. field.now) fields.now)) }
+{
+    let [word, number, rest @ ..] = fields else {
+        return Ok(None);
+    };
+    let Some(verb) = verb_of(word) else {
+        return Ok(None);
+    };
+    let Some(number) = counter_of(number) else {
+        return Ok(None);
+    };
+    match request_by(alloc, verb, rest)? {
+        Some(request) => Ok(Some((number, request))),
+        None => Ok(None),
+    }
+}
+
+/// What a line of this kind asks for, by the fields after the number of the network.
+fn request_by(alloc: Global, verb: Verb, fields: &[&[u8]]) -> Result<Option<Request>, AllocError>
+    ensures { IfOk result (IsRequest verb (map (λ field. field.now) fields.now)) }
+{
+    match verb {
+        Verb::Net => Ok(net_of(fields)),
+        Verb::Node => node_of(alloc, fields),
+        Verb::Roster => roster_of(alloc, fields),
+        Verb::Event(verb) => match event_of(alloc, verb, fields)? {
+            Some(event) => Ok(Some(Request::Apply(event))),
+            None => Ok(None),
+        },
+        Verb::Settle => Ok(settle_at(fields)),
+    }
+}
+
+/// `events E bytes B slots S`, where these are budgets that a network can have.
+fn net_of(fields: &[&[u8]]) -> Option<Request>
+    ensures { IsRead (AreAllowed (budgets_in (map (λ field. field.now) fields.now))) result }
+{
+    let Some((events, bytes, slots)) = numbers_of(fields) else {
+        return None;
+    };
+    match Budgets::new(events, bytes, slots) {
+        Some(budgets) => Some(Request::Declare(Declaration::Net(budgets))),
+        None => None,
+    }
+}
+
+/// The numbers of budgets.
+fn numbers_of(fields: &[&[u8]]) -> Option<(u64, u64, u64)>
+    ensures { option_map (λ r. record { events = r.0; bytes = r.1; slots = r.2 }) result ≡ budgets_in (map (λ field. field.now) fields.now) }
+{
+    let Some((events, rest)) = behind_word(fields, b"events") else {
+        return None;
+    };
+    let Some((bytes, rest)) = behind_word(rest, b"bytes") else {
+        return None;
+    };
+    match behind_word(rest, b"slots") {
+        Some((slots, [])) => Some((events, bytes, slots)),
+        _ => None,
+    }
+}
+
+/// The number behind a word, and the fields that follow.
+fn behind_word<'a, 'b>(fields: &'a [&'b [u8]], word: &[u8]) -> Option<(u64, &'a [&'b [u8]])>
+    ensures { option_map (λ r. (r.0, map (λ field. field.now) r.1.now)) result ≡ number_behind word.now (map (λ field. field.now) fields.now) }
+{
+    let [first, number, rest @ ..] = fields else {
+        return None;
+    };
+    if !is_word(first, word) {
+        return None;
+    }
+    match number_of(number) {
+        Some(number) => Some((number, rest)),
+        None => None,
+    }
+}
+
+/// `NAME SLICES`.
+fn node_of(alloc: Global, fields: &[&[u8]]) -> Result<Option<Request>, AllocError>
+    ensures { IfOk result (IsRead (AsksNode (map (λ field. field.now) fields.now))) }
+{
+    let [name, slices] = fields else {
+        return Ok(None);
+    };
+    let Some(name) = name_of(name) else {
+        return Ok(None);
+    };
+    match slices_of(alloc, slices)? {
+        Some(slices) => Ok(Some(Request::Declare(Declaration::Node(name, slices)))),
+        None => Ok(None),
+    }
+}
+
+/// `own O pair P bytes B opens S NAME,NAME,..`.
+fn roster_of(alloc: Global, fields: &[&[u8]]) -> Result<Option<Request>, AllocError>
+    ensures { IfOk result (IsRead (AsksRoster (map (λ field. field.now) fields.now))) }
+{
+    let Some((shares, rest)) = shares_of(fields) else {
+        return Ok(None);
+    };
+    match only_names_of(alloc, rest)? {
+        Some(names) => Ok(Some(Request::Declare(Declaration::Roster(Reservation {
+            names,
+            shares,
+        })))),
+        None => Ok(None),
+    }
+}
+
+/// The numbers of shares, and the fields that follow.
+fn shares_of<'a, 'b>(fields: &'a [&'b [u8]]) -> Option<(Shares, &'a [&'b [u8]])>
+    ensures { option_map (λ r. (r.0, map (λ field. field.now) r.1.now)) result ≡ shares_in (map (λ field. field.now) fields.now) }
+{
+    let Some((own, rest)) = behind_word(fields, b"own") else {
+        return None;
+    };
+    let Some((pair, rest)) = behind_word(rest, b"pair") else {
+        return None;
+    };
+    let Some((bytes, rest)) = behind_word(rest, b"bytes") else {
+        return None;
+    };
+    match behind_word(rest, b"opens") {
+        Some((opens, rest)) => Some((
+            Shares {
+                own,
+                pair,
+                bytes,
+                opens,
+            },
+            rest,
+        )),
+        None => None,
+    }
+}
+
+/// The names of the only field.
+fn only_names_of(alloc: Global, fields: &[&[u8]]) -> Result<Option<Vec<NodeId>>, AllocError>
+    ensures { IfOk result (λ o. option_map (λ v. v.items) o ≡ only_names (map (λ field. field.now) fields.now)) }
+{
+    match fields {
+        [list] => names_of(alloc, list),
+        _ => Ok(None),
+    }
+}
+
+/// Names with a comma between each and the next.
+fn names_of(alloc: Global, list: &[u8]) -> Result<Option<Vec<NodeId>>, AllocError>
+    ensures { IfOk result (λ o. option_map (λ v. v.items) o ≡ names_in list.now) }
+{
+    let mut names = Vec::new(alloc);
+    for word in list.split(|byte| *byte == b',') {
+        match name_of(word) {
+            Some(name) => names.push(name)?,
+            None => return Ok(None),
+        }
+    }
+    Ok(Some(names))
+}
+
+/// The only field is a slot.
+fn settle_at(fields: &[&[u8]]) -> Option<Request>
+    ensures { result ≡ settling_in (map (λ field. field.now) fields.now) }
+{
+    let [slot] = fields else {
+        return None;
+    };
+    match number_of(slot) {
+        Some(slot) => Some(Request::Settle(slot)),
+        None => None,
+    }
+}

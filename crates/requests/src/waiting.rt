@@ -1,0 +1,117 @@
+//! The networks of a script that are declared and that no event has named.
+
+ghost use Rattle.std.specs.Prelude.{◌<◌, ◌≡◌, ◌^◌, ◌∷◌, [], Err, IfNone, IfSome, None, OnOk, false, is_some, length, true};
+ghost use Rattle.requests.specs.Outlines.{IsRevised, fresh, waiting_at, waiting_with, waiting_without, with_node, with_roster};
+ghost use Rattle.requests.specs.Taking.{takes_node, takes_roster};
+
+use crate::outlines::Outline;
+use configuration::{Budgets, Reservation};
+use scripts::LineError;
+use std::alloc::Global;
+use std::collections::BTreeMap;
+use std::marker::Model;
+use types::{Nested, NodeId};
+
+/// The networks of a script that are declared and that no event has named, by number. Contracts see them
+/// ascending.
+#[derive(Drop)]
+pub struct Waiting {
+    alloc: Global,
+    outlines: BTreeMap<u32, Outline>,
+}
+
+impl Model for Waiting {
+    ghost use Rattle.std.specs.Coded.{codes};
+    ghost use Rattle.types.specs.Trees.{members_code};
+    ghost use Rattle.requests.specs.Outlines.{Waiting};
+
+    ghost Value = { Waiting };
+
+    ghost coded = { Prim.hlevel (codes, members_code) };
+
+    ghost view = { λ waiting. waiting.outlines.entries };
+}
+
+impl Waiting {
+    /// No network has been declared. It takes no memory.
+    pub fn none(alloc: Global) -> Waiting
+        ensures { result ≡ [] }
+    {
+        Waiting {
+            alloc,
+            outlines: BTreeMap::new(alloc),
+        }
+    }
+
+    /// One network more, with its budgets. It is a bad line where one of its number waits.
+    pub fn declare(&mut self, number: u32, budgets: Budgets) -> Result<(), LineError>
+        ensures absent { OnOk result (waiting_at self.old number ≡ None) }
+        ensures declared { OnOk result (self.new ≡ waiting_with self.old number (fresh budgets)) }
+        ensures bad { result ≡ Err LineError.Bad → is_some (waiting_at self.old number) ≡ true }
+    {
+        if self.outlines.contains_key(&number) {
+            return Err(LineError::Bad);
+        }
+        match self
+            .outlines
+            .insert(number, Outline::new(self.alloc, budgets))
+        {
+            Ok(_) => Ok(()),
+            Err(_) => Err(LineError::NoMemory),
+        }
+    }
+
+    /// A network has one node more. It is a bad line where the network does not wait, and where the
+    /// configuration refuses the node.
+    pub fn host(&mut self, number: u32, name: NodeId, slices: Nested) -> Result<(), LineError>
+        ensures hosted { OnOk result (IsRevised number (λ d. with_node d name slices) self.old self.new) }
+        ensures taken { OnOk result (takes_node (waiting_at self.old number) name ≡ true) }
+        ensures bad { result ≡ Err LineError.Bad → takes_node (waiting_at self.old number) name ≡ false }
+    {
+        match self.outlines.get_mut(&number) {
+            Some(outline) => outline.host(name, slices),
+            None => Err(LineError::Bad),
+        }
+    }
+
+    /// A network has a roster. It is a bad line where the network does not wait, and where the configuration
+    /// refuses the roster.
+    pub fn reserve(&mut self, number: u32, roster: Reservation) -> Result<(), LineError>
+        ensures reserved { OnOk result
+            (IsRevised number (λ d. with_roster d roster.names.items roster.shares) self.old self.new) }
+        ensures taken { OnOk result
+            (takes_roster (waiting_at self.old number) roster.names.items roster.shares ≡ true) }
+        ensures bad { result ≡ Err LineError.Bad
+            → takes_roster (waiting_at self.old number) roster.names.items roster.shares ≡ false }
+    {
+        match self.outlines.get_mut(&number) {
+            Some(outline) => outline.reserve(roster),
+            None => Err(LineError::Bad),
+        }
+    }
+
+    /// How many networks wait.
+    pub fn count(&self) -> usize
+        ensures count { result ≡ length self.now }
+        ensures small { result < 2 ^ 63 }
+    {
+        self.outlines.len()
+    }
+
+    /// The network of a number leaves.
+    pub fn take(&mut self, number: u32) -> Option<Outline>
+        ensures which { result ≡ waiting_at self.old number }
+        ensures rest { IfSome result (λ _. self.new ≡ waiting_without self.old number) }
+        ensures same { IfNone result (self.new ≡ self.old) }
+    {
+        self.outlines.remove(&number)
+    }
+
+    /// The first network leaves.
+    pub fn take_first(&mut self) -> Option<(u32, Outline)>
+        ensures some { IfSome result (λ first. self.old ≡ first ∷ self.new) }
+        ensures none { IfNone result (self.old ≡ []) }
+    {
+        self.outlines.pop_first()
+    }
+}
