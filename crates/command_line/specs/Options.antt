@@ -2,6 +2,7 @@
 use Rattle.std.specs.Prelude.{◌≡◌, ◌⊎◌, ◌^◌, ◌==◌, ◌++◌, ◌&&◌, ℕ, true, false, not, List, [], ◌∷◌, codes, length, take, drop, nat_lt}
 use Rattle.std.specs.Prelude.{Option, Some, None, option_and_then, option_map, is_none, if◌then◌else◌}
 use Rattle.std.specs.List.{list_all}
+use Rattle.std.specs.Option.{option_or}
 use Rattle.std.specs.Str.{bytes_eq}
 use Rattle.scripts.specs.Words.{word_number}
 use Rattle.command_line.specs.Words.{Text, AreOperands, is_plain}
@@ -12,7 +13,7 @@ use Rattle.command_line.specs.declared.options.Options.{Options}
 
 -- nothing is asked for
 abbrev pub no_options : Options
-no_options = record { workers = None; format = None; explain = false }
+no_options = record { workers = None; format = None; bytes = false; explain = false }
 
 -- ---- one option
 
@@ -55,19 +56,35 @@ abbrev pub with_format : Options → Text × List Text → Option (Options × Li
 with_format asked given = if is_none asked.format
     then option_map (λ f. (record asked { format = Some f }, given.1)) (format_in given.0) else None
 
+-- the same with envelopes as bytes
+abbrev pub with_bytes : Options → List Text → Option (Options × List Text)
+with_bytes asked [] = None
+with_bytes asked (word ∷ rest) = if bytes_eq word (codes "--bytes") && not asked.bytes
+    then Some (record asked { bytes = true }, rest) else None
+
 -- the same with an explanation
 abbrev pub with_explanation : Options → List Text → Option (Options × List Text)
 with_explanation asked [] = None
 with_explanation asked (word ∷ rest) = if bytes_eq word (codes "--explain") && not asked.explain
     then Some (record asked { explain = true }, rest) else None
 
+-- the same with the option of a number of workers, as it is spelled
+abbrev pub workers_option : Options → List Text → Option (Options × List Text)
+workers_option asked words = option_and_then (with_workers asked) (value_in (codes "--workers") words)
+
+-- the same with an option of `serve`: a number of workers, envelopes as bytes or an explanation
+abbrev pub serving_in : Options → List Text → Option (Options × List Text)
+serving_in asked words =
+    option_or (workers_option asked words) (option_or (with_bytes asked words) (with_explanation asked words))
+
 -- what was asked for with the option of a command beside it that the first words are, each once, and the words behind it
 abbrev pub option_in : Command → Options → List Text → Option (Options × List Text)
 option_in command.Table asked words = None
-option_in command.Run asked words = option_and_then (with_workers asked) (value_in (codes "--workers") words)
+option_in command.Run asked words = workers_option asked words
 option_in command.Closure asked words = option_and_then (with_format asked) (value_in (codes "--format") words)
 option_in command.Compare asked words = with_explanation asked words
 option_in command.Crowd asked words = None
+option_in command.Serve asked words = serving_in asked words
 
 -- ---- all of them
 

@@ -63,6 +63,16 @@ pub enum Call {
         /// The node, at a slot of a network.
         subject: Subject,
     },
+    /// `serve`: host what the lines of the standard input declare, and answer each line as it comes.
+    Serve {
+        /// How many workers the host has; one without it.
+        workers: Option<PoolSize>,
+        /// Whether an emission is followed by the bytes of its envelope in hexadecimal, in place of the words of its
+        /// statement.
+        bytes: bool,
+        /// Whether a bad line is explained on the standard error.
+        explain: bool,
+    },
 }
 
 /// What is answered to words that are no call.
@@ -168,6 +178,7 @@ fn made_call<S: AsStr>(
         Command::Closure => closure_call(alloc, asked, operands),
         Command::Compare => compare_call(alloc, asked, operands),
         Command::Crowd => crowd_call(alloc, asked, operands),
+        Command::Serve => Ok(serve_call(asked, operands)),
     }
 }
 
@@ -283,5 +294,19 @@ fn crowd_call<S: AsStr>(
         },
         [_, _, _, _, _, _, ..] => Ok(None),
         _ => Ok(None),
+    }
+}
+
+/// The call of `serve` with these operands, if they are none.
+fn serve_call<S: AsStr>(asked: &Options, operands: &[S]) -> Option<Call>
+    ensures { result ≡ call_of Command.Serve asked.now (map S.text operands.now) }
+{
+    match operands {
+        [] => Some(Call::Serve {
+            workers: asked.workers,
+            bytes: asked.bytes,
+            explain: asked.explain,
+        }),
+        [_, ..] => None,
     }
 }

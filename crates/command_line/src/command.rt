@@ -16,6 +16,8 @@ pub enum Command {
     Compare,
     /// `crowd`: compares what was submitted for a node in two scripts.
     Crowd,
+    /// `serve`: hosts what the lines of the standard input declare, live.
+    Serve,
 }
 
 impl Command {
@@ -29,6 +31,7 @@ impl Command {
             "closure" => Some(Command::Closure),
             "compare" => Some(Command::Compare),
             "crowd" => Some(Command::Crowd),
+            "serve" => Some(Command::Serve),
             _ => None,
         }
     }

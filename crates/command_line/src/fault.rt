@@ -144,16 +144,18 @@ fn push_fault(text: &mut String, fault: &Fault<'_>) -> Result<(), AllocError> {
     }
 }
 
-/// Adds that a word has no place behind a command, and how it could be an operand if it looks like an option.
+/// Adds that a word has no place behind a command, and how it could be an operand if it looks like an option and the
+/// command takes operands.
 fn push_unexpected(text: &mut String, command: Command, word: &str) -> Result<(), AllocError> {
+    let form = form_of(command);
     write!(text, "unexpected argument '{word}' found\n\n")?;
-    if word.starts_with('-') && word.len() > 1 {
+    if word.starts_with('-') && word.len() > 1 && !form.operands.is_empty() {
         write!(
             text,
             "  tip: to pass '{word}' as a value, use '-- {word}'\n\n"
         )?;
     }
-    push_usage(text, &form_of(command))?;
+    push_usage(text, &form)?;
     text.push_str("\n")
 }
 

@@ -4,12 +4,13 @@ use crate::command::Command;
 use crate::options::Options;
 
 /// The commands in the order in which they are told.
-pub const COMMANDS: [Command; 5] = [
+pub const COMMANDS: [Command; 6] = [
     Command::Table,
     Command::Run,
     Command::Closure,
     Command::Compare,
     Command::Crowd,
+    Command::Serve,
 ];
 
 /// A command, an operand or an option as it is spelled, and what is said of it.
@@ -26,7 +27,7 @@ pub struct Part<'a> {
 pub struct Form<'a> {
     /// The command.
     pub command: Part<'a>,
-    /// Its operands, all of which it wants.
+    /// Its operands, all of which it wants; it may have none.
     pub operands: &'a [Part<'a>],
     /// Its options beside `--help`.
     pub options: &'a [Part<'a>],
@@ -82,6 +83,21 @@ const FORMAT: Part<'static> = Part {
 const EXPLAIN: Part<'static> = Part {
     name: "--explain",
     about: "Shows both sides of a difference, with files and lines",
+};
+
+const HOST_WORKERS: Part<'static> = Part {
+    name: "--workers <N>",
+    about: "Serves the networks with N workers, 1 to 64; without it, with one",
+};
+
+const BYTES: Part<'static> = Part {
+    name: "--bytes",
+    about: "Prints what is emitted as the bytes of its envelope, in hexadecimal",
+};
+
+const EXPLAIN_LINES: Part<'static> = Part {
+    name: "--explain",
+    about: "Explains each bad line on the standard error, with its column",
 };
 
 /// `table FILE`.
@@ -169,6 +185,45 @@ stand on one roster, and the same was submitted for them, applied or refused, so
   scphost crowd - flooded.txt 1 1 A",
 };
 
+/// `serve`.
+const SERVE: Form<'static> = Form {
+    command: Part {
+        name: "serve",
+        about: "Hosts networks live: answers each line of the standard input as it comes",
+    },
+    operands: &[],
+    options: &[HOST_WORKERS, BYTES, EXPLAIN_LINES],
+    more: "These lines are taken, N being a network and I a slot; empty ones and comments are passed over:
+  net N events E bytes B slots S served
+  node N NODE SLICES
+  roster N own O pair P bytes B opens S NODE,NODE,..
+  open N I, or close N I
+  propose N I NODE VALUE
+  deliver N NODE HEX
+  say N NODE FROM I SLICES STATEMENT
+  ntimer N I NODE R, or btimer N I NODE C
+  reslice N I NODE SLICES
+  drop N, which takes the network back
+  left N, which tells what is left of its budgets
+  show N I NODE, which tells what the node knows at the slot
+With * for NODE, `deliver` and `say` go to each hosted node. What a node emits is heard by the
+others of its network.
+
+Line L is answered by a block. It has a line for each step that gave something out, the event's own
+first, and for each hearing that was refused, or what `left` and `show` tell:
+  L N I NODE OUTS
+  L N I NODE refused K NAME
+Then one line ends it:
+  L ok               it was done
+  L stale            it was applied, and nothing changed
+  L refused K NAME   it was refused, and nothing changed
+  L bad              it cannot be taken, and nothing changed
+The status is 0 at the end of the input, 2 if it cannot be read, 3 if memory is short, and 4 if an
+answer cannot be written. For example:
+  scphost serve --workers 4 < lines.txt
+  scphost serve --bytes --explain",
+};
+
 /// The form of a command.
 pub fn form_of(command: Command) -> Form<'static> {
     match command {
@@ -177,5 +232,6 @@ pub fn form_of(command: Command) -> Form<'static> {
         Command::Closure => CLOSURE,
         Command::Compare => COMPARE,
         Command::Crowd => CROWD,
+        Command::Serve => SERVE,
     }
 }

@@ -1,7 +1,7 @@
 //! The words behind a command: its operands, with options before or behind them.
 
 ghost use Rattle.std.specs.Prelude.{◌≡◌, ◌<◌, IfOk, IfSome, IsOkAnd, List, None, length, map, option_map};
-ghost use Rattle.command_line.specs.Options.{AreOptions, HasForm, behind, next_in, no_options, option_in, value_in, with_explanation, with_format, with_workers, workers_in};
+ghost use Rattle.command_line.specs.Options.{AreOptions, HasForm, behind, next_in, no_options, option_in, serving_in, value_in, with_bytes, with_explanation, with_format, with_workers, workers_in, workers_option};
 ghost use Rattle.command_line.specs.Subjects.{format_or_text};
 ghost use Rattle.command_line.specs.Words.{Text};
 
@@ -19,7 +19,9 @@ pub struct Options {
     pub workers: Option<PoolSize>,
     /// `--format FORM`: the form of a report.
     pub format: Option<Format>,
-    /// `--explain`: a difference is explained.
+    /// `--bytes`: envelopes are printed as bytes.
+    pub bytes: bool,
+    /// `--explain`: a difference, or a bad line, is explained.
     pub explain: bool,
 }
 
@@ -31,6 +33,7 @@ impl Options {
         Options {
             workers: None,
             format: None,
+            bytes: false,
             explain: false,
         }
     }
@@ -47,7 +50,7 @@ impl Options {
 
     /// Something is asked for.
     pub fn are_given(&self) -> bool {
-        self.workers.is_some() || self.format.is_some() || self.explain
+        self.workers.is_some() || self.format.is_some() || self.bytes || self.explain
     }
 }
 
@@ -97,16 +100,39 @@ fn option_before<'a, S: AsStr>(
 {
     match command {
         Command::Table => None,
-        Command::Run => match value_before(b"--workers", words) {
-            Some((value, rest)) => with_workers(asked, value, rest),
-            None => None,
-        },
+        Command::Run => workers_before(asked, words),
         Command::Closure => match value_before(b"--format", words) {
             Some((value, rest)) => with_format(asked, value, rest),
             None => None,
         },
         Command::Compare => with_explanation(asked, words),
         Command::Crowd => None,
+        Command::Serve => serving_before(asked, words),
+    }
+}
+
+/// The same with an option of `serve`.
+fn serving_before<'a, S: AsStr>(asked: &Options, words: &'a [S]) -> Option<(Options, &'a [S])>
+    ensures option { option_map (λ p. (p.0, map S.text p.1.now)) result ≡ serving_in asked.now (map S.text words.entry.now) }
+    ensures shorter { IfSome result (λ p. length p.1.now < length words.entry.now) }
+{
+    if let Some(found) = workers_before(asked, words) {
+        return Some(found);
+    }
+    match with_bytes(asked, words) {
+        Some(found) => Some(found),
+        None => with_explanation(asked, words),
+    }
+}
+
+/// The same with the option `--workers N`.
+fn workers_before<'a, S: AsStr>(asked: &Options, words: &'a [S]) -> Option<(Options, &'a [S])>
+    ensures option { option_map (λ p. (p.0, map S.text p.1.now)) result ≡ workers_option asked.now (map S.text words.entry.now) }
+    ensures shorter { IfSome result (λ p. length p.1.now < length words.entry.now) }
+{
+    match value_before(b"--workers", words) {
+        Some((value, rest)) => with_workers(asked, value, rest),
+        None => None,
     }
 }
 
@@ -127,6 +153,7 @@ fn with_workers<'a, S: AsStr>(
             let next = Options {
                 workers: Some(workers),
                 format: asked.format,
+                bytes: asked.bytes,
                 explain: asked.explain,
             };
             Some((next, rest))
@@ -152,11 +179,31 @@ fn with_format<'a, S: AsStr>(
             let next = Options {
                 workers: asked.workers,
                 format: Some(format),
+                bytes: asked.bytes,
                 explain: asked.explain,
             };
             Some((next, rest))
         }
         None => None,
+    }
+}
+
+/// The same with envelopes as bytes.
+fn with_bytes<'a, S: AsStr>(asked: &Options, words: &'a [S]) -> Option<(Options, &'a [S])>
+    ensures option { option_map (λ p. (p.0, map S.text p.1.now)) result ≡ with_bytes asked.now (map S.text words.entry.now) }
+    ensures shorter { IfSome result (λ p. length p.1.now < length words.entry.now) }
+{
+    match words {
+        [word, rest @ ..] if word.as_str() == "--bytes" && !asked.bytes => {
+            let next = Options {
+                workers: asked.workers,
+                format: asked.format,
+                bytes: true,
+                explain: asked.explain,
+            };
+            Some((next, rest))
+        }
+        _ => None,
     }
 }
 
@@ -170,6 +217,7 @@ fn with_explanation<'a, S: AsStr>(asked: &Options, words: &'a [S]) -> Option<(Op
             let next = Options {
                 workers: asked.workers,
                 format: asked.format,
+                bytes: asked.bytes,
                 explain: true,
             };
             Some((next, rest))

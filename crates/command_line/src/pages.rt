@@ -63,11 +63,8 @@ fn command_page(alloc: Global, form: &Form<'_>) -> Result<String, AllocError> {
     let mut text = String::from_str(alloc, form.command.about)?;
     text.push_str("\n\n")?;
     push_usage(&mut text, form)?;
-    text.push_str("\n\nArguments:\n")?;
-    let width = widest(form.operands);
-    for operand in form.operands {
-        push_part(&mut text, "", operand, width)?;
-    }
+    text.push_str("\n")?;
+    push_operands(&mut text, form.operands)?;
     text.push_str("\nOptions:\n")?;
     // The options have no letters: they stand below the long name of `-h, --help`.
     let width = widest(form.options)
@@ -81,6 +78,19 @@ fn command_page(alloc: Global, form: &Form<'_>) -> Result<String, AllocError> {
     text.push_str(form.more)?;
     text.push_str("\n")?;
     Ok(text)
+}
+
+/// Adds what is said of operands, if there are some.
+fn push_operands(text: &mut String, operands: &[Part<'_>]) -> Result<(), AllocError> {
+    if operands.is_empty() {
+        return Ok(());
+    }
+    text.push_str("\nArguments:\n")?;
+    let width = widest(operands);
+    for operand in operands {
+        push_part(text, "", operand, width)?;
+    }
+    Ok(())
 }
 
 /// Adds how a command is called.

@@ -18,12 +18,13 @@ use Rattle.network.specs.declared.plan.Emission.{Emission}
 use Rattle.network.specs.Decoding.{step_of}
 use Rattle.network.specs.Marks.{slot_and_node_of}
 use Rattle.network.specs.Standing.{IsRefusal, AreBytesRead, Machine, StandsFor}
-use Rattle.live.specs.Serving.{AreHeard, Hearing, IsServed, IsTried, Telling, all_hearings, emitted_by, hearings_of, named, slot_at, step_of_hearing, told_at, told_of, waits_after}
+use Rattle.live.specs.Serving.{AreHeard, Hearing, IsServed, IsTried, Telling, all_hearings, emitted_by, hearings_of, is_stale, named, slot_at, step_of_hearing, told_at, told_of, waits_after}
 use Rattle.live.specs.Serving.AreHeard.{all_heard, one_heard}
+use Rattle.live.specs.Serving.Ending.{IsDone}
 use Rattle.live.specs.Serving.IsServed.{done, refused}
 use Rattle.live.specs.Serving.IsTried.{stepped, wanting}
 use Rattle.live.specs.Steps.{IsStepped, LeadsTo}
-use Rattle.live.specs.Telling.{HaveHeard, IsHeardByAll, IsServedBy, emissions_of, outcome_of, tellings_of}
+use Rattle.live.specs.Telling.{HaveHeard, IsHeardByAll, IsServedBy, IsToldAt, emissions_of, ending_by, ending_of, outcome_of, tellings_of}
 use Rattle.live.specs.declared.hearing.Following.{Following}
 use Rattle.live.specs.declared.served.Served.{Served}
 use Rattle.live.specs.declared.stepping.Given.{Given}
@@ -210,36 +211,56 @@ done-outs net e os is = go (first_that (tests net e)) is
     go (Some r) k = absurd (cc)
 
 pub served-refused : (old : Machine) (e : Step) (r : Refusal) (s : Served) → IsRefusal old e r → s.refused ≡ Some r → tellings_of s.told.items ≡ [] → IsServedBy old e old s
-served-refused old e r s h is none = λ net stands.
-    (net, subst₂ (λ o t. IsServed net e o t net) (sym is) (sym none) (refused r (tried-refused old net e r stands h)), stands)
+served-refused old e r s h is none = record {
+  slot = subst (λ o. IsToldAt o s.slot e) (sym is) tt;
+  served = λ net stands. (
+    net,
+    subst₂ (λ o t. IsServed net e o t net) (sym (ap (λ o. ending_by o s.stale) is)) (sym none) (refused r (tried-refused old net e r stands h)),
+    stands,
+  );
+}
 
-pub served-alone : (old new : Machine) (e : Step) (g : Given) (s : Served) → IsStepped old e g new → g.place ≡ None → s.refused ≡ None → tellings_of s.told.items ≡ [] → IsServedBy old e new s
-served-alone old new e g s h alone is none = λ net stands.
-    let t = h.step net stands in
-    let now = (net_step net e).0 in
-    let placeless : slot_and_node_of e ≡ None = sym h.place ∙ alone in
-    let nothing : g.outs.items ≡ [] = done-outs net e g.outs.items t.1 ∙ placeless-effect net e placeless in
-    let waits : waits_after net e (Done g.outs.items) ≡ [] = ap (λ os. waits_after net e (Done os)) nothing in
-    let heard : AreHeard (slot_at (slot_and_node_of e)) (waits_after net e (Done g.outs.items)) now [] now = subst (λ l. AreHeard (slot_at (slot_and_node_of e)) l now [] now) (sym waits) all_heard in
-    let told : told_at (slot_and_node_of e) g.outs.items ++ [] ≡ [] = ap (λ at. told_at at g.outs.items ++ []) placeless in (
-      now,
-      subst₂ (λ o l. IsServed net e o l now) (sym is) (told ∙ sym none) (done g.outs.items (tried-done net e g.outs.items t.1) heard),
-      t.0,
-    )
+-- the ending of what was done
+ending-done : (net : Net) (e : Step) (g : Given) (s : Served) → s.refused ≡ None → s.stale ≡ g.stale → g.stale ≡ is_stale net e → IsDone (is_stale net e) ≡ ending_of s
+ending-done net e g s is stale same = sym (ap (λ o. ending_by o s.stale) is ∙ ap (λ (b : Bool). IsDone b) (stale ∙ same))
+
+pub served-alone : (old new : Machine) (e : Step) (g : Given) (s : Served) → IsStepped old e g new → g.place ≡ None → s.refused ≡ None → s.stale ≡ g.stale → s.slot ≡ 0 → tellings_of s.told.items ≡ [] → IsServedBy old e new s
+served-alone old new e g s h alone is stale zero none = record {
+  slot = subst (λ o. IsToldAt o s.slot e) (sym is) (zero ∙ sym (ap slot_at placeless));
+  served = λ net stands.
+      let t = h.step net stands in
+      let now = (net_step net e).0 in
+      let nothing : g.outs.items ≡ [] = done-outs net e g.outs.items t.1 ∙ placeless-effect net e placeless in
+      let waits : waits_after net e (Done g.outs.items) ≡ [] = ap (λ os. waits_after net e (Done os)) nothing in
+      let heard : AreHeard (slot_at (slot_and_node_of e)) (waits_after net e (Done g.outs.items)) now [] now = subst (λ l. AreHeard (slot_at (slot_and_node_of e)) l now [] now) (sym waits) all_heard in
+      let told : told_at (slot_and_node_of e) g.outs.items ++ [] ≡ [] = ap (λ at. told_at at g.outs.items ++ []) placeless in (
+        now,
+        subst₂ (λ o l. IsServed net e o l now) (ending-done net e g s is stale (h.stale net stands)) (told ∙ sym none) (done g.outs.items (tried-done net e g.outs.items t.1) heard),
+        t.0,
+      );
+}
+  where
+    placeless : slot_and_node_of e ≡ None
+    placeless = sym h.place ∙ alone
 
 pub served-and-heard : (old now new : Machine) (e : Step) (g : Given) (i u : ℕ) (first all : List Telling) (rest : List Telling) (s : Served) → IsStepped old e g now → g.place ≡ Some (i, u) → now.config ≡ old.config
-    → HaveHeard i (all_hearings (names_of now.config.nodes) (named (emissions g.outs.items) g.marks.items)) now rest new → first ≡ told_of u (Done g.outs.items) → all ≡ first ++ rest → s.refused ≡ None → tellings_of s.told.items ≡ all → IsServedBy old e new s
-served-and-heard old now new e g i u first all rest s h at config heard told both is is-told = λ net stands.
-    let t = h.step net stands in
-    let place : slot_and_node_of e ≡ Some (i, u) = sym h.place ∙ at in
-    let waits : waits_after net e (Done g.outs.items) ≡ all_hearings (names_of now.config.nodes) (named (emissions g.outs.items) g.marks.items) =
-    waits-by old net e (Done g.outs.items) (named (emissions g.outs.items) g.marks.items) stands (ap (λ ks. named (emissions g.outs.items) ks) (sym (h.marks net stands)))
-    ∙ ap (λ (c : Config). all_hearings (names_of c.nodes) (named (emissions g.outs.items) g.marks.items)) (sym config) in
-    let end = heard (net_step net e).0 t.0 in
-    let rest-heard : AreHeard (slot_at (slot_and_node_of e)) (waits_after net e (Done g.outs.items)) (net_step net e).0 rest end.0 =
-    subst₂ (λ p l. AreHeard (slot_at p) l (net_step net e).0 rest end.0) (sym place) (sym waits) end.1 in
-    let own : told_at (slot_and_node_of e) g.outs.items ++ rest ≡ all = ap (λ p. told_at p g.outs.items ++ rest) place ∙ ap (λ l. l ++ rest) (sym told) ∙ sym both in (
-      end.0,
-      subst₂ (λ o l. IsServed net e o l end.0) (sym is) (own ∙ sym is-told) (done g.outs.items (tried-done net e g.outs.items t.1) rest-heard),
-      end.2,
-    )
+    → HaveHeard i (all_hearings (names_of now.config.nodes) (named (emissions g.outs.items) g.marks.items)) now rest new → first ≡ told_of u (Done g.outs.items) → all ≡ first ++ rest → s.refused ≡ None → s.stale ≡ g.stale → s.slot ≡ i → tellings_of s.told.items ≡ all → IsServedBy old e new s
+served-and-heard old now new e g i u first all rest s h at config heard told both is stale slot is-told = record {
+  slot = subst (λ o. IsToldAt o s.slot e) (sym is) (slot ∙ sym (ap slot_at place));
+  served = λ net stands.
+      let t = h.step net stands in
+      let waits : waits_after net e (Done g.outs.items) ≡ all_hearings (names_of now.config.nodes) (named (emissions g.outs.items) g.marks.items) =
+      waits-by old net e (Done g.outs.items) (named (emissions g.outs.items) g.marks.items) stands (ap (λ ks. named (emissions g.outs.items) ks) (sym (h.marks net stands)))
+      ∙ ap (λ (c : Config). all_hearings (names_of c.nodes) (named (emissions g.outs.items) g.marks.items)) (sym config) in
+      let end = heard (net_step net e).0 t.0 in
+      let rest-heard : AreHeard (slot_at (slot_and_node_of e)) (waits_after net e (Done g.outs.items)) (net_step net e).0 rest end.0 =
+      subst₂ (λ p l. AreHeard (slot_at p) l (net_step net e).0 rest end.0) (sym place) (sym waits) end.1 in
+      let own : told_at (slot_and_node_of e) g.outs.items ++ rest ≡ all = ap (λ p. told_at p g.outs.items ++ rest) place ∙ ap (λ l. l ++ rest) (sym told) ∙ sym both in (
+        end.0,
+        subst₂ (λ o l. IsServed net e o l end.0) (ending-done net e g s is stale (h.stale net stands)) (own ∙ sym is-told) (done g.outs.items (tried-done net e g.outs.items t.1) rest-heard),
+        end.2,
+      );
+}
+  where
+    place : slot_and_node_of e ≡ Some (i, u)
+    place = sym h.place ∙ at

@@ -1,17 +1,21 @@
 -- What a line of a served network does: its event, and then what the others hear of it.
-use Rattle.std.specs.Prelude.{◌≡◌, ◌==◌, ◌++◌, ◌⊎◌, not, ℕ, filter, map, List, [], ◌∷◌, Option, Some, None}
+use Rattle.std.specs.Prelude.{◌≡◌, ◌==◌, ◌++◌, ◌⊎◌, not, ℕ, Bool, false, is_none, filter, map, List, [], ◌∷◌, Option, Some, None}
 use Rattle.std.specs.List.{flat_map}
 use Rattle.types.specs.Statements.{Sent, kind_of}
+use Rattle.types.specs.declared.event.NodeEvent.{NodeEvent}
+use Rattle.types.specs.declared.event.NodeEvent.TheVariants.{BallotTimer, NominationTimer, Take}
 use Rattle.types.specs.declared.event.Out.{Out}
 use Rattle.types.specs.declared.event.Refusal.{Refusal}
 use Rattle.types.specs.declared.event.Refusal.TheVariants.{NoMemory}
 use Rattle.protocol.specs.Networks.{Net, Reply, Step, emissions, first_that, net_step, tests}
+use Rattle.protocol.specs.Networks.Reading.{Fault, Read}
 use Rattle.protocol.specs.Networks.Reply.{Done, Refused}
-use Rattle.protocol.specs.Networks.Step.{Hears}
+use Rattle.protocol.specs.Networks.Step.{BallotTimerFires, Closes, Delivers, Hears, NominationTimerFires, Opens, Proposes, Reslices}
+use Rattle.protocol.specs.Nodes.{Node, change}
 use Rattle.configuration.specs.Configs.{names_of}
 use Rattle.network.specs.declared.plan.Emission.{Emission}
 use Rattle.network.specs.Marks.{marks_in, slot_and_node_of}
-use Rattle.network.specs.Standing.{AreBytesRead}
+use Rattle.network.specs.Standing.{AreBytesRead, node_at}
 
 -- ---- who hears what
 
@@ -82,14 +86,37 @@ pub data AreHeard (i : ℕ) : List Hearing → Net → List Telling → Net → 
       → AreHeard i (hs ++ waits_after old (step_of_hearing i h) r) now told new
       → AreHeard i (h ∷ hs) old (told_of h.node r ++ told) new
 
+-- a node, if it is one, stays as it is
+abbrev pub is_left : Option Node → NodeEvent → Bool
+is_left None e = false
+is_left (Some n) e = is_none (change n e)
+
+-- what comes of an event that is not refused is nothing: an envelope is delivered that is not newer than what the node
+-- has, or a timer that is not live fires
+abbrev pub is_stale : Net → Step → Bool
+is_stale net (Opens i) = false
+is_stale net (Closes i) = false
+is_stale net (Proposes i u x) = false
+is_stale net (Delivers u size (Read e)) = is_left (node_at net e.slot u) (Take e)
+is_stale net (Delivers u size (Fault n)) = false
+is_stale net (Hears i u from kind k) = false
+is_stale net (NominationTimerFires i u r) = is_left (node_at net i u) (NominationTimer r)
+is_stale net (BallotTimerFires i u c) = is_left (node_at net i u) (BallotTimer c)
+is_stale net (Reslices i u q) = false
+
 -- the slot at which the others hear of a step
 abbrev pub slot_at : Option (ℕ × ℕ) → ℕ
 slot_at None = 0
 slot_at (Some at) = at.0
 
+-- how an event ends: it is refused; or it is done, and is stale or not
+pub data Ending : Type 0 where
+  IsRefused : Refusal → Ending
+  IsDone : Bool → Ending
+
 -- an event is served: it is refused, and that is all; or it is done, told, and then heard of
-pub data IsServed (old : Net) (e : Step) : Option Refusal → List Telling → Net → Type 0 where
-  refused : (r : Refusal) → IsTried old e (Refused r) old → IsServed old e (Some r) [] old
+pub data IsServed (old : Net) (e : Step) : Ending → List Telling → Net → Type 0 where
+  refused : (r : Refusal) → IsTried old e (Refused r) old → IsServed old e (IsRefused r) [] old
   done : {now new : Net} {told : List Telling} (os : List Out) → IsTried old e (Done os) now
       → AreHeard (slot_at (slot_and_node_of e)) (waits_after old e (Done os)) now told new
-      → IsServed old e None (told_at (slot_and_node_of e) os ++ told) new
+      → IsServed old e (IsDone (is_stale old e)) (told_at (slot_and_node_of e) os ++ told) new

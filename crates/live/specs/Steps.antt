@@ -3,14 +3,15 @@ use Rattle.std.specs.Prelude.{◌≡◌, ◌++◌, ℕ, List}
 use Rattle.protocol.specs.Networks.{Net, Step}
 use Rattle.network.specs.Marks.{marks_in, slot_and_node_of}
 use Rattle.network.specs.Standing.{IsStep, Machine, StandsFor}
-use Rattle.live.specs.Serving.{AreHeard, Hearing, Telling}
+use Rattle.live.specs.Serving.{AreHeard, Hearing, Telling, is_stale}
 use Rattle.live.specs.declared.stepping.Given.{Given}
 
--- the network's step, its marks, and whose it was
+-- the network's step, its marks, whose it was, and whether it is stale
 pub record IsStepped (old : Machine) (e : Step) (g : Given) (new : Machine) : Type 0 where
   pub step : IsStep old e g.outs.items new
   pub marks : (net : Net) → StandsFor old net → g.marks.items ≡ marks_in net e
   pub place : g.place ≡ slot_and_node_of e
+  pub stale : (net : Net) → StandsFor old net → g.stale ≡ is_stale net e
 
 -- These hearings, in front of whatever waits, come to this: they are told so, and what they make wait joins the end.
 abbrev pub LeadsTo : ℕ → List Hearing → Machine → List Hearing → List Telling → Machine → Type 0

@@ -1,13 +1,15 @@
 -- What was told and what waits, as code keeps it.
-use Rattle.std.specs.Prelude.{◌≡◌, ◌++◌, ℕ, List, [], map, Result, Ok, Err, Vec}
+use Rattle.std.specs.Prelude.{◌≡◌, ◌++◌, ℕ, Bool, List, [], map, Option, Some, None, Result, Ok, Err, Vec}
 use Rattle.std.specs.Global.{Global}
 use Rattle.types.specs.declared.event.Out.{Out}
 use Rattle.types.specs.declared.event.Refusal.{Refusal}
 use Rattle.protocol.specs.Networks.{Net, Reply, Step, emissions}
 use Rattle.protocol.specs.Networks.Reply.{Done, Refused}
 use Rattle.network.specs.declared.plan.Emission.{Emission}
+use Rattle.network.specs.Marks.{slot_and_node_of}
 use Rattle.network.specs.Standing.{Machine, StandsFor}
-use Rattle.live.specs.Serving.{AreHeard, Hearing, IsServed, Telling, all_hearings, named}
+use Rattle.live.specs.Serving.{AreHeard, Ending, Hearing, IsServed, Telling, all_hearings, named, slot_at}
+use Rattle.live.specs.Serving.Ending.{IsDone, IsRefused}
 use Rattle.live.specs.Steps.{LeadsTo}
 use Rattle.live.specs.declared.hearing.Following.{Following}
 use Rattle.live.specs.declared.hearing.Told.{Told}
@@ -34,6 +36,14 @@ telling_of t = record { node = t.node; reply = reply_of t.answer }
 abbrev pub tellings_of : List Told → List Telling
 tellings_of ts = map telling_of ts
 
+abbrev pub ending_by : Option Refusal → Bool → Ending
+ending_by None stale = IsDone stale
+ending_by (Some r) stale = IsRefused r
+
+-- how it ended
+abbrev pub ending_of : Served → Ending
+ending_of s = ending_by s.refused s.stale
+
 -- These hearings of the nodes of a network come to what was noted: more emissions that wait behind the others, and more
 -- that is told.
 abbrev pub IsHeardByAll : ℕ → List ℕ → List Hearing → Machine → Following → Following → Machine → Type 0
@@ -48,8 +58,13 @@ abbrev pub HaveHeard : ℕ → List Hearing → Machine → List Telling → Mac
 HaveHeard i hs old told new =
     (net : Net) → StandsFor old net → (after : Net) × AreHeard i hs net told after × StandsFor new after
 
+-- what is told of an event that was not refused is told of its slot
+abbrev pub IsToldAt : Option Refusal → ℕ → Step → Type 0
+IsToldAt None i e = i ≡ slot_at (slot_and_node_of e)
+IsToldAt (Some r) i e = Unit {0}
+
 -- likewise an event is served, and this came of it
-abbrev pub IsServedBy : Machine → Step → Machine → Served → Type 0
-IsServedBy old e new s =
-    (net : Net) → StandsFor old net
-    → (after : Net) × IsServed net e s.refused (tellings_of s.told.items) after × StandsFor new after
+pub record IsServedBy (old : Machine) (e : Step) (new : Machine) (s : Served) : Type 0 where
+  pub slot : IsToldAt s.refused s.slot e
+  pub served : (net : Net) → StandsFor old net
+      → (after : Net) × IsServed net e (ending_of s) (tellings_of s.told.items) after × StandsFor new after

@@ -51,6 +51,7 @@ impl Following {
             Ok(given) => {
                 let Given {
                     place: _,
+                    stale: _,
                     outs,
                     marks,
                 } = given;
@@ -106,6 +107,7 @@ fn push_named(outs: &[Out], marks: &[u64], waiting: &mut Vec<Emission>) -> Resul
 /// waits. A hearing that is refused is told, and not tried again. An error says that memory is short for what is
 /// told; then some were heard.
 pub(crate) fn hear_all<S: Shelf>(
+    alloc: Global,
     network: &mut Network<S>,
     names: &[NodeId],
     slot: u64,
@@ -118,7 +120,7 @@ pub(crate) fn hear_all<S: Shelf>(
     let mut at = 0;
     while at < following.emissions.len() {
         let emission = following.emissions[at];
-        let_others_hear(network, names, slot, &emission, following)?;
+        let_others_hear(alloc, network, names, slot, &emission, following)?;
         at += 1;
     }
     Ok(())
@@ -126,6 +128,7 @@ pub(crate) fn hear_all<S: Shelf>(
 
 /// Each other node hears an emission, ascending.
 fn let_others_hear<S: Shelf>(
+    alloc: Global,
     network: &mut Network<S>,
     names: &[NodeId],
     slot: u64,
@@ -137,13 +140,14 @@ fn let_others_hear<S: Shelf>(
     ensures config { network.new.config ≡ network.old.config }
 {
     for name in names {
-        hear(network, slot, *name, emission, following)?;
+        hear(alloc, network, slot, *name, emission, following)?;
     }
     Ok(())
 }
 
 /// A node hears an emission, unless it is its own.
 fn hear<S: Shelf>(
+    alloc: Global,
     network: &mut Network<S>,
     slot: u64,
     node: NodeId,
@@ -157,7 +161,7 @@ fn hear<S: Shelf>(
         return Ok(());
     }
     let event = hearing(slot, node, emission);
-    let answer = step(network, &event);
+    let answer = step(alloc, network, &event);
     drop(event);
     following.note(node, answer)
 }

@@ -9,4 +9,4 @@ mod served;
 mod stepping;
 
 pub use hearing::Told;
-pub use served::{Served, ServedNetwork};
+pub use served::{Seen, Served, ServedNetwork};

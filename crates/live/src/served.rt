@@ -1,16 +1,19 @@
 //! A network whose nodes hear one another.
 
-ghost use Rattle.std.specs.Prelude.{◌≡◌, [], IfOk};
+ghost use Rattle.std.specs.Prelude.{◌≡◌, [], IfOk, IfSome, length, option_map};
 ghost use Rattle.protocol.specs.Hosts.{new_net};
+ghost use Rattle.protocol.specs.Networks.{Net};
 ghost use Rattle.network.specs.Decoding.{step_of};
-ghost use Rattle.network.specs.Standing.{StandsFor};
+ghost use Rattle.network.specs.Standing.{StandsFor, node_at};
 ghost use Rattle.live.specs.Telling.{IsServedBy};
 
 use crate::hearing::{Following, Told, hear_all};
 use crate::stepping::step;
 use configuration::NetConfig;
 use envstore::Shelf;
-use network::Network;
+use latest::Rows;
+use network::{Network, Used};
+use slot::Node;
 use std::alloc::{AllocError, Global};
 use std::marker::Model;
 use types::{Event, NodeId, Refusal};
@@ -26,13 +29,22 @@ pub struct ServedNetwork<S: Shelf> {
     names: Vec<NodeId>,
 }
 
-/// What came of an event and of what the others heard of it: why it was refused, if it was; the slot; and each step
-/// that gave anything out or was refused, in order, the event's own first.
+/// What came of an event and of what the others heard of it: why it was refused, if it was; whether it was stale, that
+/// is applied without a change; the slot, where it is the event of a node; and each step that gave anything out or was
+/// refused, in order, the event's own first.
 #[derive(Drop)]
 pub struct Served {
     pub refused: Option<Refusal>,
+    pub stale: bool,
     pub slot: u64,
     pub told: Vec<Told>,
+}
+
+/// A hosted node at an open slot, and the rows of its table.
+#[derive(Drop)]
+pub struct Seen<'a, S: Shelf> {
+    pub node: &'a Node,
+    pub rows: Rows<'a, S>,
 }
 
 impl<S: Shelf> Model for ServedNetwork<S> {
@@ -76,6 +88,28 @@ impl<S: Shelf + Drop> ServedNetwork<S> {
         self.network.config()
     }
 
+    /// How much of its budgets, and of the openings and closings of its roster, is used up, and how many slots are open.
+    pub fn used(&self) -> Used
+        ensures { result ≡ record { events = self.now.events; bytes = self.now.bytes; slots = length self.now.slots; opens = self.now.opens } }
+    {
+        self.network.used()
+    }
+
+    /// A hosted node at an open slot, as it is now, and the rows of its table; `None` where the slot is not open, and where
+    /// the node is not hosted. It takes no memory.
+    pub fn seen(&self, slot: u64, node: &NodeId) -> Option<Seen<'_, S>>
+        ensures value { (net : Net) → StandsFor self.now net → option_map (λ s. s.node.now.node) result ≡ node_at net slot node.now }
+        ensures rows { IfSome result (λ s. s.rows ≡ s.node.now.node.table) }
+    {
+        match self.network.node(slot, node) {
+            None => None,
+            Some(node) => Some(Seen {
+                node,
+                rows: self.network.rows(node),
+            }),
+        }
+    }
+
     /// An event, and then all that the other nodes hear of it, until no emission waits.
     ///
     /// An error says that there is no memory for what is told; some of it happened then.
@@ -83,23 +117,33 @@ impl<S: Shelf + Drop> ServedNetwork<S> {
         ensures { IfOk result (IsServedBy self.old (step_of event.now) self.new) }
     {
         let mut following = Following::nothing(self.alloc);
-        match step(&mut self.network, event) {
+        match step(self.alloc, &mut self.network, event) {
             Err(refusal) => Ok(Served {
                 refused: Some(refusal),
+                stale: false,
                 slot: 0,
                 told: following.told,
             }),
             Ok(given) => match given.place {
                 None => Ok(Served {
                     refused: None,
+                    stale: given.stale,
                     slot: 0,
                     told: following.told,
                 }),
                 Some((slot, node)) => {
+                    let stale = given.stale;
                     following.note(node, Ok(given))?;
-                    hear_all(&mut self.network, &self.names, slot, &mut following)?;
+                    hear_all(
+                        self.alloc,
+                        &mut self.network,
+                        &self.names,
+                        slot,
+                        &mut following,
+                    )?;
                     Ok(Served {
                         refused: None,
+                        stale,
                         slot,
                         told: following.told,
                     })

@@ -7,29 +7,41 @@ ghost use Rattle.types.specs.declared.event.Out.{Out};
 ghost use Rattle.network.specs.Answers.{delivered_of};
 ghost use Rattle.network.specs.Decoding.{step_of};
 ghost use Rattle.network.specs.Marks.{slot_and_node_of};
-ghost use Rattle.network.specs.Standing.{IsRefusal, machine_of};
+ghost use Rattle.network.specs.Standing.{IsRefusal, StandsFor, machine_of, node_at};
+ghost use Rattle.protocol.specs.Networks.{Net};
+ghost use Rattle.types.specs.declared.event.NodeEvent.TheVariants as node_event;
+ghost use Rattle.live.specs.Serving.{is_left, is_stale};
 ghost use Rattle.live.specs.Steps.{IsStepped};
 
 use envstore::{Filed, Shelf};
-use network::{Network, Outcome};
-use types::{Event, NodeId, Out, Refusal};
+use network::{Network, Outcome, Reading, read};
+use std::alloc::{AllocError, Global};
+use types::{Envelope, Event, NodeId, Out, Refusal};
 
-/// What an applied event gave out, whole; by which numbers, from 1 on, its emissions are heard; and at which slot and
-/// by which node, where it is the event of a node.
+/// What an applied event gave out, whole; by which numbers, from 1 on, its emissions are heard; at which slot and by which
+/// node, where it is the event of a node; and whether it is stale.
 #[derive(Drop)]
 pub(crate) struct Given {
     pub place: Option<(u64, NodeId)>,
+    pub stale: bool,
     pub outs: Vec<Out>,
     pub marks: Vec<u64>,
 }
 
 /// One event. An error is the first refusal that applies, or says that memory is short; then the network is as it was.
-pub(crate) fn step<S: Shelf>(network: &mut Network<S>, event: &Event) -> Result<Given, Refusal>
+pub(crate) fn step<S: Shelf>(
+    alloc: Global,
+    network: &mut Network<S>,
+    event: &Event,
+) -> Result<Given, Refusal>
     ensures stepped { IfOk result (λ given. IsStepped (machine_of network.old) (step_of event.now) given (machine_of network.new)) }
     ensures err { IfErr result (IsRefusal (machine_of network.old) (step_of event.now)) }
     ensures same { OnErr result (machine_of network.new ≡ machine_of network.old) }
     ensures config { network.new.config ≡ network.old.config }
 {
+    let Ok(stale) = is_stale(alloc, network, event) else {
+        return Err(network.refusal(event));
+    };
     let Outcome {
         outs,
         marks,
@@ -41,9 +53,77 @@ pub(crate) fn step<S: Shelf>(network: &mut Network<S>, event: &Event) -> Result<
     drop(delivered);
     Ok(Given {
         place,
+        stale,
         outs: only_copy(copies),
         marks,
     })
+}
+
+/// Whether an event, if nothing refuses it, is stale: an envelope is delivered that is not newer than what its node has,
+/// or a timer fires that is not live. An error says that memory is short.
+fn is_stale<S: Shelf>(
+    alloc: Global,
+    network: &Network<S>,
+    event: &Event,
+) -> Result<bool, AllocError>
+    ensures { IfOk result (λ stale. (net : Net) → StandsFor (machine_of network.now) net → stale ≡ is_stale net (step_of event.now)) }
+{
+    match event {
+        Event::Deliver { node, bytes } => match read(alloc, bytes.as_slice())? {
+            Reading::Says(envelope) => {
+                let stale = is_old(network, node, &envelope);
+                drop(envelope);
+                Ok(stale)
+            }
+            Reading::Faulty(_) => Ok(false),
+        },
+        Event::NominationTimer { slot, node, round } => {
+            Ok(is_round_over(network, *slot, node, *round))
+        }
+        Event::BallotTimer {
+            slot,
+            node,
+            counter,
+        } => Ok(is_counter_over(network, *slot, node, *counter)),
+        Event::OpenSlot { .. }
+        | Event::CloseSlot { .. }
+        | Event::Propose { .. }
+        | Event::Hear { .. }
+        | Event::Reslice { .. } => Ok(false),
+    }
+}
+
+/// Whether a hosted node at the slot of an envelope has one of its sender and kind than which it is not newer.
+#[tactic(auto, unfolding(protocol::specs::Nodes::change))]
+fn is_old<S: Shelf>(network: &Network<S>, node: &NodeId, envelope: &Envelope) -> bool
+    ensures { (net : Net) → StandsFor (machine_of network.now) net → result ≡ is_left (node_at net envelope.now.slot node.now) (node_event.Take envelope.now) }
+{
+    match network.node(envelope.slot(), node) {
+        None => false,
+        Some(node) => !network.rows(node).takes(envelope),
+    }
+}
+
+/// Whether the nomination timer of a round of a hosted node at an open slot is not live.
+#[tactic(auto, unfolding(protocol::specs::Nodes::change))]
+fn is_round_over<S: Shelf>(network: &Network<S>, slot: u64, node: &NodeId, round: u32) -> bool
+    ensures { (net : Net) → StandsFor (machine_of network.now) net → result ≡ is_left (node_at net slot node.now) (node_event.NominationTimer round) }
+{
+    match network.node(slot, node) {
+        None => false,
+        Some(node) => !node.is_round_live(round),
+    }
+}
+
+/// Whether the ballot timer for a counter of a hosted node at an open slot is not live.
+#[tactic(auto, unfolding(protocol::specs::Nodes::change))]
+fn is_counter_over<S: Shelf>(network: &Network<S>, slot: u64, node: &NodeId, counter: u32) -> bool
+    ensures { (net : Net) → StandsFor (machine_of network.now) net → result ≡ is_left (node_at net slot node.now) (node_event.BallotTimer counter) }
+{
+    match network.node(slot, node) {
+        None => false,
+        Some(node) => !node.is_counter_live(counter),
+    }
 }
 
 /// The slot and the node of an event, where it is one of a node. Of a delivery it is the slot of its envelope.

@@ -16,7 +16,7 @@ pub mod Planned
 mod Plans
 mod ReadLengths
 pub mod Readings
-mod SlicesAt
+mod HostedAt
 mod SlotPlaceLaws
 mod TallyLaws
 mod EmissionsByKind

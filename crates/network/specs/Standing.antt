@@ -10,6 +10,7 @@ use Rattle.codec.specs.Answers.{fault_number}
 use Rattle.codec.specs.Spelling.{most_bytes}
 use Rattle.codec.specs.declared.error.Fault.TheVariants.{Version, Kind}
 use Rattle.protocol.specs.Hosts.{Config}
+use Rattle.protocol.specs.Nodes.{Node}
 use Rattle.protocol.specs.Networks.{HostedNode, Net, Reading, Step, first_that, node_where_open, net_step, instances_at, tests}
 use Rattle.protocol.specs.Networks.Reading.{Read, Fault}
 use Rattle.protocol.specs.Networks.Reply.{Done}
@@ -78,6 +79,10 @@ pub record IsStanding (m : Standing) : Type 0 where
   pub stood : IsStood (machine_of m)
 
 -- ---- what is read of a node
+-- a node at a slot of a network, as it is now; there is none where the slot is not open, and where the node is not hosted
+abbrev pub node_at : Net → ℕ → ℕ → Option Node
+node_at net i u = option_map (λ p. p.node) (node_where_open (instances_at net.slots i) u)
+
 -- the slices of a node at a slot of a network, as they are now; there are none where the slot is not open, and where
 -- the node is not hosted
 abbrev pub slices_at : Net → ℕ → ℕ → Option Slices

@@ -65,6 +65,13 @@ impl Instance {
         self.node.inputs().proposal.is_some()
     }
 
+    /// The node, as it is now.
+    pub(crate) fn node(&self) -> &Node
+        ensures { result.now ≡ self.now.held }
+    {
+        &self.node
+    }
+
     /// The slices of the node, as they are now.
     pub(crate) fn slices(&self) -> &Nested
         ensures { result.now ≡ (instance_in self.now).node.slices }

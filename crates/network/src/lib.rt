@@ -21,6 +21,6 @@ mod slot_index;
 mod tallies;
 
 pub use applied::Outcome;
-pub use network::Network;
+pub use network::{Network, Used};
 pub use plan::Emission;
-pub use reading::{envelopes_have_one_length, readings_are_exact};
+pub use reading::{Reading, envelopes_have_one_length, read, readings_are_exact};

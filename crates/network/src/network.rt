@@ -1,20 +1,32 @@
 //! One network, seen with its archive.
 
-ghost use Rattle.std.specs.Prelude.{◌≡◌, ◌&&◌, [], MatchResult, None, Some, is_some, map, option_map};
-ghost use Rattle.protocol.specs.Networks.{Net, is_open, slices_of};
+ghost use Rattle.std.specs.Prelude.{◌≡◌, ◌&&◌, [], IfSome, MatchResult, None, Some, is_some, length, map, option_map};
+ghost use Rattle.protocol.specs.Networks.{Net, instances_at, is_open, node_where_open, slices_of};
 ghost use Rattle.configuration.specs.Configs.{index_of_name};
-ghost use Rattle.envstore.specs.Archives.{IsFiled, sent_of};
+ghost use Rattle.envstore.specs.Archives.{AreFiled, IsFiled, sent_of};
 ghost use Rattle.network.specs.Deeds.{IsSeat, IsSeatThere, index_of_slot};
-ghost use Rattle.network.specs.Lodgings.{IsLodged, seat_of, slot_of};
-ghost use Rattle.network.specs.Standing.{StandsFor, machine_of, slices_at};
+ghost use Rattle.network.specs.Lodgings.{IsLodged, instance_in, seat_of, slot_of};
+ghost use Rattle.network.specs.Standing.{StandsFor, machine_of, node_at, slices_at};
 
 use crate::instance::Instance;
 use crate::open_slots::OpenSlots;
 use configuration::NetConfig;
 use envstore::{Archive, Filed, Shelf};
+use latest::Rows;
+use slot::Node;
 use std::alloc::Global;
 use std::marker::Model;
 use types::{Envelope, Nested, NodeId, Refusal};
+
+/// How much a network has used up: events and delivered bytes of its budgets, openings and closings of its roster; and how
+/// many slots are open.
+#[derive(Clone, Copy)]
+pub struct Used {
+    pub events: u64,
+    pub bytes: u64,
+    pub slots: usize,
+    pub opens: u64,
+}
 
 /// One network: its configuration, its archive, its open slots with the hosted nodes there, and how much of
 /// its budgets is used up.
@@ -89,17 +101,62 @@ impl<S: Shelf> Network<S> {
         self.archive.copy_of(filed)
     }
 
+    /// A hosted node at an open slot, as it is now; `None` where the slot is not open, and where the node is not
+    /// hosted. It takes no memory.
+    pub fn node(&self, slot: u64, node: &NodeId) -> Option<&Node>
+        ensures value { (net : Net) → StandsFor (machine_of self.now) net → option_map (λ n. n.now.node) result ≡ node_at net slot node.now }
+        ensures filed { IfSome result (λ n. AreFiled self.now.archive n.now.rows) }
+    {
+        match self.hosted(slot, node) {
+            None => None,
+            Some(instance) => Some(instance.node()),
+        }
+    }
+
+    /// The rows of the table of a node of this network.
+    pub fn rows<'a>(&'a self, node: &'a Node) -> Rows<'a, S>
+        requires { AreFiled self.now.archive node.now.rows }
+        ensures { result ≡ node.entry.now.node.table }
+    {
+        node.rows(&self.archive)
+    }
+
+    /// How much of its budgets, and of the openings and closings of its roster, is used up, and how many slots are open.
+    pub fn used(&self) -> Used
+        ensures { result ≡ record { events = self.now.events; bytes = self.now.bytes; slots = length self.now.slots; opens = self.now.opens } }
+    {
+        Used {
+            events: self.events,
+            bytes: self.bytes,
+            slots: self.slots.len(),
+            opens: self.opens,
+        }
+    }
+
     /// The slices of a hosted node at an open slot, as they are now; `None` where the slot is not open, and
     /// where the node is not hosted. It takes no memory.
     pub fn slices(&self, slot: u64, node: &NodeId) -> Option<&Nested>
         ensures value { (net : Net) → StandsFor (machine_of self.now) net → option_map (λ q. q.now) result ≡ slices_at net slot node.now }
         ensures there { (net : Net) → StandsFor (machine_of self.now) net → is_some result ≡ (is_open net slot && is_some (slices_of self.now.config.nodes node.now)) }
     {
+        match self.hosted(slot, node) {
+            None => None,
+            Some(instance) => Some(instance.slices()),
+        }
+    }
+
+    /// A hosted node at an open slot with what it has emitted and drawn; `None` where the slot is not open, and where
+    /// the node is not hosted. It takes no memory.
+    fn hosted(&self, slot: u64, node: &NodeId) -> Option<&Instance>
+        ensures value { (net : Net) → StandsFor (machine_of self.now) net → option_map (λ p. instance_in p.now) result ≡ node_where_open (instances_at net.slots slot) node.now }
+        ensures there { (net : Net) → StandsFor (machine_of self.now) net → is_some result ≡ (is_open net slot && is_some (slices_of self.now.config.nodes node.now)) }
+        ensures lodged { IfSome result (λ p. IsLodged self.now.archive p.now) }
+    {
         match self.slot_at(slot) {
             None => None,
             Some(slot_at) => match self.config.place(node) {
                 None => None,
-                Some(node_at) => Some(self.instance(slot_at, node_at).slices()),
+                Some(node_at) => Some(self.instance(slot_at, node_at)),
             },
         }
     }

@@ -11,7 +11,7 @@ use types::Envelope;
 
 /// What bytes say.
 #[derive(Drop)]
-pub(crate) enum Reading {
+pub enum Reading {
     /// An envelope.
     Says(Envelope),
     /// They are no envelope, with the number of their fault.
@@ -20,7 +20,7 @@ pub(crate) enum Reading {
 
 /// What the bytes say. An error says that memory is short; it comes of no bytes that are too many, or have a
 /// fault in the version or in the kind.
-pub(crate) fn read(alloc: Global, bytes: &[u8]) -> Result<Reading, AllocError>
+pub fn read(alloc: Global, bytes: &[u8]) -> Result<Reading, AllocError>
     ensures said { IfOk result (λ r. said_by r ≡ reading bytes.now) }
     ensures memory { IfErr result (λ _. MayTakeMemory (length bytes.now) (reading bytes.now)) }
 {

@@ -1,5 +1,5 @@
 -- What the lines of scripts of networks are.
-use Rattle.std.specs.Prelude.{◌≡◌, ◌||◌, not, ℕ, Bool, true, false, List, [], ◌∷◌, Option, Some, None, IfSome}
+use Rattle.std.specs.Prelude.{◌≡◌, ◌||◌, not, ℕ, Bool, true, false, ◌==◌, length, List, [], ◌∷◌, Option, Some, None, IfSome}
 use Rattle.scripts.specs.Script.{Bytes}
 use Rattle.scripts.specs.Runs.{Refusing, Telling}
 use Rattle.scripts.specs.Words.{word_counter}
@@ -34,6 +34,11 @@ IsBare (Some d) = d.nodes ≡ []
 -- the network of a number is declared, no event has named it, and it has no node
 abbrev pub HasNoNode : Waiting → ℕ → Type 0
 HasNoNode ws g = IsBare (waiting_at ws g)
+
+-- the same, as a test
+abbrev pub is_bare : Option Outlined → Bool
+is_bare None = false
+is_bare (Some d) = length d.nodes == 0
 
 -- the event closes a slot
 abbrev pub is_closing : Event → Bool

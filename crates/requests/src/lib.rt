@@ -15,7 +15,7 @@ mod waiting;
 
 pub use named::Named;
 pub use outlines::Outline;
-pub use replies::{line_of_outs, line_of_refusal, push_outs};
-pub use request::{Declaration, Request, request_of};
-pub use verbs::{EventVerb, Verb};
+pub use replies::{line_of_outs, line_of_refusal, push_out, push_outs, push_refusal};
+pub use request::{Declaration, Request, asked_by, request_of};
+pub use verbs::{EventVerb, Verb, is_word};
 pub use waiting::Waiting;

@@ -1,10 +1,11 @@
 //! A network while its lines are still coming.
 
-ghost use Rattle.std.specs.Prelude.{◌≡◌, ◌==◌, [], Err, IfOk, None, OnOk, Some, false, true};
+ghost use Rattle.std.specs.Prelude.{◌≡◌, ◌==◌, [], Err, IfOk, None, OnOk, Some, false, option_map, true};
 ghost use Rattle.std.specs.List.{list_any};
 ghost use Rattle.types.specs.Trees.{all_differ as names_differ};
 ghost use Rattle.requests.specs.Outlines.{IsConfigOf, fresh, with_node, with_roster};
 ghost use Rattle.requests.specs.Taking.{is_roster, takes_node, takes_roster};
+ghost use Rattle.requests.specs.Telling.{is_bare};
 
 use configuration::{
     Budgets, ConfigError, HostedNode, MAX_NODES, MAX_ROSTER, MAX_SHARE, NetConfig, Reservation,
@@ -55,6 +56,20 @@ impl Outline {
         }
     }
 
+    /// Whether it takes a node of this name: it has none, and fewer than 256 nodes.
+    pub fn takes_node(&self, name: &NodeId) -> bool
+        ensures { result ≡ takes_node (Some self.now) name.now }
+    {
+        self.nodes.len() < MAX_NODES && !has_node(&self.nodes, name)
+    }
+
+    /// Whether it takes this roster: it has none, and the configuration does not refuse it.
+    pub fn takes_roster(&self, roster: &Reservation) -> bool
+        ensures { result ≡ takes_roster (Some self.now) roster.now.names.items roster.now.shares }
+    {
+        self.roster.is_none() && is_allowed(roster)
+    }
+
     /// One node more. It is a bad line where the network has a node of that name, or 256 nodes.
     pub fn host(&mut self, name: NodeId, slices: Nested) -> Result<(), LineError>
         ensures hosted { OnOk result (self.new ≡ with_node self.old name slices) }
@@ -78,11 +93,42 @@ impl Outline {
         ensures taken { OnOk result (takes_roster (Some self.old) roster.names.items roster.shares ≡ true) }
         ensures bad { result ≡ Err LineError.Bad → takes_roster (Some self.old) roster.names.items roster.shares ≡ false }
     {
-        if self.roster.is_some() || !is_allowed(&roster) {
+        if !self.takes_roster(&roster) {
             return Err(LineError::Bad);
         }
         self.roster = Some(roster);
         Ok(())
+    }
+
+    /// Whether no node has been declared.
+    pub fn is_bare(&self) -> bool
+        ensures { result ≡ is_bare (Some self.now) }
+    {
+        self.nodes.is_empty()
+    }
+
+    /// Whether it has a node of this name.
+    pub fn hosts(&self, name: &NodeId) -> bool
+        ensures { result ≡ list_any (λ hosted. hosted.name == name.now) self.now.nodes }
+    {
+        has_node(&self.nodes, name)
+    }
+
+    /// Its budgets.
+    pub fn budgets(&self) -> Budgets
+        ensures { result ≡ self.now.budgets }
+    {
+        self.budgets
+    }
+
+    /// How many openings and closings its roster reserves; `None` where it has no roster.
+    pub fn opens(&self) -> Option<u64>
+        ensures { result ≡ option_map (λ r. r.1.opens) self.now.roster }
+    {
+        match &self.roster {
+            None => None,
+            Some(roster) => Some(roster.shares.opens),
+        }
     }
 
     /// The configuration of the network of this number that has been declared. It is a bad line where no node

@@ -30,7 +30,7 @@ pub fn push_outs(text: &mut String, outs: &[Out]) -> Result<(), AllocError>
 }
 
 /// Adds what is given out. Where memory is wanting, a part may have been added.
-fn push_out(text: &mut String, out: &Out) -> Result<(), AllocError>
+pub fn push_out(text: &mut String, out: &Out) -> Result<(), AllocError>
     ensures { OnOk result (string_bytes text.new ≡ string_bytes text.old ++ text_of_out out.now) }
 {
     match out {
@@ -52,10 +52,19 @@ fn push_out(text: &mut String, out: &Out) -> Result<(), AllocError>
 pub fn line_of_refusal(alloc: Global, refusal: Refusal) -> Result<String, AllocError>
     ensures { IfOk result (λ text. string_bytes text ≡ refusal_text refusal) }
 {
+    let mut text = String::new(alloc);
+    push_refusal(&mut text, refusal)?;
+    Ok(text)
+}
+
+/// Adds the line of a refusal. Where memory is wanting, a part may have been added.
+pub fn push_refusal(text: &mut String, refusal: Refusal) -> Result<(), AllocError>
+    ensures { OnOk result (string_bytes text.new ≡ string_bytes text.old ++ refusal_text refusal) }
+{
     let number = number_of(refusal);
     let name = name_of(refusal);
     match refusal {
-        Refusal::BadEnvelope(fault) => format!(in alloc; "refused {number} {name} {fault}"),
-        _ => format!(in alloc; "refused {number} {name}"),
+        Refusal::BadEnvelope(fault) => write!(text, "refused {number} {name} {fault}"),
+        _ => write!(text, "refused {number} {name}"),
     }
 }

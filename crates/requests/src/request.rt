@@ -45,8 +45,9 @@ pub fn request_of(alloc: Global, fields: &[&[u8]]) -> Result<(u32, Request), Lin
     }
 }
 
-/// The number of the network that a line names, and what it asks for, where it has one of the forms.
-fn asked_by(alloc: Global, fields: &[&[u8]]) -> Result<Option<(u32, Request)>, AllocError>
+/// The number of the network that a line names, and what it asks for, where it has one of the forms. An error says that
+/// memory is short.
+pub fn asked_by(alloc: Global, fields: &[&[u8]]) -> Result<Option<(u32, Request)>, AllocError>
     ensures { IfOk result (IsRequested (map (λ field. field.now) fields.now)) }
 {
     let [word, number, rest @ ..] = fields else {

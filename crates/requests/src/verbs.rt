@@ -65,7 +65,7 @@ pub(crate) fn verb_of(word: &[u8]) -> Option<Verb>
 }
 
 /// Whether a field is this word.
-pub(crate) fn is_word(field: &[u8], word: &[u8]) -> bool
+pub fn is_word(field: &[u8], word: &[u8]) -> bool
     ensures { result ≡ pointwise nat_eq field.now word.now }
 {
     field == word

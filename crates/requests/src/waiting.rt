@@ -1,8 +1,9 @@
 //! The networks of a script that are declared and that no event has named.
 
-ghost use Rattle.std.specs.Prelude.{◌<◌, ◌≡◌, ◌^◌, ◌∷◌, [], Err, IfNone, IfSome, None, OnOk, false, is_some, length, true};
+ghost use Rattle.std.specs.Prelude.{◌<◌, ◌≡◌, ◌^◌, ◌∷◌, [], Err, IfNone, IfSome, None, OnOk, false, is_some, length, option_map, true};
 ghost use Rattle.requests.specs.Outlines.{IsRevised, fresh, waiting_at, waiting_with, waiting_without, with_node, with_roster};
 ghost use Rattle.requests.specs.Taking.{takes_node, takes_roster};
+ghost use Rattle.requests.specs.Telling.{is_bare};
 
 use crate::outlines::Outline;
 use configuration::{Budgets, Reservation};
@@ -87,6 +88,50 @@ impl Waiting {
         match self.outlines.get_mut(&number) {
             Some(outline) => outline.reserve(roster),
             None => Err(LineError::Bad),
+        }
+    }
+
+    /// Whether one of this number waits.
+    pub fn has(&self, number: u32) -> bool
+        ensures { result ≡ is_some (waiting_at self.now number) }
+    {
+        self.outlines.contains_key(&number)
+    }
+
+    /// The network of a number, where it waits.
+    pub fn outline(&self, number: u32) -> Option<&Outline>
+        ensures { option_map (λ d. d.now) result ≡ waiting_at self.now number }
+    {
+        self.outlines.get(&number)
+    }
+
+    /// Whether the network of a number waits and takes a node of this name.
+    pub fn takes_node(&self, number: u32, name: &NodeId) -> bool
+        ensures { result ≡ takes_node (waiting_at self.now number) name.now }
+    {
+        match self.outlines.get(&number) {
+            Some(outline) => outline.takes_node(name),
+            None => false,
+        }
+    }
+
+    /// Whether the network of a number waits and takes this roster.
+    pub fn takes_roster(&self, number: u32, roster: &Reservation) -> bool
+        ensures { result ≡ takes_roster (waiting_at self.now number) roster.now.names.items roster.now.shares }
+    {
+        match self.outlines.get(&number) {
+            Some(outline) => outline.takes_roster(roster),
+            None => false,
+        }
+    }
+
+    /// Whether the network of a number waits and has no node.
+    pub fn is_bare(&self, number: u32) -> bool
+        ensures { result ≡ is_bare (waiting_at self.now number) }
+    {
+        match self.outlines.get(&number) {
+            Some(outline) => outline.is_bare(),
+            None => false,
         }
     }
 

@@ -1,7 +1,8 @@
 //! The command line, from its words to its status.
 
-ghost use Rattle.std.specs.Prelude.{map};
+ghost use Rattle.std.specs.Prelude.{IsTrue, map};
 ghost use Rattle.scphost.specs.Commands.{HasAnsweredWords, IsCarriedOut};
+ghost use Rattle.scphost.specs.Printing.{names_files};
 
 use crate::outputs::Outputs;
 use crate::perform::{exit_status, perform, perform_stream, print_stop, print_usage};
@@ -36,7 +37,9 @@ pub fn answer_words<
     }
 }
 
-/// Opens the files of a call in order and carries it out. The file `-` is the standard input.
+/// Opens the files of a call in order and carries it out. The file `-` is the standard input, and a live host reads its
+/// lines there.
+#[tactic(auto, using(crate::proofs::CommandLaws::performed_as_it_comes))]
 fn open_and_perform<
     R: Files + Input + AllocGlobal + Threads + Wait + Sync + Send + Copy + Drop,
     W: Write,
@@ -51,6 +54,7 @@ fn open_and_perform<
         Call::Compare { first, second, .. } | Call::Crowd { first, second, .. } => {
             perform_two(rt, call, first.as_str(), second.as_str(), outputs)
         }
+        Call::Serve { .. } => perform_stream(rt, call, &mut rt.reader(), outputs),
     }
 }
 
@@ -61,6 +65,7 @@ fn perform_one<
     W: Write,
     E: Write,
 >(rt: &R, call: &Call, file: &str, outputs: &mut Outputs<W, E>) -> Result<bool, Stop>
+    requires { IsTrue (names_files call.now) }
     ensures { IsCarriedOut call.now (W.contents outputs.old.out) (W.contents outputs.new.out) result }
 {
     if file == "-" {
@@ -79,6 +84,7 @@ fn perform_two<
     W: Write,
     E: Write,
 >(rt: &R, call: &Call, one: &str, other: &str, outputs: &mut Outputs<W, E>) -> Result<bool, Stop>
+    requires { IsTrue (names_files call.now) }
     ensures { IsCarriedOut call.now (W.contents outputs.old.out) (W.contents outputs.new.out) result }
 {
     if one == "-" {
@@ -109,6 +115,7 @@ fn perform_with_second<
     other: &str,
     outputs: &mut Outputs<W, E>,
 ) -> Result<bool, Stop>
+    requires { IsTrue (names_files call.now) }
     ensures { IsCarriedOut call.now (W.contents outputs.old.out) (W.contents outputs.new.out) result }
 {
     match fs::open(rt, other) {

@@ -2,6 +2,7 @@
 #![tactic(auto)]
 
 mod command;
+mod hosting;
 mod outputs;
 mod perform;
 mod pooling;

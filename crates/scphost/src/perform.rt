@@ -1,12 +1,13 @@
 //! Carrying out a call: its files are run, and how it ended is answered.
 
-ghost use Rattle.std.specs.Prelude.{◌≡◌, Err, IfSome, None, false};
+ghost use Rattle.std.specs.Prelude.{◌≡◌, Err, IfSome, IsTrue, None, false};
 ghost use Rattle.runs.specs.Hosting.{new_hosting};
 ghost use Rattle.runs.specs.Running.{RefusesLine, Tells};
-ghost use Rattle.scphost.specs.Printing.{HasAnswered, HasAnsweredUsage, HasRunLines, IsCompared, IsCrowd, IsPerformed, IsPerformedAsItComes, IsPooled, IsReported};
+ghost use Rattle.scphost.specs.Printing.{HasAnswered, HasAnsweredUsage, HasRunLines, IsCompared, IsCrowd, IsPerformed, IsPerformedAsItComes, IsPooled, IsReported, names_files};
 ghost use Rattle.answers.specs.Scripts.{StopsPlan, StopsStories, StopsStory, StopsSubmissions};
 ghost use Rattle.scphost.specs.Stops.{IsEndOf, status_of_end};
 
+use crate::hosting::serve;
 use crate::outputs::Outputs;
 use crate::pooling::answer_pool;
 use crate::printing::{print_answer, write_text};
@@ -39,7 +40,8 @@ pub const NO_MEMORY: u8 = 3;
 pub const NO_WRITE: u8 = 4;
 
 /// Carries out a call on the files that it names, in their order, of which the second is empty
-/// where it names one, and answers how it ended: whether what it compared differs, or what stopped it.
+/// where it names one, and answers how it ended: whether what it compared differs, or what stopped it. A call that names
+/// none is for [`perform_stream`].
 ///
 /// What the call prints goes to `outputs.out`, and one line on what ended it early to `outputs.err`. Of `table` and
 /// `run` what lines before a bad one printed is written by then; `closure`, `compare` and `crowd` print
@@ -58,6 +60,7 @@ pub fn perform<
     second: &mut T,
     outputs: &mut Outputs<W, E>,
 ) -> Result<bool, Stop>
+    requires { IsTrue (names_files call.now) }
     ensures { IsPerformed call.now (R.remaining first.old) (T.remaining second.old) (W.contents outputs.old.out) (W.contents outputs.new.out) result }
 {
     let alloc = rt.alloc();
@@ -107,6 +110,7 @@ pub fn perform<
             };
             perform_crowd(alloc, &request, first, second, outputs)
         }
+        Call::Serve { .. } => unreachable!(),
     }
 }
 
@@ -288,10 +292,10 @@ fn perform_crowd<R: Read, T: Read, W: Write, E: Write>(
     }
 }
 
-/// Carries out a call whose file is the standard input: each line is answered before the next one is
-/// waited for. How it ends, and messages, are those of [`perform`], but for a read that fails and for input
-/// that is too long: the lines before have been run, and what they printed is written. `closure`,
-/// `compare`, `crowd` and `run` with workers read it whole.
+/// Carries out a call on the standard input, which is its file or, of `serve`, what is sent: each line is answered before
+/// the next one is waited for. How it ends, and messages, are those of [`perform`], but for a read that fails and for
+/// input that is too long: the lines before have been run, and what they printed is written. `closure`, `compare`, `crowd`
+/// and `run` with workers read it whole. `serve` goes on after a bad line.
 pub fn perform_stream<
     A: AllocGlobal + Threads + Wait + Sync + Send + Copy + Drop,
     R: BufRead,
@@ -324,6 +328,7 @@ pub fn perform_stream<
         | Call::Closure { .. }
         | Call::Compare { .. }
         | Call::Crowd { .. } => { perform(rt, call, input, &mut io::empty(), outputs) }
+        Call::Serve { bytes, .. } => serve(rt, *bytes, input, outputs),
     }
 }
 
@@ -347,7 +352,7 @@ pub fn print_usage<W: Write, E: Write>(usage: &Usage, outputs: &mut Outputs<W, E
 }
 
 /// Says on `err` why a run of the named file ended early, where it did. Nothing was compared.
-fn print_end<E: Write>(ran: Result<(), Stop>, file: &str, err: &mut E) -> Result<bool, Stop>
+pub fn print_end<E: Write>(ran: Result<(), Stop>, file: &str, err: &mut E) -> Result<bool, Stop>
     ensures { IsEndOf ran result }
 {
     match ran {

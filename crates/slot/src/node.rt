@@ -2,7 +2,7 @@
 
 ghost use Rattle.std.specs.Prelude.{[], ◌≡◌, IfOk, IsFalse, IsTrue, None, OnErr, OnOk, Some, is_ok};
 ghost use Rattle.std.specs.List.{Contains};
-ghost use Rattle.protocol.specs.Nodes.{Calm, change, fresh, step};
+ghost use Rattle.protocol.specs.Nodes.{Calm, change, fresh, is_counter_live, is_round_live, step};
 ghost use Rattle.protocol.specs.Claims.{IsQuiet};
 ghost use Rattle.protocol.specs.Reach.{HoldsReach};
 ghost use Rattle.protocol.specs.Limits.{ComesOfEvents};
@@ -25,7 +25,7 @@ use crate::filing::nothing;
 use crate::outs::is_externalized;
 use crate::stirring::{Stirred, put_row};
 use envstore::{Archive, Filed, Places, Shelf};
-use latest::{Put, Table};
+use latest::{Put, Rows, Table};
 use listening::{Configured, Listener};
 use nomination::leads;
 use std::alloc::{AllocError, Global};
@@ -144,6 +144,28 @@ impl Node {
         ensures { result.now ≡ self.now.rows }
     {
         self.listener.table()
+    }
+
+    /// The rows of its table, as they read in the archive where they lie.
+    pub fn rows<'a, S: Places>(&'a self, archive: &'a Archive<S>) -> Rows<'a, S>
+        requires { AreFiled archive.now self.now.rows }
+        ensures { result ≡ self.entry.now.node.table }
+    {
+        Rows::of(self.listener.table(), archive)
+    }
+
+    /// Whether the nomination timer of this round acts.
+    pub fn is_round_live(&self, round: u32) -> bool
+        ensures { result ≡ is_round_live self.now.node round }
+    {
+        is_round_live(&self.inputs, &self.votes, round)
+    }
+
+    /// Whether the ballot timer that was armed for this counter acts.
+    pub fn is_counter_live(&self, counter: u32) -> bool
+        ensures { result ≡ is_counter_live self.now.node counter }
+    {
+        is_counter_live(&self.votes, counter)
     }
 
     /// A law: one more pass would change nothing.

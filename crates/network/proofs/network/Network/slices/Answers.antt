@@ -1,47 +1,19 @@
-use Rattle.std.proofs.Common.{◌≡◌, ◌∙◌, Some, None, sym, ap, subst}
-use Rattle.configuration.specs.Configs.{index_of_name}
-use Rattle.network.specs.Lodgings.{seat_of}
-use Rattle.network.specs.Standing.{IsStanding, Standing, machine_of}
-use Rattle.network.proofs.Plans.{seat-there}
-use Rattle.network.proofs.SlicesAt.{closed-none, closed-not, found-there, found-value, stranger-none, stranger-not}
+use Rattle.std.proofs.Common.{◌∙◌, sym, ap, is_some}
+use Rattle.protocol.specs.Networks.{Instance}
+use Rattle.network.specs.Lodgings.{instance_in}
+use Rattle.network.proofs.HostedAt.{none-read, some-read}
 use Rattle.network.proofs.network.Network.slices.Goals as goal
 
-pub instance-requires : goal.instance-requires
-instance-requires g c =
-    let m = c.args.self.now in
-    let st : IsStanding m = subst IsStanding c.self.view_is c.self.invariant in
-    let node : index_of_name m.config.nodes c.args.node.now ≡ Some c.in-Some-place.node_at = ap (λ (x : Standing). index_of_name x.config.nodes c.args.node.now) (sym c.self.view_is) ∙ (sym c.place.ensures ∙ c.in-Some-place.is) in
-    let y = seat-there (machine_of m) c.args.slot c.args.node.now c.in-Some.slot_at c.in-Some-place.node_at st.tidy (sym c.slot_at.ensures ∙ c.in-Some.is) node in
-    (y.1, (y.0, y.2, y.3))
-
 pub returns-in-None-clause-value : goal.returns-in-None-clause-value
-returns-in-None-clause-value g c = closed-none c.args.self.now c.args.slot c.args.node.now (sym c.slot_at.ensures ∙ c.in-None.is)
+returns-in-None-clause-value g c net stands =
+    none-read (λ p. instance_in p.now) (λ (x : Instance). x.node.slices) c.hosted.result _ (c.hosted.ensures.value net stands) c.in-None.is
 
 pub returns-in-None-clause-there : goal.returns-in-None-clause-there
-returns-in-None-clause-there g c = closed-not c.args.self.now c.args.slot c.args.node.now (sym c.slot_at.ensures ∙ c.in-None.is)
+returns-in-None-clause-there g c net stands = sym (ap is_some c.in-None.is) ∙ c.hosted.ensures.there net stands
 
-pub returns-in-None-place-clause-value : goal.returns-in-None-place-clause-value
-returns-in-None-place-clause-value g c =
-    let m = c.args.self.now in
-    let st : IsStanding m = subst IsStanding c.self.view_is c.self.invariant in
-    let node : index_of_name m.config.nodes c.args.node.now ≡ None = ap (λ (x : Standing). index_of_name x.config.nodes c.args.node.now) (sym c.self.view_is) ∙ (sym c.place.ensures ∙ c.in-None-place.is) in
-    stranger-none m c.args.slot c.args.node.now st node
+pub returns-in-Some-clause-value : goal.returns-in-Some-clause-value
+returns-in-Some-clause-value g c net stands =
+    some-read (λ p. instance_in p.now) (λ (x : Instance). x.node.slices) c.hosted.result _ c.in-Some.instance c.slices.result.now (c.hosted.ensures.value net stands) c.in-Some.is c.slices.ensures
 
-pub returns-in-None-place-clause-there : goal.returns-in-None-place-clause-there
-returns-in-None-place-clause-there g c =
-    let m = c.args.self.now in
-    let node : index_of_name m.config.nodes c.args.node.now ≡ None = ap (λ (x : Standing). index_of_name x.config.nodes c.args.node.now) (sym c.self.view_is) ∙ (sym c.place.ensures ∙ c.in-None-place.is) in
-    stranger-not m c.args.slot c.args.node.now node
-
-pub returns-in-Some-place-clause-value : goal.returns-in-Some-place-clause-value
-returns-in-Some-place-clause-value g c =
-    let m = c.args.self.now in
-    let st : IsStanding m = subst IsStanding c.self.view_is c.self.invariant in
-    let node : index_of_name m.config.nodes c.args.node.now ≡ Some c.in-Some-place.node_at = ap (λ (x : Standing). index_of_name x.config.nodes c.args.node.now) (sym c.self.view_is) ∙ (sym c.place.ensures ∙ c.in-Some-place.is) in
-    found-value m c.args.slot c.args.node.now c.in-Some.slot_at c.in-Some-place.node_at (seat_of c.instance.result.now) c.slices.result.now st (sym c.slot_at.ensures ∙ c.in-Some.is) node c.instance.ensures.seat c.slices.ensures
-
-pub returns-in-Some-place-clause-there : goal.returns-in-Some-place-clause-there
-returns-in-Some-place-clause-there g c =
-    let m = c.args.self.now in
-    let node : index_of_name m.config.nodes c.args.node.now ≡ Some c.in-Some-place.node_at = ap (λ (x : Standing). index_of_name x.config.nodes c.args.node.now) (sym c.self.view_is) ∙ (sym c.place.ensures ∙ c.in-Some-place.is) in
-    found-there m c.args.slot c.args.node.now c.in-Some.slot_at c.in-Some-place.node_at (sym c.slot_at.ensures ∙ c.in-Some.is) node
+pub returns-in-Some-clause-there : goal.returns-in-Some-clause-there
+returns-in-Some-clause-there g c net stands = sym (ap is_some c.in-Some.is) ∙ c.hosted.ensures.there net stands

@@ -1,0 +1,3 @@
+pub mod WholeLines
+pub mod Reading
+pub mod Served

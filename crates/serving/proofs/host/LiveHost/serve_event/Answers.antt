@@ -1,0 +1,20 @@
+use Rattle.std.proofs.Common.{◌∙◌, ◌++◌, Bool, List, ℕ, Some, sym, ap, rules}
+use Rattle.live.specs.Telling.{ending_of, tellings_of}
+use Rattle.serving.specs.Blocks.{block_of}
+use Rattle.serving.specs.Hosts.{Live, live_at}
+use Rattle.serving.proofs.host.LiveHost.serve_event.Goals as goal
+
+pub returns : goal.returns
+returns c =
+    let s = c.in_ok-served.served in
+    let block : Bool → List ℕ = λ b. block_of b c.args.place.line c.args.place.network s.slot (tellings_of s.told.items) (ending_of s) in (
+      Some c.in-Some.network.now,
+      ap (λ (l : Live). live_at l c.args.place.network) (sym c.self.view_is) ∙ sym c.in-Some.ensures.value,
+      (
+        c.serve.new.self,
+        s,
+        c.in_ok-served.ensures,
+        search rules,
+        c.in_ok-pushed.ensures ∙ ap (λ l. l ++ block c.args.place.bytes) c.new-text.ensures.bytes ∙ ap block c.requires,
+      ),
+    )

@@ -1,0 +1,89 @@
+-- What lines ask of a live host.
+use Rattle.std.specs.Prelude.{◌≡◌, ◌⊎◌, ◌++◌, ℕ, Bool, true, false, List, [], ◌∷◌, codes, Option, Some, None, option_map, option_and_then}
+use Rattle.scripts.specs.Script.{Bytes}
+use Rattle.scripts.specs.Names.{word_name}
+use Rattle.scripts.specs.Words.{word_counter}
+use Rattle.types.specs.declared.event.Event.{Event}
+use Rattle.types.specs.declared.event.Event.TheVariants.{BallotTimer, CloseSlot, Deliver, Hear, NominationTimer, OpenSlot, Propose, Reslice}
+use Rattle.requests.specs.declared.request.Request.{Request}
+use Rattle.requests.specs.declared.request.Request.TheVariants as request
+use Rattle.requests.specs.Lines.{slot_in}
+use Rattle.requests.specs.Requests.{IsRequested}
+use Rattle.serving.specs.Forms.{form_in, is_word}
+use Rattle.serving.specs.declared.ask.Ask.{Ask}
+use Rattle.serving.specs.declared.ask.Ask.TheVariants as ask
+use Rattle.serving.specs.declared.form.Form.{Form}
+use Rattle.serving.specs.declared.form.Form.TheVariants as form
+
+-- an event is served but for a hearing, which follows what was emitted without a line
+abbrev pub asked_by_event : ℕ → Event → Option (ℕ × Ask)
+asked_by_event g (Hear i u from kind k) = None
+asked_by_event g e = Some (g, ask.Serve e)
+
+-- what the request of a line of scripts asks of the network of a number
+abbrev pub asked_by : ℕ × Request → Option (ℕ × Ask)
+asked_by (g, request.Declare d) = Some (g, ask.Declare d)
+asked_by (g, request.Apply e) = asked_by_event g e
+asked_by (g, request.Settle i) = None
+
+abbrev pub for_all_by_event : ℕ → Event → Option (ℕ × Ask)
+for_all_by_event g (Deliver u bytes) = Some (g, ask.ForAll bytes)
+for_all_by_event g e = None
+
+-- what is delivered to one node, for all nodes
+abbrev pub for_all_by : ℕ × Request → Option (ℕ × Ask)
+for_all_by (g, request.Declare d) = None
+for_all_by (g, request.Apply e) = for_all_by_event g e
+for_all_by (g, request.Settle i) = None
+
+-- the fields are a line of scripts, if they are one, whose request asks for this
+abbrev pub IsOfScript : (ℕ × Request → Option (ℕ × Ask)) → List Bytes → Option (ℕ × Ask) → Type 0
+IsOfScript by fields asked = (r : Option (ℕ × Request)) × IsRequested fields r × (asked ≡ option_and_then by r)
+
+abbrev pub IsServedNet : Bool → List Bytes → Option (ℕ × Ask) → Type 0
+IsServedNet true before asked = IsOfScript asked_by before asked
+IsServedNet false before asked = asked ≡ None
+
+-- `net N events E bytes B slots S served`: what the line asks for without its last word
+abbrev pub IsNet : List Bytes → Option (ℕ × Ask) → Type 0
+IsNet fields asked =
+    ((fields ≡ []) × (asked ≡ None))
+    ⊎ ((before : List Bytes) × (last : Bytes) × (fields ≡ before ++ last ∷ [])
+    × IsServedNet (is_word last (codes "served")) before asked)
+
+-- `deliver N * HEX`, `say N * FROM I SLICES STATEMENT`: what the line delivers to a node of some name
+abbrev pub IsForAll : List Bytes → Option (ℕ × Ask) → Type 0
+IsForAll (w ∷ g ∷ star ∷ more) asked = IsOfScript for_all_by (w ∷ g ∷ codes "A" ∷ more) asked
+IsForAll fields asked = asked ≡ None
+
+-- `drop N`
+abbrev pub dropped_in : List Bytes → Option (ℕ × Ask)
+dropped_in (w ∷ number ∷ []) = option_map (λ g. (g, ask.Drop)) (word_counter number)
+dropped_in fields = None
+
+-- `left N`
+abbrev pub left_in : List Bytes → Option (ℕ × Ask)
+left_in (w ∷ number ∷ []) = option_map (λ g. (g, ask.Left)) (word_counter number)
+left_in fields = None
+
+-- the node of these words at their slot
+abbrev pub shown_of : ℕ → Bytes → Bytes → Option (ℕ × Ask)
+shown_of g slot node =
+    option_and_then (λ i. option_map (λ u. (g, ask.Show i u)) (word_name node)) (slot_in slot)
+
+-- `show N I NODE`
+abbrev pub shown_in : List Bytes → Option (ℕ × Ask)
+shown_in (w ∷ number ∷ slot ∷ node ∷ []) = option_and_then (λ g. shown_of g slot node) (word_counter number)
+shown_in fields = None
+
+abbrev pub IsAskedAs : Form → List Bytes → Option (ℕ × Ask) → Type 0
+IsAskedAs form.Net fields asked = IsNet fields asked
+IsAskedAs form.ForAll fields asked = IsForAll fields asked
+IsAskedAs form.Drop fields asked = asked ≡ dropped_in fields
+IsAskedAs form.Left fields asked = asked ≡ left_in fields
+IsAskedAs form.Show fields asked = asked ≡ shown_in fields
+IsAskedAs form.Script fields asked = IsOfScript asked_by fields asked
+
+-- a line with these fields asks for this of the network of a number; or it is bad
+abbrev pub IsAsked : List Bytes → Option (ℕ × Ask) → Type 0
+IsAsked fields asked = IsAskedAs (form_in fields) fields asked

@@ -1,0 +1,69 @@
+-- What is printed of a line.
+use Rattle.std.specs.Prelude.{◌≡◌, ◌++◌, ◌∷◌, [], ℕ, Bool, true, false, List, Option, Some, None, codes}
+use Rattle.std.specs.List.{flat_map}
+use Rattle.std.specs.Fmt.{decimal}
+use Rattle.protocol.specs.Networks.{Reply}
+use Rattle.protocol.specs.Networks.Reply.{Done, Refused}
+use Rattle.scripts.specs.Script.{Bytes}
+use Rattle.scripts.specs.Names.{text_of_name}
+use Rattle.codec.specs.Spelling.{spelling}
+use Rattle.hex.specs.Hex.{encode_lower}
+use Rattle.types.specs.declared.event.Out.{Out}
+use Rattle.types.specs.declared.event.Out.TheVariants.{Emit}
+use Rattle.requests.specs.Replies.{refusal_text, text_of_out}
+use Rattle.live.specs.Serving.{Ending, Telling}
+use Rattle.live.specs.Serving.Ending.{IsDone, IsRefused}
+use Rattle.serving.specs.declared.block.Closing.{Closing}
+use Rattle.serving.specs.declared.block.Closing.TheVariants.{Bad, Stale, Taken}
+use Rattle.serving.specs.declared.block.Closing.TheVariants as closing
+
+-- two words with a space (32) between
+abbrev pub space_between : Bytes → Bytes → Bytes
+space_between one other = one ++ 32 ∷ other
+
+-- what is given out: as in scripts; or an envelope as its bytes, in lower-case hexadecimal
+abbrev pub text_of_out_as : Bool → Out → Bytes
+text_of_out_as true (Emit e) = codes "emit " ++ encode_lower (spelling e)
+text_of_out_as true out = text_of_out out
+text_of_out_as false out = text_of_out out
+
+-- the same with a space (32) before it
+abbrev pub behind_space_as : Bool → Out → Bytes
+behind_space_as bytes out = 32 ∷ text_of_out_as bytes out
+
+-- what a step of a node gave out, or why it was refused, behind a space
+abbrev pub text_of_reply : Bool → Reply → Bytes
+text_of_reply bytes (Done outs) = flat_map (behind_space_as bytes) outs
+text_of_reply bytes (Refused r) = 32 ∷ refusal_text r
+
+-- what a line on a step begins with: the number of the line that is answered, the network, the slot and the node
+abbrev pub front_of_line : ℕ → ℕ → ℕ → ℕ → Bytes
+front_of_line n g i u = space_between (decimal n) (space_between (decimal g) (space_between (decimal i) (text_of_name u)))
+
+-- a line on a step of a node, with a line feed (10)
+abbrev pub line_of_telling : Bool → ℕ → ℕ → ℕ → Telling → Bytes
+line_of_telling bytes n g i t = front_of_line n g i t.node ++ (text_of_reply bytes t.reply ++ 10 ∷ [])
+
+-- how the answer to a line ends
+abbrev pub text_of_closing : Closing → Bytes
+text_of_closing Taken = codes "ok"
+text_of_closing Stale = codes "stale"
+text_of_closing (closing.Refused r) = refusal_text r
+text_of_closing Bad = codes "bad"
+
+-- the line that closes a block
+abbrev pub closing_line : ℕ → Closing → Bytes
+closing_line n c = space_between (decimal n) (text_of_closing c ++ 10 ∷ [])
+
+abbrev pub closing_of_done : Bool → Closing
+closing_of_done true = Stale
+closing_of_done false = Taken
+
+-- how the answer to an event ends
+abbrev pub closing_of : Ending → Closing
+closing_of (IsRefused r) = closing.Refused r
+closing_of (IsDone stale) = closing_of_done stale
+
+-- the block of an event of a network
+abbrev pub block_of : Bool → ℕ → ℕ → ℕ → List Telling → Ending → Bytes
+block_of bytes n g i told ending = flat_map (line_of_telling bytes n g i) told ++ closing_line n (closing_of ending)

@@ -1,0 +1,262 @@
+-- A live host, and what it answers to its lines.
+use Rattle.std.specs.Prelude.{◌≡◌, ◌⊎◌, ◌+◌, ◌++◌, ◌&&◌, ◌==◌, if◌then◌else◌, option_map, not, ℕ, Bool, true, false, nat_lt, List, [], ◌∷◌, length, map, Option, Some, None, is_some}
+use Rattle.std.specs.List.{flat_map, list_any}
+use Rattle.std.specs.Ordering.{nat_cmp}
+use Rattle.std.specs.BTreeMap.{insert_entry, is_at}
+use Rattle.std.specs.Map.{lookup, remove_entry, set_value}
+use Rattle.types.specs.declared.event.Event.{Event}
+use Rattle.types.specs.declared.event.Event.TheVariants.{Deliver}
+use Rattle.types.specs.declared.event.Refusal.{Refusal}
+use Rattle.types.specs.declared.event.Refusal.TheVariants.{NoSuchNetwork, NoSuchNode, SlotNotOpen}
+use Rattle.protocol.specs.Hosts.{Config}
+use Rattle.protocol.specs.Networks.{Net}
+use Rattle.protocol.specs.Networks.Reply.{Refused}
+use Rattle.protocol.specs.Nodes.{Node}
+use Rattle.configuration.specs.Configs.{index_of_name, names_of}
+use Rattle.network.specs.Decoding.{step_of}
+use Rattle.network.specs.Standing.{Machine, StandsFor, node_at}
+use Rattle.network.specs.declared.network.Used.{Used}
+use Rattle.scripts.specs.Script.{AreFields, Bytes, IsBad, IsSkipped}
+use Rattle.requests.specs.declared.request.Declaration.{Declaration}
+use Rattle.requests.specs.declared.request.Declaration.TheVariants as declaration
+use Rattle.requests.specs.Outlines.{IsConfigOf, Outlined, Waiting, waiting_at, waiting_without}
+use Rattle.requests.specs.Preparing.{Prepares}
+use Rattle.requests.specs.Taking.{takes_node, takes_roster}
+use Rattle.requests.specs.Telling.{is_bare}
+use Rattle.live.specs.Telling.{IsServedBy, ending_of, tellings_of}
+use Rattle.live.specs.declared.served.Served.{Served}
+use Rattle.questions.specs.Left.{all_left, left_line, left_of}
+use Rattle.questions.specs.Shown.{Shows}
+use Rattle.questions.specs.declared.left.Left.{Left}
+use Rattle.serving.specs.Asking.{IsAsked}
+use Rattle.serving.specs.Blocks.{block_of, closing_line, closing_of, line_of_telling}
+use Rattle.serving.specs.declared.ask.Ask.{Ask}
+use Rattle.serving.specs.declared.ask.Ask.TheVariants as ask
+use Rattle.serving.specs.declared.block.Closing.{Closing}
+use Rattle.serving.specs.declared.block.Closing.TheVariants as closing
+use Rattle.serving.specs.declared.all.NodeAnswer.{NodeAnswer}
+
+-- whether a live host prints envelopes as bytes; and its networks by number: those that are declared and that no event
+-- has named since, and those that run
+pub record Live : Type 0 where
+  pub bytes : Bool
+  pub waiting : Waiting
+  pub running : List (ℕ × Machine)
+
+-- a host without networks
+abbrev pub new_live : Bool → Live
+new_live bytes = record { bytes = bytes; waiting = []; running = [] }
+
+-- the network of a number, where it runs
+abbrev pub live_at : Live → ℕ → Option Machine
+live_at l g = lookup (is_at (nat_cmp g)) l.running
+
+-- the same with that one in its place
+abbrev pub with_live : Live → ℕ → Machine → Live
+with_live l g m = record l { running = set_value (is_at (nat_cmp g)) l.running m }
+
+-- ---- declarations
+-- A declaration is taken. A network is one that is not declared, where fewer than 4,096 are; a node and a roster are those
+-- of a network that waits.
+abbrev pub takes : Live → ℕ → Declaration → Bool
+takes l g (declaration.Net b) =
+    not (is_some (waiting_at l.waiting g)) && (not (is_some (live_at l g)) && nat_lt (length l.waiting + length l.running) 4096)
+takes l g (declaration.Node u q) = takes_node (waiting_at l.waiting g) u
+takes l g (declaration.Roster r) = takes_roster (waiting_at l.waiting g) r.names.items r.shares
+
+-- it is taken, and changes the networks that wait; or it is not, and changes nothing
+abbrev pub IsDeclared : ℕ → Declaration → Live → Bool → Live → Type 0
+IsDeclared g d old true new =
+    (takes old g d ≡ true) × Prepares g d old.waiting new.waiting × (new.running ≡ old.running) × (new.bytes ≡ old.bytes)
+IsDeclared g d old false new = (takes old g d ≡ false) × (new ≡ old)
+
+abbrev pub closing_of_declaration : Bool → Closing
+closing_of_declaration true = closing.Taken
+closing_of_declaration false = closing.Bad
+
+-- ---- the first event
+-- a network to which nothing has happened
+abbrev pub begun : Config → Machine
+begun c = record { config = c; slots = []; events = 0; bytes = 0; opens = 0 }
+
+-- what waits runs from now on, with the configuration that was declared
+abbrev pub IsStarted : Option Outlined → ℕ → Live → Live → Type 0
+IsStarted None g old new = new ≡ old
+IsStarted (Some d) g old new =
+    (c : Config) × IsConfigOf g d c × (new.waiting ≡ waiting_without old.waiting g)
+    × (new.running ≡ insert_entry nat_cmp old.running g (begun c)) × (new.bytes ≡ old.bytes)
+
+-- an event names the network of a number, which runs from now on if it waits; or it waits and has no node, and nothing
+-- changes
+abbrev pub IsBegun : ℕ → Live → Bool → Live → Type 0
+IsBegun g old true new = IsStarted (waiting_at old.waiting g) g old new
+IsBegun g old false new = (is_bare (waiting_at old.waiting g) ≡ true) × (new ≡ old)
+
+-- ---- events
+-- an event of a network that runs, if it does, is served, and this is its block
+abbrev pub IsServedAt : Option Machine → ℕ → ℕ → Event → Live → Bytes → Live → Type 0
+IsServedAt None n g e old text new = (text ≡ closing_line n (closing.Refused NoSuchNetwork)) × (new ≡ old)
+IsServedAt (Some m) n g e old text new =
+    (after : Machine) × (s : Served) × IsServedBy m (step_of e) after s × (new ≡ with_live old g after)
+    × (text ≡ block_of old.bytes n g s.slot (tellings_of s.told.items) (ending_of s))
+
+abbrev pub IsEventAnswered : ℕ → ℕ → Event → Live → Bytes → Live → Type 0
+IsEventAnswered n g e old text new =
+    (running : Option Machine) × (live_at old g ≡ running) × IsServedAt running n g e old text new
+
+-- ---- bytes for all nodes
+-- each of these nodes gets the bytes, one after the other
+pub data AreServed (bytes : Bytes) : List ℕ → Machine → List NodeAnswer → Machine → Type 0 where
+  none_left : {m : Machine} → AreServed bytes [] m [] m
+  next_node : {us : List ℕ} {old now new : Machine} {answers : List NodeAnswer} (a : NodeAnswer)
+      → IsServedBy old (step_of (Deliver a.node bytes)) now a.served → AreServed bytes us now answers new
+      → AreServed bytes (a.node ∷ us) old (a ∷ answers) new
+
+-- the slot of the first of them who was not refused
+abbrev pub slot_of_answer : Option Refusal → ℕ → Option ℕ → Option ℕ
+slot_of_answer None i others = Some i
+slot_of_answer (Some r) i others = others
+
+abbrev pub slot_of_answers : List NodeAnswer → Option ℕ
+slot_of_answers [] = None
+slot_of_answers (a ∷ answers) = slot_of_answer a.served.refused a.served.slot (slot_of_answers answers)
+
+-- the lines of a node: what was told, or why it was refused
+abbrev pub lines_of_node : Option Refusal → Bool → ℕ → ℕ → ℕ → NodeAnswer → Bytes
+lines_of_node None b n g i a = flat_map (line_of_telling b n g i) (tellings_of a.served.told.items)
+lines_of_node (Some r) b n g i a = line_of_telling b n g i (record { node = a.node; reply = Refused r })
+
+abbrev pub lines_of_answer : Bool → ℕ → ℕ → ℕ → NodeAnswer → Bytes
+lines_of_answer b n g i a = lines_of_node a.served.refused b n g i a
+
+-- where one of them was not refused there are lines of all
+abbrev pub lines_of_answers : Option ℕ → Bool → ℕ → ℕ → List NodeAnswer → Bytes
+lines_of_answers None b n g answers = []
+lines_of_answers (Some i) b n g answers = flat_map (lines_of_answer b n g i) answers
+
+-- of two closings: `ok`, else `stale`, else the first
+abbrev pub better : Closing → Closing → Closing
+better closing.Taken c = closing.Taken
+better closing.Stale closing.Taken = closing.Taken
+better closing.Stale c = closing.Stale
+better (closing.Refused r) closing.Taken = closing.Taken
+better (closing.Refused r) closing.Stale = closing.Stale
+better (closing.Refused r) c = closing.Refused r
+better closing.Bad c = c
+
+abbrev pub closing_of_answers : List NodeAnswer → Closing
+closing_of_answers [] = closing.Refused NoSuchNode
+closing_of_answers (a ∷ answers) = better (closing_of (ending_of a.served)) (closing_of_answers answers)
+
+-- bytes come to each hosted node of a network that runs, if it does, and this is the block
+abbrev pub AreServedAt : Option Machine → ℕ → ℕ → Bytes → Live → Bytes → Live → Type 0
+AreServedAt None n g bytes old text new = (text ≡ closing_line n (closing.Refused NoSuchNetwork)) × (new ≡ old)
+AreServedAt (Some m) n g bytes old text new =
+    (after : Machine) × (answers : List NodeAnswer) × AreServed bytes (names_of m.config.nodes) m answers after
+    × (new ≡ with_live old g after)
+    × (text ≡ lines_of_answers (slot_of_answers answers) old.bytes n g answers ++ closing_line n (closing_of_answers answers))
+
+abbrev pub AreAllAnswered : ℕ → ℕ → Bytes → Live → Bytes → Live → Type 0
+AreAllAnswered n g bytes old text new =
+    (running : Option Machine) × (live_at old g ≡ running) × AreServedAt running n g bytes old text new
+
+-- ---- networks that are taken back
+abbrev pub IsDroppedAt : Option Outlined → Option Machine → ℕ → Live → Closing → Live → Type 0
+IsDroppedAt (Some d) running g old c new =
+    (c ≡ closing.Taken) × (new ≡ record old { waiting = waiting_without old.waiting g })
+IsDroppedAt None (Some m) g old c new =
+    (c ≡ closing.Taken) × (new ≡ record old { running = remove_entry (is_at (nat_cmp g)) old.running })
+IsDroppedAt None None g old c new = (c ≡ closing.Refused NoSuchNetwork) × (new ≡ old)
+
+-- the network of a number is taken back, whether it waits or runs
+abbrev pub IsDropped : ℕ → Live → Closing → Live → Type 0
+IsDropped g old c new = IsDroppedAt (waiting_at old.waiting g) (live_at old g) g old c new
+
+-- ---- questions
+-- how much a network that runs has used up, and how many of its slots are open
+abbrev pub used_of : Machine → Used
+used_of m = record { events = m.events; bytes = m.bytes; slots = length m.slots; opens = m.opens }
+
+abbrev pub left_by : Option Outlined → Option Machine → Option Left
+left_by (Some d) running = Some (all_left d)
+left_by None running = option_map (λ m. left_of m.config (used_of m)) running
+
+-- what is left of the budgets of the network of a number, whether it waits or runs
+abbrev pub left_at : Live → ℕ → Option Left
+left_at l g = left_by (waiting_at l.waiting g) (live_at l g)
+
+abbrev pub IsLeftText : ℕ → ℕ → Option Left → Bytes → Type 0
+IsLeftText n g None text = text ≡ closing_line n (closing.Refused NoSuchNetwork)
+IsLeftText n g (Some left) text = text ≡ left_line n g left ++ closing_line n closing.Taken
+
+-- why a node of a network that does not run is not shown: there is none, it does not host the node, or no slot is open
+abbrev pub not_shown : Option Outlined → ℕ → Refusal
+not_shown None u = NoSuchNetwork
+not_shown (Some d) u = if list_any (λ hosted. hosted.name == u) d.nodes then SlotNotOpen else NoSuchNode
+
+-- why a node of a network that runs is not at a slot
+abbrev pub not_there : Config → ℕ → Refusal
+not_there c u = if is_some (index_of_name c.nodes u) then SlotNotOpen else NoSuchNode
+
+-- the lines of a node, if it is there
+abbrev pub IsNodeText : ℕ → ℕ → ℕ → Refusal → Option Node → Bytes → Type 0
+IsNodeText n g i why None text = text ≡ closing_line n (closing.Refused why)
+IsNodeText n g i why (Some u) text = (lines : Bytes) × Shows n g i u lines × (text ≡ lines ++ closing_line n closing.Taken)
+
+-- a node at a slot of a network that runs is shown as it is there
+abbrev pub IsShownOf : ℕ → ℕ → ℕ → ℕ → Machine → Bytes → Type 0
+IsShownOf n g i u m text =
+    (net : Net) → StandsFor m net → IsNodeText n g i (not_there m.config u) (node_at net i u) text
+
+abbrev pub IsShownBy : Option Machine → ℕ → ℕ → ℕ → ℕ → Live → Bytes → Type 0
+IsShownBy (Some m) n g i u l text = IsShownOf n g i u m text
+IsShownBy None n g i u l text = text ≡ closing_line n (closing.Refused (not_shown (waiting_at l.waiting g) u))
+
+-- a node at a slot of the network of a number is shown, if it is there
+abbrev pub IsShown : ℕ → ℕ → ℕ → ℕ → Live → Bytes → Type 0
+IsShown n g i u l text = (running : Option Machine) × (live_at l g ≡ running) × IsShownBy running n g i u l text
+
+-- ---- lines
+-- a bad line changes nothing
+abbrev pub IsBadLine : ℕ → Live → Bytes → Live → Type 0
+IsBadLine n old text new = (text ≡ closing_line n closing.Bad) × (new ≡ old)
+
+-- what stands behind the beginning of a network: its answer; or the line is bad
+abbrev pub IsAnsweredThen : Bool → ℕ → (Live → Bytes → Live → Type 0) → Live → Bytes → Live → Type 0
+IsAnsweredThen true n answers old text new = answers old text new
+IsAnsweredThen false n answers old text new = IsBadLine n old text new
+
+abbrev pub IsAnsweredOnceBegun : ℕ → ℕ → (Live → Bytes → Live → Type 0) → Live → Bytes → Live → Type 0
+IsAnsweredOnceBegun n g answers old text new =
+    (is : Bool) × (now : Live) × IsBegun g old is now × IsAnsweredThen is n answers now text new
+
+-- the answer to what a line asks of the network of a number
+abbrev pub IsAnswer : ℕ → ℕ → Ask → Live → Bytes → Live → Type 0
+IsAnswer n g (ask.Declare d) old text new =
+    (taken : Bool) × IsDeclared g d old taken new × (text ≡ closing_line n (closing_of_declaration taken))
+IsAnswer n g (ask.Serve e) old text new = IsAnsweredOnceBegun n g (IsEventAnswered n g e) old text new
+IsAnswer n g (ask.ForAll bytes) old text new = IsAnsweredOnceBegun n g (AreAllAnswered n g bytes) old text new
+IsAnswer n g ask.Left old text new = IsLeftText n g (left_at old g) text × (new ≡ old)
+IsAnswer n g (ask.Show i u) old text new = IsShown n g i u old text × (new ≡ old)
+IsAnswer n g ask.Drop old text new = (c : Closing) × IsDropped g old c new × (text ≡ closing_line n c)
+
+abbrev pub IsAnswerTo : ℕ → Option (ℕ × Ask) → Live → Bytes → Live → Type 0
+IsAnswerTo n None old text new = IsBadLine n old text new
+IsAnswerTo n (Some asked) old text new = IsAnswer n asked.0 asked.1 old text new
+
+-- the answer to a line with these fields
+abbrev pub AreFieldsAnswered : ℕ → List Bytes → Live → Bytes → Live → Type 0
+AreFieldsAnswered n fields old text new =
+    (asked : Option (ℕ × Ask)) × IsAsked fields asked × IsAnswerTo n asked old text new
+
+-- a line that is not skipped is bad, or its fields are answered
+abbrev pub IsLineAnswered : ℕ → Bytes → Live → Bytes → Live → Type 0
+IsLineAnswered n line old text new =
+    (IsBad line × IsBadLine n old text new)
+    ⊎ ((fields : List Bytes) × AreFields line fields × AreFieldsAnswered n fields old text new)
+
+-- The block of a line, which is none where the line is skipped. A line that is too long is bad.
+abbrev pub Serves : Live → ℕ → Option Bytes → Bytes → Live → Type 0
+Serves old n None text new = IsBadLine n old text new
+Serves old n (Some line) text new =
+    (IsSkipped line × (text ≡ []) × (new ≡ old)) ⊎ ((IsSkipped line → ⊥) × IsLineAnswered n line old text new)

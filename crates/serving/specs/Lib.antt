@@ -1,0 +1,4 @@
+pub mod Forms
+pub mod Asking
+pub mod Blocks
+pub mod Hosts

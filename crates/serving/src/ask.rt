@@ -1,0 +1,192 @@
+//! What a line asks of a live host.
+
+ghost use Rattle.std.specs.Prelude.{◌≡◌, ◌∷◌, IfOk, codes, map};
+ghost use Rattle.serving.specs.Asking.{IsAsked, IsForAll, IsNet, IsOfScript, IsServedNet, asked_by, dropped_in, for_all_by, left_in, shown_in, shown_of};
+ghost use Rattle.serving.specs.Forms.{is_word};
+
+use crate::form::{Form, form_of};
+use requests::{Declaration, Request, asked_by, is_word};
+use scripts::{counter_of, name_of, number_of};
+use std::alloc::{AllocError, Global};
+use types::{Bytes, Event, NodeId};
+
+/// What a line asks of a live host, of the network of a number.
+#[derive(Drop)]
+pub enum Ask {
+    /// The network, or something of it, is declared.
+    Declare(Declaration),
+    /// An event, and what the other nodes hear of it.
+    Serve(Event),
+    /// These bytes reach each hosted node, one after the other.
+    ForAll(Bytes),
+    /// The network is taken back.
+    Drop,
+    /// What is left of its budgets.
+    Left,
+    /// What a node at a slot is.
+    Show(u64, NodeId),
+}
+
+/// The number of the network that a line names, and what it asks for; `None` where it has none of the forms, so that it is
+/// bad. An error says that memory is short.
+pub fn ask_of(alloc: Global, fields: &[&[u8]]) -> Result<Option<(u32, Ask)>, AllocError>
+    ensures { IfOk result (IsAsked (map (λ field. field.now) fields.now)) }
+{
+    match form_of(fields) {
+        Form::Net => net(alloc, fields),
+        Form::ForAll => for_all(alloc, fields),
+        Form::Drop => Ok(drop_in(fields)),
+        Form::Left => Ok(left_in(fields)),
+        Form::Show => Ok(show_in(fields)),
+        Form::Script => of_script(alloc, fields),
+    }
+}
+
+/// `net N events E bytes B slots S served`: what the line asks for without its last word.
+fn net(alloc: Global, fields: &[&[u8]]) -> Result<Option<(u32, Ask)>, AllocError>
+    ensures { IfOk result (IsNet (map (λ field. field.now) fields.now)) }
+{
+    match fields.split_last() {
+        Some((served, before)) => served_net(alloc, served, before),
+        None => Ok(None),
+    }
+}
+
+/// What a line asks for whose last word is this one, and that has these before it.
+fn served_net(
+    alloc: Global,
+    last: &[u8],
+    before: &[&[u8]],
+) -> Result<Option<(u32, Ask)>, AllocError>
+    ensures { IfOk result (IsServedNet (is_word last.now (codes "served")) (map (λ field. field.now) before.now)) }
+{
+    if is_word(last, b"served") {
+        of_script(alloc, before)
+    } else {
+        Ok(None)
+    }
+}
+
+/// A line of scripts that is none of those which hand on what was emitted.
+fn of_script(alloc: Global, fields: &[&[u8]]) -> Result<Option<(u32, Ask)>, AllocError>
+    ensures { IfOk result (IsOfScript asked_by (map (λ field. field.now) fields.now)) }
+{
+    match asked_by(alloc, fields)? {
+        Some((number, request)) => Ok(ask_by(number, request)),
+        None => Ok(None),
+    }
+}
+
+/// What a request asks of a live host: whoever hears what was emitted, does without a line.
+fn ask_by(number: u32, request: Request) -> Option<(u32, Ask)>
+    ensures { result ≡ asked_by (number, request) }
+{
+    match request {
+        Request::Declare(declaration) => Some((number, Ask::Declare(declaration))),
+        Request::Apply(event) => match event {
+            Event::Hear { .. } => None,
+            _ => Some((number, Ask::Serve(event))),
+        },
+        Request::Settle(_) => None,
+    }
+}
+
+/// `deliver N * HEX` and `say N * FROM I SLICES STATEMENT`: the bytes that the same line delivers to one node.
+fn for_all(alloc: Global, fields: &[&[u8]]) -> Result<Option<(u32, Ask)>, AllocError>
+    ensures { IfOk result (IsForAll (map (λ field. field.now) fields.now)) }
+{
+    let [word, number, _, more @ ..] = fields else {
+        return Ok(None);
+    };
+    let named = named(alloc, word, number, more)?;
+    delivered(alloc, named.as_slice())
+}
+
+/// These words with a name behind the second.
+fn named<'a>(
+    alloc: Global,
+    word: &'a [u8],
+    number: &'a [u8],
+    more: &[&'a [u8]],
+) -> Result<Vec<&'a [u8]>, AllocError>
+    ensures { IfOk result (λ v. map (λ field. field.now) v.items ≡ word.entry.now ∷ number.entry.now ∷ codes "A" ∷ map (λ field. field.now) more.now) }
+{
+    let mut fields: Vec<&'a [u8]> = Vec::new(alloc);
+    fields.push(word)?;
+    fields.push(number)?;
+    fields.push(b"A")?;
+    fields.extend_from_slice(more)?;
+    Ok(fields)
+}
+
+/// The bytes that a line delivers to one node, for all nodes.
+fn delivered(alloc: Global, fields: &[&[u8]]) -> Result<Option<(u32, Ask)>, AllocError>
+    ensures { IfOk result (IsOfScript for_all_by (map (λ field. field.now) fields.now)) }
+{
+    match asked_by(alloc, fields)? {
+        Some((number, request)) => Ok(for_all_by(number, request)),
+        None => Ok(None),
+    }
+}
+
+/// The bytes of a delivery, for all nodes.
+fn for_all_by(number: u32, request: Request) -> Option<(u32, Ask)>
+    ensures { result ≡ for_all_by (number, request) }
+{
+    match request {
+        Request::Apply(Event::Deliver { node: _, bytes }) => Some((number, Ask::ForAll(bytes))),
+        _ => None,
+    }
+}
+
+/// `drop N`.
+fn drop_in(fields: &[&[u8]]) -> Option<(u32, Ask)>
+    ensures { result ≡ dropped_in (map (λ field. field.now) fields.now) }
+{
+    let [_, number] = fields else {
+        return None;
+    };
+    match counter_of(number) {
+        Some(number) => Some((number, Ask::Drop)),
+        None => None,
+    }
+}
+
+/// `left N`.
+fn left_in(fields: &[&[u8]]) -> Option<(u32, Ask)>
+    ensures { result ≡ left_in (map (λ field. field.now) fields.now) }
+{
+    let [_, number] = fields else {
+        return None;
+    };
+    match counter_of(number) {
+        Some(number) => Some((number, Ask::Left)),
+        None => None,
+    }
+}
+
+/// `show N I NODE`.
+fn show_in(fields: &[&[u8]]) -> Option<(u32, Ask)>
+    ensures { result ≡ shown_in (map (λ field. field.now) fields.now) }
+{
+    let [_, number, slot, node] = fields else {
+        return None;
+    };
+    match counter_of(number) {
+        Some(number) => shown(number, slot, node),
+        None => None,
+    }
+}
+
+/// The node of these words at their slot is to be shown, of the network of a number.
+fn shown(number: u32, slot: &[u8], node: &[u8]) -> Option<(u32, Ask)>
+    ensures { result ≡ shown_of number slot.now node.now }
+{
+    let Some(slot) = number_of(slot) else {
+        return None;
+    };
+    match name_of(node) {
+        Some(node) => Some((number, Ask::Show(slot, node))),
+        None => None,
+    }
+}

@@ -1,0 +1,455 @@
+//! A live host, and what it answers to its lines.
+
+ghost use Rattle.std.specs.Prelude.{◌≡◌, [], IfOk, OnOk, Some, map, option_map, string_bytes};
+ghost use Rattle.feed.specs.Served.{block_bytes};
+ghost use Rattle.std.specs.BTreeMap.{insert_entry};
+ghost use Rattle.std.specs.Ordering.{nat_cmp};
+ghost use Rattle.configuration.specs.Configs.{names_of};
+ghost use Rattle.requests.specs.Outlines.{waiting_at};
+ghost use Rattle.requests.specs.Preparing.{Prepares};
+ghost use Rattle.serving.specs.Blocks.{closing_line};
+ghost use Rattle.serving.specs.Hosts.{AreAllAnswered, AreFieldsAnswered, IsAnswer, IsBadLine, IsBegun, IsDeclared, IsDropped, IsEventAnswered, IsLeftText, IsShown, IsShownOf, Serves, begun, left_at, not_shown, not_there, takes};
+
+use crate::all::{closing_of_answers, push_answers, serve_each};
+use crate::ask::{Ask, ask_of};
+use crate::block::{Closing, Place, push_closing, push_served};
+use configuration::NetConfig;
+use envstore::{Shelf, VecShelf};
+use feed::LineServer;
+use live::ServedNetwork;
+use questions::{Left, all_left, left_of, push_left, push_node};
+use requests::{Declaration, Waiting};
+use scripts::{LineError, fields_of};
+use std::alloc::{AllocError, Global};
+use std::collections::BTreeMap;
+use std::marker::Model;
+use types::{Bytes, Event, NodeId, Refusal};
+
+/// How many networks may be declared at a time (this host's profile).
+pub const MOST_NETWORKS: usize = 4_096;
+
+/// The networks of a live host: those that are declared and that no event has named since, and those that an event has
+/// named.
+#[derive(Drop)]
+pub struct LiveHost {
+    alloc: Global,
+    bytes: bool,
+    waiting: Waiting,
+    running: BTreeMap<u32, ServedNetwork<VecShelf>>,
+}
+
+impl Model for LiveHost {
+    ghost use Rattle.std.specs.Coded.{codes};
+    ghost use Rattle.types.specs.Trees.{members_code};
+    ghost use Rattle.serving.specs.Hosts.{Live};
+
+    ghost Value = { Live };
+
+    ghost coded = { Prim.hlevel (codes, members_code) };
+
+    ghost view = { λ host. record { bytes = host.bytes; waiting = host.waiting; running = host.running.entries } };
+}
+
+impl LiveHost {
+    /// A host without networks, which prints envelopes as bytes if that is asked for. It takes no memory.
+    pub fn new(alloc: Global, bytes: bool) -> LiveHost
+        ensures bytes { result.bytes ≡ bytes }
+        ensures waiting { result.waiting ≡ [] }
+        ensures running { result.running ≡ [] }
+    {
+        LiveHost {
+            alloc,
+            bytes,
+            waiting: Waiting::none(alloc),
+            running: BTreeMap::new(alloc),
+        }
+    }
+
+    /// The block of a line that is not too long; `None` where it is empty or a comment.
+    fn serve_line(
+        &mut self,
+        alloc: Global,
+        number: u64,
+        line: &[u8],
+    ) -> Result<Option<String>, AllocError>
+        ensures { IfOk result (λ block. Serves self.old number (Some line.now) (block_bytes (option_map string_bytes block)) self.new) }
+    {
+        match fields_of(alloc, line) {
+            Ok(None) => Ok(None),
+            Ok(Some(fields)) => self.answer_fields(number, fields),
+            Err(LineError::Bad) => Ok(Some(closed(alloc, number, Closing::Bad)?)),
+            Err(LineError::NoMemory) => Err(AllocError),
+        }
+    }
+
+    /// The block of a line with these fields, which are let go.
+    fn answer_fields(
+        &mut self,
+        number: u64,
+        fields: Vec<&[u8]>,
+    ) -> Result<Option<String>, AllocError>
+        ensures { IfOk result (λ block. AreFieldsAnswered number (map (λ field. field.now) fields.entry.items) self.old (block_bytes (option_map string_bytes block)) self.new) }
+    {
+        let block = self.answer(number, fields.as_slice());
+        drop(fields);
+        Ok(Some(block?))
+    }
+
+    /// The block of a line with these fields.
+    fn answer(&mut self, line: u64, fields: &[&[u8]]) -> Result<String, AllocError>
+        ensures { IfOk result (λ text. AreFieldsAnswered line (map (λ field. field.now) fields.now) self.old (string_bytes text) self.new) }
+    {
+        match ask_of(self.alloc, fields)? {
+            Some((network, ask)) => {
+                let place = Place {
+                    line,
+                    network,
+                    bytes: self.bytes,
+                };
+                self.answer_ask(place, ask)
+            }
+            None => closed(self.alloc, line, Closing::Bad),
+        }
+    }
+
+    /// The block of what a line asks.
+    fn answer_ask(&mut self, place: Place, ask: Ask) -> Result<String, AllocError>
+        requires { place.bytes ≡ self.old.bytes }
+        ensures { IfOk result (λ text. IsAnswer place.line place.network ask self.old (string_bytes text) self.new) }
+    {
+        match ask {
+            Ask::Declare(declaration) => self.answer_declaration(place, declaration),
+            Ask::Serve(event) => {
+                let block = self.answer_event(place, &event);
+                drop(event);
+                block
+            }
+            Ask::ForAll(bytes) => {
+                let block = self.answer_for_all(place, &bytes);
+                drop(bytes);
+                block
+            }
+            Ask::Left => self.answer_left(place),
+            Ask::Show(slot, node) => self.answer_show(place, slot, &node),
+            Ask::Drop => {
+                let closing = self.take_back(place.network);
+                closed(self.alloc, place.line, closing)
+            }
+        }
+    }
+
+    /// The block of a declaration.
+    fn answer_declaration(
+        &mut self,
+        place: Place,
+        declaration: Declaration,
+    ) -> Result<String, AllocError>
+        ensures { IfOk result (λ text. IsAnswer place.line place.network (Ask.Declare declaration) self.old (string_bytes text) self.new) }
+    {
+        let closing = match self.declare(place.network, declaration)? {
+            true => Closing::Taken,
+            false => Closing::Bad,
+        };
+        closed(self.alloc, place.line, closing)
+    }
+
+    /// The block of an event of a network.
+    fn answer_event(&mut self, place: Place, event: &Event) -> Result<String, AllocError>
+        requires { place.bytes ≡ self.old.bytes }
+        ensures { IfOk result (λ text. IsAnswer place.line place.network (Ask.Serve event.now) self.old (string_bytes text) self.new) }
+    {
+        if self.begin(place.network)? {
+            self.serve_event(place, event)
+        } else {
+            closed(self.alloc, place.line, Closing::Bad)
+        }
+    }
+
+    /// The block of bytes for all hosted nodes of a network.
+    fn answer_for_all(&mut self, place: Place, bytes: &Bytes) -> Result<String, AllocError>
+        requires { place.bytes ≡ self.old.bytes }
+        ensures { IfOk result (λ text. IsAnswer place.line place.network (Ask.ForAll bytes.now) self.old (string_bytes text) self.new) }
+    {
+        if self.begin(place.network)? {
+            self.serve_for_all(place, bytes)
+        } else {
+            closed(self.alloc, place.line, Closing::Bad)
+        }
+    }
+
+    /// A line declares this of the network of a number, and whether that is taken. If it is not, nothing changes.
+    fn declare(&mut self, number: u32, declaration: Declaration) -> Result<bool, AllocError>
+        ensures { IfOk result (λ taken. IsDeclared number declaration self.old taken self.new) }
+    {
+        if !self.takes(number, &declaration) {
+            drop(declaration);
+            return Ok(false);
+        }
+        match self.prepare(number, declaration) {
+            Ok(()) => Ok(true),
+            // Memory: it is taken, so there is none for it.
+            Err(_) => Err(AllocError),
+        }
+    }
+
+    /// Whether a declaration of the network of a number is taken.
+    fn takes(&self, number: u32, declaration: &Declaration) -> bool
+        ensures { result ≡ takes self.now number declaration.now }
+    {
+        match declaration {
+            Declaration::Net(_) => self.has_room_for(number),
+            Declaration::Node(name, _) => self.waiting.takes_node(number, name),
+            Declaration::Roster(roster) => self.waiting.takes_roster(number, roster),
+        }
+    }
+
+    /// Whether a network of a number may be declared: there is none, and fewer than 4,096 are declared.
+    fn has_room_for(&self, number: u32) -> bool
+        ensures { (budgets : _) → result ≡ takes self.now number (Declaration.Net budgets) }
+    {
+        !self.waiting.has(number)
+            && !self.running.contains_key(&number)
+            && self.waiting.count() + self.running.len() < MOST_NETWORKS
+    }
+
+    /// Adds what is declared to the networks that wait.
+    fn prepare(&mut self, number: u32, declaration: Declaration) -> Result<(), LineError>
+        ensures prepared { OnOk result (Prepares number declaration self.old.waiting self.new.waiting) }
+        ensures running { self.new.running ≡ self.old.running }
+        ensures bytes { self.new.bytes ≡ self.old.bytes }
+    {
+        match declaration {
+            Declaration::Net(budgets) => self.waiting.declare(number, budgets),
+            Declaration::Node(name, slices) => self.waiting.host(number, name, slices),
+            Declaration::Roster(roster) => self.waiting.reserve(number, roster),
+        }
+    }
+
+    /// An event names the network of a number, which runs from now on if it waits. Where it waits and has no node it is
+    /// none, and nothing changes.
+    fn begin(&mut self, number: u32) -> Result<bool, AllocError>
+        ensures { IfOk result (λ begun. IsBegun number self.old begun self.new) }
+    {
+        if self.waiting.is_bare(number) {
+            return Ok(false);
+        }
+        match self.waiting.take(number) {
+            None => Ok(true),
+            Some(outline) => match outline.config(number) {
+                Ok(config) => {
+                    self.run(number, config)?;
+                    Ok(true)
+                }
+                // Memory: it has nodes, so there is none for its configuration.
+                Err(_) => Err(AllocError),
+            },
+        }
+    }
+
+    /// A network of this configuration runs from now on.
+    fn run(&mut self, number: u32, config: NetConfig) -> Result<(), AllocError>
+        ensures bytes { self.new.bytes ≡ self.old.bytes }
+        ensures waiting { self.new.waiting ≡ self.old.waiting }
+        ensures running { OnOk result (self.new.running ≡ insert_entry nat_cmp self.old.running number (begun config)) }
+    {
+        let network = ServedNetwork::new(self.alloc, config, VecShelf::new(self.alloc))?;
+        match self.running.insert(number, network) {
+            Ok(_) => Ok(()),
+            // Memory: the map has no room.
+            Err(_) => Err(AllocError),
+        }
+    }
+
+    /// The block of an event of a network that runs, if it does.
+    fn serve_event(&mut self, place: Place, event: &Event) -> Result<String, AllocError>
+        requires { place.bytes ≡ self.old.bytes }
+        ensures { IfOk result (λ text. IsEventAnswered place.line place.network event.now self.old (string_bytes text) self.new) }
+    {
+        let Some(network) = self.running.get_mut(&place.network) else {
+            return closed(
+                self.alloc,
+                place.line,
+                Closing::Refused(Refusal::NoSuchNetwork),
+            );
+        };
+        let served = network.serve(event)?;
+        let mut text = String::new(self.alloc);
+        let pushed = push_served(&mut text, place, &served);
+        drop(served);
+        pushed?;
+        Ok(text)
+    }
+
+    /// The block of bytes for all hosted nodes of a network that runs, if it does.
+    fn serve_for_all(&mut self, place: Place, bytes: &Bytes) -> Result<String, AllocError>
+        requires { place.bytes ≡ self.old.bytes }
+        ensures { IfOk result (λ text. AreAllAnswered place.line place.network bytes.now self.old (string_bytes text) self.new) }
+    {
+        let Some(network) = self.running.get_mut(&place.network) else {
+            return closed(
+                self.alloc,
+                place.line,
+                Closing::Refused(Refusal::NoSuchNetwork),
+            );
+        };
+        let names = names_of(self.alloc, network.config())?;
+        let mut answers = Vec::new(self.alloc);
+        serve_each(self.alloc, network, &names, bytes, &mut answers)?;
+        let mut text = String::new(self.alloc);
+        push_answers(&mut text, place, &answers)?;
+        push_closing(&mut text, place.line, closing_of_answers(&answers))?;
+        drop(answers);
+        Ok(text)
+    }
+
+    /// The block of what is left of the budgets of a network.
+    fn answer_left(&self, place: Place) -> Result<String, AllocError>
+        ensures { IfOk result (λ text. IsLeftText place.line place.network (left_at self.now place.network) (string_bytes text)) }
+    {
+        match self.left(place.network) {
+            Some(left) => {
+                let mut text = String::new(self.alloc);
+                push_left(&mut text, place.line, place.network, left)?;
+                push_closing(&mut text, place.line, Closing::Taken)?;
+                Ok(text)
+            }
+            None => closed(
+                self.alloc,
+                place.line,
+                Closing::Refused(Refusal::NoSuchNetwork),
+            ),
+        }
+    }
+
+    /// What is left of the budgets of the network of a number, whether it waits or runs.
+    fn left(&self, number: u32) -> Option<Left>
+        ensures { result ≡ left_at self.now number }
+    {
+        match self.waiting.outline(number) {
+            Some(outline) => Some(all_left(outline)),
+            None => match self.running.get(&number) {
+                Some(network) => Some(left_of(network.config(), network.used())),
+                None => None,
+            },
+        }
+    }
+
+    /// The block of what a node at a slot is.
+    fn answer_show(&self, place: Place, slot: u64, node: &NodeId) -> Result<String, AllocError>
+        ensures { IfOk result (λ text. IsShown place.line place.network slot node.now self.now (string_bytes text)) }
+    {
+        match self.running.get(&place.network) {
+            Some(network) => show(self.alloc, place, network, slot, node),
+            None => closed(
+                self.alloc,
+                place.line,
+                Closing::Refused(self.not_shown(place.network, node)),
+            ),
+        }
+    }
+
+    /// Why a node of a network that does not run is not shown.
+    fn not_shown(&self, number: u32, node: &NodeId) -> Refusal
+        ensures { result ≡ not_shown (waiting_at self.now.waiting number) node.now }
+    {
+        match self.waiting.outline(number) {
+            Some(outline) if outline.hosts(node) => Refusal::SlotNotOpen,
+            Some(_) => Refusal::NoSuchNode,
+            None => Refusal::NoSuchNetwork,
+        }
+    }
+
+    /// The network of a number is taken back, and how the answer ends.
+    fn take_back(&mut self, number: u32) -> Closing
+        ensures { IsDropped number self.old result self.new }
+    {
+        match self.waiting.take(number) {
+            Some(outline) => {
+                drop(outline);
+                Closing::Taken
+            }
+            None => match self.running.remove(&number) {
+                Some(network) => {
+                    drop(network);
+                    Closing::Taken
+                }
+                None => Closing::Refused(Refusal::NoSuchNetwork),
+            },
+        }
+    }
+}
+
+impl LineServer for LiveHost {
+    ghost use Rattle.serving.specs.Hosts.{Serves};
+
+    ghost serves = { Serves };
+
+    /// The block of a line, which is none where the line is empty or a comment. An error says that memory is short; then
+    /// the line has no block, and some of it may have happened.
+    fn serve(
+        &mut self,
+        alloc: Global,
+        number: u64,
+        line: Option<&[u8]>,
+    ) -> Result<Option<String>, AllocError> {
+        match line {
+            None => Ok(Some(closed(alloc, number, Closing::Bad)?)),
+            Some(line) => self.serve_line(alloc, number, line),
+        }
+    }
+}
+
+/// The block of what a node at a slot of a network that runs is.
+fn show<S: Shelf + Drop>(
+    alloc: Global,
+    place: Place,
+    network: &ServedNetwork<S>,
+    slot: u64,
+    node: &NodeId,
+) -> Result<String, AllocError>
+    ensures { IfOk result (λ text. IsShownOf place.line place.network slot node.now network.now (string_bytes text)) }
+{
+    match network.seen(slot, node) {
+        Some(seen) => {
+            let mut text = String::new(alloc);
+            push_node(alloc, &mut text, place.line, place.network, slot, &seen)?;
+            push_closing(&mut text, place.line, Closing::Taken)?;
+            Ok(text)
+        }
+        None => closed(
+            alloc,
+            place.line,
+            Closing::Refused(not_there(network.config(), node)),
+        ),
+    }
+}
+
+/// Why a node of a network that runs is not at a slot: the network does not host it, or the slot is not open.
+fn not_there(config: &NetConfig, node: &NodeId) -> Refusal
+    ensures { result ≡ not_there config.now node.now }
+{
+    match config.place(node) {
+        Some(_) => Refusal::SlotNotOpen,
+        None => Refusal::NoSuchNode,
+    }
+}
+
+/// The names of the hosted nodes, ascending.
+fn names_of(alloc: Global, config: &NetConfig) -> Result<Vec<NodeId>, AllocError>
+    ensures { IfOk result (λ names. names.items ≡ names_of config.now.nodes) }
+{
+    config
+        .nodes()
+        .iter()
+        .map(|hosted| *hosted.name())
+        .collect(alloc)
+}
+
+/// The block that is one line.
+fn closed(alloc: Global, line: u64, closing: Closing) -> Result<String, AllocError>
+    ensures { IfOk result (λ text. string_bytes text ≡ closing_line line closing) }
+{
+    let mut text = String::new(alloc);
+    push_closing(&mut text, line, closing)?;
+    Ok(text)
+}

@@ -1,0 +1,14 @@
+//! What a live host answers to each line (this host's profile).
+//!
+//! A [`LiveHost`] reads a line, does what it asks for, and answers a block: some lines on what nodes gave out, and one
+//! that closes it. It goes on after bad lines, and keeps no journal.
+#![tactic(auto)]
+
+mod all;
+mod ask;
+mod block;
+mod form;
+mod host;
+
+pub use ask::{Ask, ask_of};
+pub use host::{LiveHost, MOST_NETWORKS};
