@@ -87,7 +87,7 @@ const EXPLAIN: Part<'static> = Part {
 
 const HOST_WORKERS: Part<'static> = Part {
     name: "--workers <N>",
-    about: "Serves the networks with N workers, 1 to 64; without it, with one",
+    about: "Takes a number of workers, 1 to 64; one thread serves all networks so far",
 };
 
 const BYTES: Part<'static> = Part {

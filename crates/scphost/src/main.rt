@@ -2,6 +2,7 @@
 #![tactic(auto)]
 
 mod command;
+mod explaining;
 mod hosting;
 mod outputs;
 mod perform;

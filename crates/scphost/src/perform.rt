@@ -7,7 +7,7 @@ ghost use Rattle.scphost.specs.Printing.{HasAnswered, HasAnsweredUsage, HasRunLi
 ghost use Rattle.answers.specs.Scripts.{StopsPlan, StopsStories, StopsStory, StopsSubmissions};
 ghost use Rattle.scphost.specs.Stops.{IsEndOf, status_of_end};
 
-use crate::hosting::serve;
+use crate::hosting::{AnswerForm, serve};
 use crate::outputs::Outputs;
 use crate::pooling::answer_pool;
 use crate::printing::{print_answer, write_text};
@@ -328,7 +328,13 @@ pub fn perform_stream<
         | Call::Closure { .. }
         | Call::Compare { .. }
         | Call::Crowd { .. } => { perform(rt, call, input, &mut io::empty(), outputs) }
-        Call::Serve { bytes, .. } => serve(rt, *bytes, input, outputs),
+        Call::Serve { bytes, explain, .. } => {
+            let form = AnswerForm {
+                bytes: *bytes,
+                explain: *explain,
+            };
+            serve(rt, form, input, outputs)
+        }
     }
 }
 
