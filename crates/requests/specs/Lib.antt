@@ -5,4 +5,7 @@ pub mod Requests
 pub mod Taking
 pub mod Preparing
 pub mod Telling
+pub mod Forms
+pub mod Asking
+pub mod Ordering
 pub mod Replies

@@ -66,6 +66,9 @@ abbrev pub behind_space : Out → Bytes
 behind_space out = 32 ∷ text_of_out out
 
 -- the line of an answer: `ok` and what the event gives out, in order, or the line of the refusal
+abbrev pub reply_text : Result (List Out) Refusal → Bytes
+reply_text (Ok outs) = codes "ok" ++ flat_map behind_space outs
+reply_text (Err r) = refusal_text r
+
 abbrev pub IsReply : Result (List Out) Refusal → Bytes → Type 0
-IsReply (Ok outs) text = text ≡ codes "ok" ++ flat_map behind_space outs
-IsReply (Err r) text = text ≡ refusal_text r
+IsReply r text = text ≡ reply_text r

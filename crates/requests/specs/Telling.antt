@@ -1,16 +1,20 @@
 -- What the lines of scripts of networks are.
-use Rattle.std.specs.Prelude.{◌≡◌, ◌||◌, not, ℕ, Bool, true, false, ◌==◌, length, List, [], ◌∷◌, Option, Some, None, IfSome}
+use Rattle.std.specs.Prelude.{◌≡◌, ◌||◌, ◌&&◌, not, ℕ, Bool, true, false, ◌==◌, length, List, [], ◌∷◌, Option, Some, None, IfSome}
 use Rattle.scripts.specs.Script.{Bytes}
 use Rattle.scripts.specs.Runs.{Refusing, Telling}
 use Rattle.scripts.specs.Words.{word_counter}
 use Rattle.types.specs.declared.event.Event.{Event}
-use Rattle.types.specs.declared.event.Event.TheVariants.{CloseSlot}
+use Rattle.types.specs.declared.event.Event.TheVariants.{CloseSlot, Hear}
 use Rattle.requests.specs.declared.request.Request.{Request}
 use Rattle.requests.specs.declared.request.Request.TheVariants.{Declare, Apply, Settle}
+use Rattle.requests.specs.declared.request.Declaration.TheVariants.{Net}
+use Rattle.requests.specs.declared.order.Order.{Order}
+use Rattle.requests.specs.declared.order.Order.TheVariants as order
 use Rattle.requests.specs.Outlines.{Outlined, Waiting, waiting_at}
-use Rattle.requests.specs.Naming.{Named}
+use Rattle.requests.specs.Naming.{Named, is_in}
 use Rattle.requests.specs.Requests.{IsRequested}
-use Rattle.requests.specs.Taking.{takes}
+use Rattle.requests.specs.Ordering.{IsOrdered}
+use Rattle.requests.specs.Taking.{is_declared, takes}
 
 -- the line asks the network of a number for an event
 abbrev pub AsksOf : List Bytes → ℕ → Event → Type 0
@@ -66,6 +70,37 @@ IsBadRequest a ws n g (Settle slot) = IsBadToAsk a.settling ws g
 abbrev pub Refuses : Allowed → Waiting → Named → List Bytes → Type 0
 Refuses a ws n fields =
     (asked : Option (ℕ × Request)) × IsRequested fields asked × IfSome asked (λ r. IsBadRequest a ws n r.0 r.1)
+
+-- ---- bad lines where some networks are served
+
+-- the event is that a node hears another one
+abbrev pub is_hearing : Event → Bool
+is_hearing (Hear i u from kind k) = true
+is_hearing e = false
+
+-- lines may ask the network of a number for this event: in one that is served nobody is told by a line what to hear
+abbrev pub may_apply : Named → ℕ → Event → Bool
+may_apply n g e = not (is_in n.served g && is_hearing e)
+
+-- lines have declared the network of a number, and not as served
+abbrev pub is_unserved : Waiting → Named → ℕ → Bool
+is_unserved ws n g = is_declared ws n g && not (is_in n.served g)
+
+-- what orders this of the network of a number is bad: a declaration that is not taken; an event, and a slot that is to
+-- settle, that a served network does not have, or whose network has no node; what served networks alone have, of one that
+-- is declared and not served, or bytes for all nodes of one that has none
+abbrev pub IsBadOrder : Waiting → Named → ℕ → Order → Type 0
+IsBadOrder ws n g (order.Request (Declare d)) = takes ws n g d ≡ false
+IsBadOrder ws n g (order.Request (Apply e)) = IsBadToAsk (may_apply n g e) ws g
+IsBadOrder ws n g (order.Request (Settle slot)) = IsBadToAsk (not (is_in n.served g)) ws g
+IsBadOrder ws n g (order.Serve b) = takes ws n g (Net b) ≡ false
+IsBadOrder ws n g (order.ForAll bytes) = IsBadToAsk (not (is_unserved ws n g)) ws g
+IsBadOrder ws n g order.Drop = is_unserved ws n g ≡ true
+
+-- the line has none of the forms, or what it orders is bad
+abbrev pub RefusesOrder : Waiting → Named → List Bytes → Type 0
+RefusesOrder ws n fields =
+    (ordered : Option (ℕ × Order)) × IsOrdered fields ordered × IfSome ordered (λ r. IsBadOrder ws n r.0 r.1)
 
 -- no line is both bad and told
 abbrev pub BadLinesAreUntold : {S : Type 0} → Telling S → Refusing S → Type 0

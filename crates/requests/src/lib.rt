@@ -1,11 +1,15 @@
 //! What the lines of networks ask for, and what they declare, of whatever runs them.
 //!
-//! [`request_of`] reads a line's fields as a [`Request`]. [`Waiting`] and [`Named`] say at which stage each network is,
-//! and so which declarations are taken. [`line_of_outs`] and [`line_of_refusal`] print what an event is answered.
+//! [`request_of`] reads a line's fields as a [`Request`], [`ask_of`] as what they ask of a live host, and [`order_of`] as
+//! what they order where some networks are served and others are not. [`Waiting`] and [`Named`] say at which stage each
+//! network is, and so which declarations are taken. [`line_of_outs`] and [`line_of_refusal`] print what an event is answered.
 #![tactic(auto)]
 
+mod ask;
 mod events;
+mod form;
 mod named;
+mod order;
 mod outlines;
 mod refusals;
 mod replies;
@@ -13,7 +17,10 @@ mod request;
 mod verbs;
 mod waiting;
 
+pub use ask::{Ask, ask_of};
+pub use form::Form;
 pub use named::Named;
+pub use order::{Order, order_of};
 pub use outlines::Outline;
 pub use replies::{line_of_outs, line_of_refusal, push_out, push_outs, push_refusal};
 pub use request::{Declaration, Request, asked_by, request_of};

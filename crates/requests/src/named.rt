@@ -1,17 +1,19 @@
 //! The numbers of networks that an event of a script has named.
 
 ghost use Rattle.std.specs.Prelude.{◌<◌, ◌≡◌, ◌^◌, None, OnOk, length};
-ghost use Rattle.requests.specs.Naming.{is_in, named_with, new_named, with_number};
+ghost use Rattle.requests.specs.Naming.{IsForgotten, IsWithout, is_in, named_with, new_named, served_with, with_number};
 
 use std::alloc::{AllocError, Global};
 use std::collections::BTreeSet;
 use std::marker::Model;
 
-/// The numbers that an event of a script has named, and those of them whose network was declared by then.
+/// The numbers that an event of a script has named, those of them whose network was declared by then, and those whose
+/// network was declared as served.
 #[derive(Drop)]
 pub struct Named {
     numbers: BTreeSet<u32>,
     running: BTreeSet<u32>,
+    served: BTreeSet<u32>,
 }
 
 impl Model for Named {
@@ -23,7 +25,7 @@ impl Model for Named {
 
     ghost coded = { Prim.hlevel (codes, members_code) };
 
-    ghost view = { λ named. record { numbers = named.numbers.keys; running = named.running.keys } };
+    ghost view = { λ named. record { numbers = named.numbers.keys; running = named.running.keys; served = named.served.keys } };
 }
 
 impl Named {
@@ -34,6 +36,7 @@ impl Named {
         Named {
             numbers: BTreeSet::new(alloc),
             running: BTreeSet::new(alloc),
+            served: BTreeSet::new(alloc),
         }
     }
 
@@ -49,6 +52,13 @@ impl Named {
         ensures { result ≡ is_in self.now.running number }
     {
         self.running.contains(&number)
+    }
+
+    /// Whether the network of a number was declared as served.
+    pub fn is_served(&self, number: u32) -> bool
+        ensures { result ≡ is_in self.now.served number }
+    {
+        self.served.contains(&number)
     }
 
     /// How many networks events have named after they were declared.
@@ -73,7 +83,7 @@ impl Named {
     /// An event has named the network of a number, which waited for it.
     pub fn run(&mut self, number: u32) -> Result<(), AllocError>
         ensures { OnOk result
-            (self.new ≡ record { numbers = with_number self.old.numbers number; running = with_number self.old.running number }) }
+            (self.new ≡ record self.old { numbers = with_number self.old.numbers number; running = with_number self.old.running number }) }
     {
         self.name(number)?;
         match self.running.insert(number) {
@@ -82,4 +92,31 @@ impl Named {
             Err(_) => Err(AllocError),
         }
     }
+
+    /// The network of a number was declared as served.
+    pub fn serve(&mut self, number: u32) -> Result<(), AllocError>
+        ensures { OnOk result (self.new ≡ served_with number self.old) }
+    {
+        match self.served.insert(number) {
+            Ok(_) => Ok(()),
+            // Memory: the set has no room.
+            Err(_) => Err(AllocError),
+        }
+    }
+
+    /// The network of a number was taken back: it is as if no line had named the number.
+    pub fn forget(&mut self, number: u32)
+        ensures { IsForgotten number self.old self.new }
+    {
+        remove(&mut self.numbers, number);
+        remove(&mut self.running, number);
+        remove(&mut self.served, number);
+    }
+}
+
+/// The number is none of them from now on.
+fn remove(numbers: &mut BTreeSet<u32>, number: u32)
+    ensures { IsWithout number numbers.old.keys numbers.new.keys }
+{
+    let _there = numbers.remove(&number);
 }

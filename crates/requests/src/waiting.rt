@@ -147,6 +147,7 @@ impl Waiting {
     pub fn take(&mut self, number: u32) -> Option<Outline>
         ensures which { result ≡ waiting_at self.old number }
         ensures rest { IfSome result (λ _. self.new ≡ waiting_without self.old number) }
+        ensures without { self.new ≡ waiting_without self.old number }
         ensures same { IfNone result (self.new ≡ self.old) }
     {
         self.outlines.remove(&number)

@@ -1,34 +1,43 @@
 -- A line that is bad is none that is told.
-use Rattle.std.proofs.Common.{◌≡◌, ◌∙◌, ℕ, List, [], ◌∷◌, Option, Some, None, refl, sym, subst}
-use Rattle.std.specs.Prelude.{IfSome, option_map}
+use Rattle.std.proofs.Common.{◌≡◌, ◌∙◌, ◌++◌, ℕ, Bool, true, false, not, List, [], ◌∷◌, Option, Some, None, inl, inr, refl, sym, ap, subst}
+use Rattle.std.specs.Prelude.{IfSome, codes, option_and_then, option_map}
 use Rattle.std.proofs.lemmas.Bool.{false≢true}
 use Rattle.scripts.specs.Script.{Bytes}
 use Rattle.scripts.specs.Names.{word_name}
 use Rattle.scripts.specs.Words.{word_counter}
 use Rattle.types.specs.declared.event.Event.{Event}
 use Rattle.types.specs.declared.event.Event.TheVariants as event
+use Rattle.types.specs.Trees.{Slices}
 use Rattle.protocol.specs.Networks.{Budgets}
 use Rattle.protocol.specs.Rosters.{Shares}
 use Rattle.configuration.specs.declared.roster.Reservation.{Reservation}
-use Rattle.requests.specs.declared.request.Declaration.TheVariants.{Roster}
+use Rattle.requests.specs.declared.request.Declaration.TheVariants.{Net, Node, Roster}
 use Rattle.requests.specs.declared.request.Request.{Request}
 use Rattle.requests.specs.declared.request.Request.TheVariants.{Declare, Apply, Settle}
+use Rattle.requests.specs.declared.ask.Ask.{Ask as Asked}
+use Rattle.requests.specs.declared.form.Form.{Form}
+use Rattle.requests.specs.declared.form.Form.TheVariants as form
+use Rattle.requests.specs.declared.order.Order.{Order}
+use Rattle.requests.specs.declared.order.Order.TheVariants as order
 use Rattle.requests.specs.declared.verbs.Verb.{Verb}
 use Rattle.requests.specs.declared.verbs.Verb.TheVariants as verb
 use Rattle.requests.specs.declared.verbs.EventVerb.{EventVerb}
 use Rattle.requests.specs.declared.verbs.EventVerb.TheVariants as ask
 use Rattle.requests.specs.Outlines.{Outlined, Waiting, waiting_at}
 use Rattle.runs.specs.Joining.{NetworkIsNamedAt, Joins}
-use Rattle.requests.specs.Naming.{Named}
+use Rattle.requests.specs.Asking.{IsAskedAs, IsForAll, IsNet, IsOfScript, IsServedNet, asked_by, for_all_by}
+use Rattle.requests.specs.Forms.{form_in, is_word}
+use Rattle.requests.specs.Naming.{Named, is_in}
+use Rattle.requests.specs.Ordering.{IsOrdered, IsOrderedBy, order_by}
 use Rattle.requests.specs.Preparing.{IsPrepared}
 use Rattle.requests.specs.Taking.{takes}
 use Rattle.requests.specs.Lines.{AsksReslice, AsksResliceOf, AsksSay, AsksSayOf, IsAsked, IsRead, IsResliced, IsSaid, five, slot_and_node_in, three, verb_in}
 use Rattle.requests.specs.Requests.{AreAllowed, AsksNode, AsksRoster, IsNode, IsRequest, IsRequestOf, IsRequested, IsReserved, budgets_in, shares_in}
-use Rattle.requests.specs.Telling.{Allowed, HasNoNode, IsBadRequest, IsBare, Refuses}
+use Rattle.requests.specs.Telling.{Allowed, HasNoNode, IsBadOrder, IsBadRequest, IsBadToAsk, IsBare, Refuses, RefusesOrder, is_unserved, may_apply}
 use Rattle.runs.specs.Followed.{also_followed}
 use Rattle.runs.specs.Hosting.{Hosting, IsBegun, logs_joined}
-use Rattle.runs.specs.Running.{BadLinesTellNothing, all_allowed}
-use Rattle.runs.specs.Running.Tells.{declared, answered, settled}
+use Rattle.runs.specs.Running.{BadLinesTellNothing}
+use Rattle.runs.specs.Running.Tells.{declared, declared_served, answered, settled, delivered, dropped}
 use Rattle.runs.specs.Submitting.{BadLinesSubmitNothing, IsDeclared, Submitting, declared_once, no_settling}
 use Rattle.runs.specs.Submitting.Submits.{declares as submits_declaration, submits}
 use Rattle.runs.specs.Plans.{Plan}
@@ -47,87 +56,209 @@ by-reading asks P nothing alike None p h k bad = nothing
 by-reading asks P nothing alike (Some x) None h k bad = absurd (k x h)
 by-reading asks P nothing alike (Some x) (Some y) h k bad = alike x y h k bad
 
+-- ---- lists with one behind
+
+none-behind : {A : Type 0} (xs : List A) (x : A) → [] ≡ xs ++ x ∷ [] → ⊥
+none-behind [] x e = cc
+none-behind (y ∷ xs) x e = cc
+
+first-same : {A : Type 0} (x y : A) (xs ys : List A) → x ∷ xs ≡ y ∷ ys → (x ≡ y) × (xs ≡ ys)
+first-same x y xs ys e = (cc, cc)
+
+one-behind : {A : Type 0} (xs ys : List A) (x y : A) → xs ++ x ∷ [] ≡ ys ++ y ∷ [] → (xs ≡ ys) × (x ≡ y)
+one-behind [] [] x y e = (refl, (first-same x y [] [] e).0)
+one-behind [] (w ∷ ys) x y e = absurd (none-behind ys y (first-same x w [] (ys ++ y ∷ []) e).1)
+one-behind (v ∷ xs) [] x y e = absurd (none-behind xs x (sym (first-same v y (xs ++ x ∷ []) [] e).1))
+one-behind (v ∷ xs) (w ∷ ys) x y e =
+    let parts = first-same v w (xs ++ x ∷ []) (ys ++ y ∷ []) e in
+    let more = one-behind xs ys x y parts.1 in
+    ((λ i. parts.0 i ∷ more.0 i), more.1)
+
 same-names : (o : Option (List ℕ)) (us vs : List ℕ) → o ≡ Some us → o ≡ Some vs → us ≡ vs
 same-names o us vs e f = cc
 
-module _ (a : Allowed) (ws : Waiting) (n : Named) where
-  -- what is asked for, if anything, is bad
-  abbrev IsBad : Option (ℕ × Request) → Type 0
-  IsBad asked = IfSome asked (λ r. IsBadRequest a ws n r.0 r.1)
+-- what is so of a request is so of each other that the same words may be read as
+record IsOfWords (P : Request → Type 0) : Type 0 where
+  node : (u : ℕ) (q r : Slices) → P (Declare (Node u q)) → P (Declare (Node u r))
+  roster : (d e : Reservation) → d.names.items ≡ e.names.items → d.shares ≡ e.shares → P (Declare (Roster d)) → P (Declare (Roster e))
+  delivery : (u : ℕ) (b c : Bytes) → P (Apply (event.Deliver u b)) → P (Apply (event.Deliver u c))
+  reslice : (i u : ℕ) (q r : Slices) → P (Apply (event.Reslice i u q)) → P (Apply (event.Reslice i u r))
+
+module _ (P : ℕ → Request → Type 0) (words : (g : ℕ) → IsOfWords (P g)) where
+  -- it is so of what is asked for, if anything is
+  abbrev IsSo : Option (ℕ × Request) → Type 0
+  IsSo asked = IfSome asked (λ r. P r.0 r.1)
 
   module _ (g : ℕ) where
     -- the same of the network of a number
-    abbrev IsBadHere : Option Request → Type 0
-    IsBadHere o = IsBad (option_map (λ r. (g, r)) o)
+    abbrev IsSoHere : Option Request → Type 0
+    IsSoHere o = IsSo (option_map (λ r. (g, r)) o)
 
     -- the same of an event
-    abbrev IsBadEvent : Option Event → Type 0
-    IsBadEvent o = IsBadHere (option_map (λ e. Apply e) o)
+    abbrev IsSoOfEvent : Option Event → Type 0
+    IsSoOfEvent o = IsSoHere (option_map (λ e. Apply e) o)
 
-    two-nets : (o : Option Budgets) → AreAlike (AreAllowed o) IsBadHere
-    two-nets None r q h k bad = absurd h
-    two-nets (Some b) r q h k bad = subst (IsBadRequest a ws n g) (k.1 ∙ sym h.1) bad
+    two-nets : (o : Option Budgets) → AreAlike (AreAllowed o) IsSoHere
+    two-nets None r q h k so = absurd h
+    two-nets (Some b) r q h k so = subst (P g) (k.1 ∙ sym h.1) so
 
-    two-named : (o : Option ℕ) (slices : Bytes) → AreAlike (IsNode o slices) IsBadHere
-    two-named None slices r q h k bad = absurd h
-    two-named (Some u) slices r q h k bad = subst (IsBadRequest a ws n g) (sym h.2) (subst (IsBadRequest a ws n g) k.2 bad)
+    two-named : (o : Option ℕ) (slices : Bytes) → AreAlike (IsNode o slices) IsSoHere
+    two-named None slices r q h k so = absurd h
+    two-named (Some u) slices r q h k so = subst (P g) (sym h.2) ((words g).node u k.0 h.0 (subst (P g) k.2 so))
 
-    two-nodes : (fields : List Bytes) → AreAlike (AsksNode fields) IsBadHere
-    two-nodes (name ∷ slices ∷ []) r q h k bad = two-named (word_name name) slices r q h k bad
-    two-nodes _ r q h k bad = absurd h
+    two-nodes : (fields : List Bytes) → AreAlike (AsksNode fields) IsSoHere
+    two-nodes (name ∷ slices ∷ []) r q h k so = two-named (word_name name) slices r q h k so
+    two-nodes _ r q h k so = absurd h
 
-    same-rosters : (d e : Reservation) → d.names.items ≡ e.names.items → d.shares ≡ e.shares → takes ws n g (Roster d) ≡ takes ws n g (Roster e)
-    same-rosters d e names shares = rw (names, shares) refl
+    two-rosters : (o : Option (Shares × List Bytes)) → AreAlike (IsReserved o) IsSoHere
+    two-rosters None r q h k so = absurd h
+    two-rosters (Some w) r q h k so =
+        subst (P g) (sym h.3) ((words g).roster k.0 h.0 (same-names _ _ _ k.1 h.1) (k.2 ∙ sym h.2) (subst (P g) k.3 so))
 
-    two-rosters : (o : Option (Shares × List Bytes)) → AreAlike (IsReserved o) IsBadHere
-    two-rosters None r q h k bad = absurd h
-    two-rosters (Some w) r q h k bad =
-        subst (IsBadRequest a ws n g) (sym h.3) (same-rosters h.0 k.0 (same-names _ _ _ h.1 k.1) (h.2 ∙ sym k.2) ∙ subst (IsBadRequest a ws n g) k.3 bad)
+    two-said : (o : Option ℕ) (w : Bytes × Bytes × Bytes × Bytes × Bytes) → AreAlike (IsSaid o w) IsSoOfEvent
+    two-said None w e f h k so = absurd h
+    two-said (Some u) w e f h k so = subst (λ x. IsSoOfEvent (Some x)) (sym h.2) ((words g).delivery u k.0 h.0 (subst (λ x. IsSoOfEvent (Some x)) k.2 so))
 
-    two-said : (o : Option ℕ) (w : Bytes × Bytes × Bytes × Bytes × Bytes) → AreAlike (IsSaid o w) IsBadEvent
-    two-said None w e f h k bad = absurd h
-    two-said (Some u) w e f h k bad = subst (λ x. IsBadEvent (Some x)) (sym h.2) (subst (λ x. IsBadEvent (Some x)) k.2 bad)
+    two-sayings : (o : Option (Bytes × Bytes × Bytes × Bytes × Bytes)) → AreAlike (AsksSayOf o) IsSoOfEvent
+    two-sayings None e f h k so = absurd h
+    two-sayings (Some w) e f h k so = two-said (word_name w.0) w e f h k so
 
-    two-sayings : (o : Option (Bytes × Bytes × Bytes × Bytes × Bytes)) → AreAlike (AsksSayOf o) IsBadEvent
-    two-sayings None e f h k bad = absurd h
-    two-sayings (Some w) e f h k bad = two-said (word_name w.0) w e f h k bad
+    two-resliced : (o : Option (ℕ × ℕ)) (slices : Bytes) → AreAlike (IsResliced o slices) IsSoOfEvent
+    two-resliced None slices e f h k so = absurd h
+    two-resliced (Some at) slices e f h k so = subst (λ x. IsSoOfEvent (Some x)) (sym h.2) ((words g).reslice at.0 at.1 k.0 h.0 (subst (λ x. IsSoOfEvent (Some x)) k.2 so))
 
-    two-resliced : (o : Option (ℕ × ℕ)) (slices : Bytes) → AreAlike (IsResliced o slices) IsBadEvent
-    two-resliced None slices e f h k bad = absurd h
-    two-resliced (Some at) slices e f h k bad = subst (λ x. IsBadEvent (Some x)) (sym h.2) (subst (λ x. IsBadEvent (Some x)) k.2 bad)
+    two-reslices : (o : Option (Bytes × Bytes × Bytes)) → AreAlike (AsksResliceOf o) IsSoOfEvent
+    two-reslices None e f h k so = absurd h
+    two-reslices (Some w) e f h k so = two-resliced (slot_and_node_in w.0 w.1) w.2 e f h k so
 
-    two-reslices : (o : Option (Bytes × Bytes × Bytes)) → AreAlike (AsksResliceOf o) IsBadEvent
-    two-reslices None e f h k bad = absurd h
-    two-reslices (Some w) e f h k bad = two-resliced (slot_and_node_in w.0 w.1) w.2 e f h k bad
+    two-events : (v : EventVerb) (fields : List Bytes) (o p : Option Event) → IsAsked v fields o → IsAsked v fields p → IsSoOfEvent p → IsSoOfEvent o
+    two-events ask.Say fields o p h k so = by-reading (AsksSay fields) IsSoOfEvent tt (two-sayings (five fields)) o p h k so
+    two-events ask.Reslice fields o p h k so = by-reading (AsksReslice fields) IsSoOfEvent tt (two-reslices (three fields)) o p h k so
+    two-events _ fields o p h k so = subst IsSoOfEvent (k ∙ sym h) so
 
-    two-events : (v : EventVerb) (fields : List Bytes) (o p : Option Event) → IsAsked v fields o → IsAsked v fields p → IsBadEvent p → IsBadEvent o
-    two-events ask.Say fields o p h k bad = by-reading (AsksSay fields) IsBadEvent tt (two-sayings (five fields)) o p h k bad
-    two-events ask.Reslice fields o p h k bad = by-reading (AsksReslice fields) IsBadEvent tt (two-reslices (three fields)) o p h k bad
-    two-events _ fields o p h k bad = subst IsBadEvent (k ∙ sym h) bad
-
-    two-requests : (v : Verb) (fields : List Bytes) (o p : Option Request) → IsRequest v fields o → IsRequest v fields p → IsBadHere p → IsBadHere o
-    two-requests verb.Net fields o p h k bad = by-reading (AreAllowed (budgets_in fields)) IsBadHere tt (two-nets (budgets_in fields)) o p h k bad
-    two-requests verb.Node fields o p h k bad = by-reading (AsksNode fields) IsBadHere tt (two-nodes fields) o p h k bad
-    two-requests verb.Roster fields o p h k bad = by-reading (AsksRoster fields) IsBadHere tt (two-rosters (shares_in fields)) o p h k bad
-    two-requests verb.Settle fields o p h k bad = subst IsBadHere (k ∙ sym h) bad
-    two-requests (verb.Event v) fields o p h k bad = subst IsBadHere (sym h.2) (two-events v fields h.0 k.0 h.1 k.1 (subst IsBadHere k.2 bad))
+    two-requests : (v : Verb) (fields : List Bytes) (o p : Option Request) → IsRequest v fields o → IsRequest v fields p → IsSoHere p → IsSoHere o
+    two-requests verb.Net fields o p h k so = by-reading (AreAllowed (budgets_in fields)) IsSoHere tt (two-nets (budgets_in fields)) o p h k so
+    two-requests verb.Node fields o p h k so = by-reading (AsksNode fields) IsSoHere tt (two-nodes fields) o p h k so
+    two-requests verb.Roster fields o p h k so = by-reading (AsksRoster fields) IsSoHere tt (two-rosters (shares_in fields)) o p h k so
+    two-requests verb.Settle fields o p h k so = subst IsSoHere (k ∙ sym h) so
+    two-requests (verb.Event v) fields o p h k so = subst IsSoHere (sym h.2) (two-events v fields h.0 k.0 h.1 k.1 (subst IsSoHere k.2 so))
 
   two-readings-of : (v : Option Verb) (number : Option ℕ) (fields : List Bytes) (o p : Option (ℕ × Request)) → IsRequestOf v number fields o → IsRequestOf v number fields p
-      → IsBad p → IsBad o
-  two-readings-of (Some v) (Some g) fields o p h k bad = subst IsBad (sym h.2) (two-requests g v fields h.0 k.0 h.1 k.1 (subst IsBad k.2 bad))
-  two-readings-of _ _ fields o p h k bad = subst IsBad (k ∙ sym h) bad
+      → IsSo p → IsSo o
+  two-readings-of (Some v) (Some g) fields o p h k so = subst IsSo (sym h.2) (two-requests g v fields h.0 k.0 h.1 k.1 (subst IsSo k.2 so))
+  two-readings-of _ _ fields o p h k so = subst IsSo (k ∙ sym h) so
 
-  two-readings : (fields : List Bytes) (o p : Option (ℕ × Request)) → IsRequested fields o → IsRequested fields p → IsBad p → IsBad o
-  two-readings (word ∷ number ∷ fields) o p h k bad = two-readings-of (verb_in word) (word_counter number) fields o p h k bad
-  two-readings _ o p h k bad = subst IsBad (k ∙ sym h) bad
+  two-readings : (fields : List Bytes) (o p : Option (ℕ × Request)) → IsRequested fields o → IsRequested fields p → IsSo p → IsSo o
+  two-readings (word ∷ number ∷ fields) o p h k so = two-readings-of (verb_in word) (word_counter number) fields o p h k so
+  two-readings _ o p h k so = subst IsSo (k ∙ sym h) so
 
-  -- ---- no line is bad that asks for what is not
+-- a line that is read as a request is not read as none
+read-twice : (fields : List Bytes) (r : ℕ × Request) → IsRequested fields (Some r) → IsRequested fields None → ⊥
+read-twice fields r some none =
+    two-readings (λ g x. ⊥) (λ g. record { node = λ u q s h. h; roster = λ d e n s h. h; delivery = λ u b c h. h; reslice = λ i u q s h. h }) fields (Some r) None some none tt
+
+-- ---- no line is bad that asks for what is not
+
+module _ (a : Allowed) (ws : Waiting) (n : Named) where
+  same-rosters : (g : ℕ) (d e : Reservation) → d.names.items ≡ e.names.items → d.shares ≡ e.shares → takes ws n g (Roster e) ≡ takes ws n g (Roster d)
+  same-rosters g d e names shares = rw (names, shares) refl
+
+  words-of : (g : ℕ) → IsOfWords (IsBadRequest a ws n g)
+  words-of g = record {
+    node = λ u q r bad. bad;
+    roster = λ d e names shares bad. same-rosters g d e names shares ∙ bad;
+    delivery = λ u b c bad. bad;
+    reslice = λ i u q r bad. bad;
+  }
 
   not-bad : (fields : List Bytes) (g : ℕ) (r : Request) → IsRequested fields (Some (g, r)) → ¬ IsBadRequest a ws n g r → ¬ Refuses a ws n fields
-  not-bad fields g r asked fine bad = fine (two-readings fields (Some (g, r)) bad.0 asked bad.1 bad.2)
+  not-bad fields g r asked fine bad = fine (two-readings (IsBadRequest a ws n) words-of fields (Some (g, r)) bad.0 asked bad.1 bad.2)
 
   taken : (fields : List Bytes) (us : Waiting) → IsPrepared fields n ws us → ¬ Refuses a ws n fields
   taken fields us h = not-bad fields h.0 (Declare h.1) h.2 (λ bad. false≢true (sym bad ∙ h.3))
+
+-- ---- the same of what is ordered
+
+-- what is so of an order is so of each other that the same words may be read as
+record AreOfWords (Q : ℕ → Order → Type 0) : Type 0 where
+  requests : (g : ℕ) → IsOfWords (λ r. Q g (order.Request r))
+  bytes : (g : ℕ) (b c : Bytes) → Q g (order.ForAll b) → Q g (order.ForAll c)
+
+module _ (Q : ℕ → Order → Type 0) (words : AreOfWords Q) where
+  abbrev IsSoOf : Option (ℕ × Order) → Type 0
+  IsSoOf ordered = IfSome ordered (λ x. Q x.0 x.1)
+
+  -- of what a line of scripts asks
+  module _ (by : ℕ × Request → Option (ℕ × Asked)) (words_by : (g : ℕ) → IsOfWords (λ r. IsSoOf (option_and_then order_by (by (g, r))))) where
+    of-none : (r : Option (ℕ × Request)) → IsSo (λ g x. IsSoOf (option_and_then order_by (by (g, x)))) words_by r → IsSoOf (option_and_then order_by (option_and_then by r))
+    of-none None so = tt
+    of-none (Some r) so = so
+
+    to-none : (r : Option (ℕ × Request)) → IsSoOf (option_and_then order_by (option_and_then by r)) → IsSo (λ g x. IsSoOf (option_and_then order_by (by (g, x)))) words_by r
+    to-none None so = tt
+    to-none (Some r) so = so
+
+    two-of-script : (fields : List Bytes) (o p : Option (ℕ × Asked)) → IsOfScript by fields o → IsOfScript by fields p → IsSoOf (option_and_then order_by p) → IsSoOf (option_and_then order_by o)
+    two-of-script fields o p h k so =
+        subst (λ x. IsSoOf (option_and_then order_by x)) (sym h.2)
+        (of-none h.0 (two-readings (λ g x. IsSoOf (option_and_then order_by (by (g, x)))) words_by fields h.0 k.0 h.1 k.1 (to-none k.0 (subst (λ x. IsSoOf (option_and_then order_by x)) k.2 so))))
+
+  words-asked : (g : ℕ) → IsOfWords (λ r. IsSoOf (option_and_then order_by (asked_by (g, r))))
+  words-asked g = record { node = λ u q r so. so; roster = λ d e names shares so. so; delivery = λ u b c so. so; reslice = λ i u q r so. so }
+
+  words-for-all : (g : ℕ) → IsOfWords (λ r. IsSoOf (option_and_then order_by (for_all_by (g, r))))
+  words-for-all g = record { node = λ u q r so. so; roster = λ d e names shares so. so; delivery = λ u b c so. words.bytes g b c so; reslice = λ i u q r so. so }
+
+  two-served : (b : Bool) (before : List Bytes) (o p : Option (ℕ × Asked)) → IsServedNet b before o → IsServedNet b before p → IsSoOf (option_and_then order_by p) → IsSoOf (option_and_then order_by o)
+  two-served true before o p h k so = two-of-script asked_by words-asked before o p h k so
+  two-served false before o p h k so = subst (λ x. IsSoOf (option_and_then order_by x)) (k ∙ sym h) so
+
+  two-declared : (fields : List Bytes) (o p : Option (ℕ × Asked)) → IsNet fields o → IsNet fields p → IsSoOf (option_and_then order_by p) → IsSoOf (option_and_then order_by o)
+  two-declared fields o p (inl h) (inl k) so = subst (λ x. IsSoOf (option_and_then order_by x)) (k.1 ∙ sym h.1) so
+  two-declared fields o p (inl h) (inr k) so = absurd (none-behind k.0 k.1 (sym h.0 ∙ k.2))
+  two-declared fields o p (inr h) (inl k) so = absurd (none-behind h.0 h.1 (sym k.0 ∙ h.2))
+  two-declared fields o p (inr h) (inr k) so =
+      let same : (h.0 ≡ k.0) × (h.1 ≡ k.1) = one-behind h.0 k.0 h.1 k.1 (sym h.2 ∙ k.2) in
+      two-served (is_word h.1 (codes "served")) h.0 o p h.3
+      (subst (λ (x : List Bytes × Bytes). IsServedNet (is_word x.1 (codes "served")) x.0 p) (λ i. (sym same.0 i, sym same.1 i)) k.3) so
+
+  two-for-all : (fields : List Bytes) (o p : Option (ℕ × Asked)) → IsForAll fields o → IsForAll fields p → IsSoOf (option_and_then order_by p) → IsSoOf (option_and_then order_by o)
+  two-for-all (w ∷ g ∷ star ∷ more) o p h k so = two-of-script for_all_by words-for-all (w ∷ g ∷ codes "A" ∷ more) o p h k so
+  two-for-all _ o p h k so = subst (λ x. IsSoOf (option_and_then order_by x)) (k ∙ sym h) so
+
+  two-asked-as : (f : Form) (fields : List Bytes) (o p : Option (ℕ × Asked)) → IsAskedAs f fields o → IsAskedAs f fields p → IsSoOf (option_and_then order_by p) → IsSoOf (option_and_then order_by o)
+  two-asked-as form.Net fields o p h k so = two-declared fields o p h k so
+  two-asked-as form.ForAll fields o p h k so = two-for-all fields o p h k so
+  two-asked-as form.Script fields o p h k so = two-of-script asked_by words-asked fields o p h k so
+  two-asked-as form.Drop fields o p h k so = subst (λ x. IsSoOf (option_and_then order_by x)) (k ∙ sym h) so
+  two-asked-as form.Left fields o p h k so = subst (λ x. IsSoOf (option_and_then order_by x)) (k ∙ sym h) so
+  two-asked-as form.Show fields o p h k so = subst (λ x. IsSoOf (option_and_then order_by x)) (k ∙ sym h) so
+
+  two-orders-by : (fields : List Bytes) (r s : Option (ℕ × Request)) (o p : Option (ℕ × Order)) → IsRequested fields r → IsRequested fields s → IsOrderedBy r fields o → IsOrderedBy s fields p → IsSoOf p → IsSoOf o
+  two-orders-by fields (Some r) (Some s) o p h k e f so =
+      subst IsSoOf (sym e) (two-readings (λ g x. Q g (order.Request x)) words.requests fields (Some r) (Some s) h k (subst IsSoOf f so))
+  two-orders-by fields (Some r) None o p h k e f so = absurd (read-twice fields r h k)
+  two-orders-by fields None (Some s) o p h k e f so = absurd (read-twice fields s k h)
+  two-orders-by fields None None o p h k e f so = subst IsSoOf (sym e.2) (two-asked-as (form_in fields) fields e.0 f.0 e.1 f.1 (subst IsSoOf f.2 so))
+
+  two-orders : (fields : List Bytes) (o p : Option (ℕ × Order)) → IsOrdered fields o → IsOrdered fields p → IsSoOf p → IsSoOf o
+  two-orders fields o p h k so = two-orders-by fields h.0 k.0 o p h.1 k.1 h.2 k.2 so
+
+module _ (ws : Waiting) (n : Named) where
+  words-of-orders : AreOfWords (IsBadOrder ws n)
+  words-of-orders = record {
+    requests = λ g. record {
+      node = λ u q r bad. bad;
+      roster = λ d e names shares bad. same-rosters (record { settling = true; closing = true }) ws n g d e names shares ∙ bad;
+      delivery = λ u b c bad. bad;
+      reslice = λ i u q r bad. bad;
+    };
+    bytes = λ g b c bad. bad;
+  }
+
+  -- no line is bad that orders what is not
+  not-bad-order : (fields : List Bytes) (g : ℕ) (o : Order) → IsOrdered fields (Some (g, o)) → ¬ IsBadOrder ws n g o → ¬ RefusesOrder ws n fields
+  not-bad-order fields g o ordered fine bad = fine (two-orders (IsBadOrder ws n) words-of-orders fields (Some (g, o)) bad.0 ordered bad.1 bad.2)
 
 -- ---- what is told is not bad
 
@@ -147,10 +278,21 @@ planned-is-job g (event.OpenSlot i) old new h = declared-has-nodes g old.submitt
 planned-is-job g (event.CloseSlot i) old new h = absurd h
 planned-is-job g _ old new h = declared-has-nodes g old.submitted h.0.0 h.0.1
 
+-- what may be asked of a network that has nodes is not bad
+not-bad-to-ask : (b : Bool) (ws : Waiting) (g : ℕ) → b ≡ true → ¬ HasNoNode ws g → ¬ IsBadToAsk b ws g
+not-bad-to-ask true ws g is nodes bad = nodes bad
+not-bad-to-ask false ws g is nodes bad = false≢true is
+
 pub bad_lines_tell_nothing : BadLinesTellNothing
-bad_lines_tell_nothing old new fields printed bad (declared h named followed logs) = taken all_allowed old.waiting old.named fields new.waiting h bad
-bad_lines_tell_nothing old new fields printed bad (answered g e asked h) = not-bad all_allowed old.waiting old.named fields g (Apply e) asked (begun-has-nodes g old h.0 h.2) bad
-bad_lines_tell_nothing old new fields printed bad (settled g i asked h) = not-bad all_allowed old.waiting old.named fields g (Settle i) asked (begun-has-nodes g old h.0 h.2) bad
+bad_lines_tell_nothing old new fields printed bad (declared g d ordered h) = not-bad-order old.waiting old.named fields g (order.Request (Declare d)) ordered (λ k. false≢true (sym k ∙ h.taken)) bad
+bad_lines_tell_nothing old new fields printed bad (declared_served g b ordered h) = not-bad-order old.waiting old.named fields g (order.Serve b) ordered (λ k. false≢true (sym k ∙ h.taken)) bad
+bad_lines_tell_nothing old new fields printed bad (answered g e ordered may h) =
+    not-bad-order old.waiting old.named fields g (order.Request (Apply e)) ordered (not-bad-to-ask (may_apply old.named g e) old.waiting g may (begun-has-nodes g old h.0 h.2)) bad
+bad_lines_tell_nothing old new fields printed bad (settled g i ordered may h) =
+    not-bad-order old.waiting old.named fields g (order.Request (Settle i)) ordered (not-bad-to-ask (not (is_in old.named.served g)) old.waiting g (ap not may) (begun-has-nodes g old h.0 h.2)) bad
+bad_lines_tell_nothing old new fields printed bad (delivered g bytes rs ordered may h) =
+    not-bad-order old.waiting old.named fields g (order.ForAll bytes) ordered (not-bad-to-ask (not (is_unserved old.waiting old.named g)) old.waiting g (ap not may) (begun-has-nodes g old h.0 h.1)) bad
+bad_lines_tell_nothing old new fields printed bad (dropped g ordered may h) = not-bad-order old.waiting old.named fields g order.Drop ordered (λ k. false≢true (sym may ∙ k)) bad
 
 pub bad_lines_submit_nothing : BadLinesSubmitNothing
 bad_lines_submit_nothing old new fields printed bad (submits_declaration h named history) = taken no_settling old.waiting old.named fields new.waiting h bad

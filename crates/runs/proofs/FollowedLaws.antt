@@ -1,5 +1,5 @@
 -- What is kept of open slots is what the journals have.
-use Rattle.std.proofs.Common.{◌≡◌, ◌∙◌, ◌==◌, ◌||◌, ◌&&◌, ◌+◌, ◌≤◌, ◌<◌, ℕ, suc, Bool, true, false, not, nat_lt, List, [], ◌∷◌, length, Option, Some, None, Ok, Err, is_some, if◌then◌else◌, refl, sym, ap, ap₂, subst, arith, slice_get}
+use Rattle.std.proofs.Common.{◌≡◌, ◌∙◌, ◌==◌, ◌||◌, ◌&&◌, ◌+◌, ◌≤◌, ◌<◌, ℕ, suc, Bool, true, false, not, nat_lt, List, [], ◌∷◌, length, Option, Some, None, Ok, Err, cond, is_some, if◌then◌else◌, refl, sym, ap, ap₂, subst, arith, slice_get}
 use Rattle.std.specs.Prelude.{Result, Vec, option_map}
 use Rattle.std.specs.Global.{Global}
 use Rattle.std.proofs.lemmas.Bool.{and_parts, eqb-true, false≢true, lt-ltb, ltb-true, not-true, or_parts}
@@ -22,27 +22,35 @@ use Rattle.configuration.specs.Configs.{names_of}
 use Rattle.configuration.proofs.Names.{names-differ}
 use Rattle.network.specs.Decoding.{step_of}
 use Rattle.hoststep.specs.Logs.{Log, with_entry}
-use Rattle.world.specs.Worlds.{IsAnsweredAt, items_of, log_at, logs_set, logs_with}
+use Rattle.std.specs.BTreeMap.{is_at}
+use Rattle.std.specs.Map.{remove_entry}
+use Rattle.std.specs.Ordering.{nat_cmp}
+use Rattle.types.specs.Statements.{Sent}
+use Rattle.world.specs.Worlds.{IsAnsweredAt, items_of, log_at, logs_set, logs_with, logs_without}
 use Rattle.world.proofs.Histories.{has-number}
+use Rattle.world.proofs.Leaving.{at-left}
 use Rattle.hoststep.proofs.Growing.{run-grows}
 use Rattle.requests.specs.Outlines.{Outlined, IsConfigOf, IsRevised, Waiting, fresh, waiting_at, waiting_without}
-use Rattle.runs.specs.Emissions.{OpenSlot, OpenSlots, at_number, changed_at, handed_on}
-use Rattle.runs.specs.Followed.{Followed, also_followed, followed_with, turn_of, after_turn, with_handed}
+use Rattle.runs.specs.Emissions.{OpenSlot, OpenSlots, at_number, changed_at, first_emitted, handed_on}
+use Rattle.runs.specs.Followed.{Followed, IsUnfollowed, also_followed, followed_with, names_at, turn_of, after_turn, with_handed}
 use Rattle.runs.specs.Hosting.{Hosting, IsApplied, IsBegun, logs_joined, noted_answer, new_hosting}
 use Rattle.runs.specs.Joining.{NetworkIsNamedAt}
-use Rattle.requests.specs.Naming.{Named, is_in, named_with}
+use Rattle.requests.specs.Naming.{IsForgotten, Named, is_in, named_with, served_with}
 use Rattle.requests.specs.Preparing.{Prepares}
-use Rattle.runs.specs.Running.{RefusesLine, Tells}
-use Rattle.runs.specs.Running.Tells.{declared, answered, settled}
+use Rattle.runs.specs.Running.{IsDeclaredSo, RefusesLine, Tells}
+use Rattle.runs.specs.Running.Tells.{declared, declared_served, answered, settled, delivered, dropped}
+use Rattle.runs.specs.ServedNetworks.{AllIsHeard as heard, AreDelivered, AreDeliveredTo, AreTold, IsDropped, IsHeardAt, IsHeardByOthers, IsHeardOf, IsServed}
+use Rattle.runs.specs.ServedNetworks.AreDelivered.{next_node, none_left}
+use Rattle.runs.specs.ServedNetworks.AreTold.{all_told, one_told}
 use Rattle.runs.specs.Settling.{AreHandedOn, HasSettledAt, IsHeardBy, handed_over, hearing}
 use Rattle.runs.specs.Settling.IsHeardBy.{by_all, by_one, refused}
 use Rattle.runs.specs.Settling.AreHandedOn.{none_waits, one_waits, cut_short}
-use Rattle.requests.specs.Taking.{declared_count, takes}
+use Rattle.requests.specs.Taking.{declared_count, is_declared, takes}
 use Rattle.network.specs.declared.plan.Emission.{Emission}
 use Rattle.requests.specs.declared.request.Declaration.{Declaration}
 use Rattle.requests.specs.declared.request.Declaration.TheVariants.{Net, Node, Roster}
 use Rattle.runs.specs.ByJournals.{AreFollowed, AreSlotsAt, AreSlotsBy, FollowsJournals, HaveRoom, IsSlotBy, LinesFollowJournals, RunsFollowJournals}
-use Rattle.runs.proofs.NumberedRows.{at-changed, at-inserted, at-removed, at-set, equal-flip, has-inserted, keys-inserted, length-inserted, length-removed, length-set, once-changed, once-inserted, once-removed, once-set}
+use Rattle.runs.proofs.NumberedRows.{at-changed, at-inserted, at-removed, at-set, equal-flip, has-inserted, is-at, keys-inserted, length-inserted, length-removed, length-set, once-changed, once-inserted, once-removed, once-set}
 use Rattle.runs.proofs.NetsByEntries.{slots-next, turn_in}
 
 -- ---- journals by number
@@ -180,9 +188,9 @@ room-as ws us n k logs now w e same h =
     let counted = h.counted in
     let short : length now ≤ length n.running = omega (arith, count, counted) in
     subst (λ (x : Waiting × Named). HaveRoom x.0 x.1 now) (λ i. (sym w i, sym e i))
-    (record { joined = λ g j. h.joined g (sym (same.there g) ∙ j); counted = short; apart = h.apart; once = h.once; few = h.few })
+    (record { joined = λ g. same.there g ∙ h.joined g; counted = short; apart = h.apart; once = h.once; few = h.few })
 
-applied-follows : (g : ℕ) (e : Event) (r : Result (Vec Out Global) Refusal) (old new : Hosting) → FollowsJournals old → IsApplied g e r old new → FollowsJournals new
+pub applied-follows : (g : ℕ) (e : Event) (r : Result (Vec Out Global) Refusal) (old new : Hosting) → FollowsJournals old → IsApplied g e r old new → FollowsJournals new
 applied-follows g e r old new s h = record {
   room = room-as old.waiting new.waiting old.named new.named old.logs new.logs h.2.0 h.2.1 (answer-numbers old.logs new.logs g (step_of e) (items_of r) (log_at old.logs g) refl h.0) s.room;
   slots = answer-follows old.logs new.logs old.followed new.followed g e (items_of r) (log_at old.logs g) refl h.0 h.1 s.slots;
@@ -214,11 +222,7 @@ module _ (ws : Waiting) (n : Named) (logs : List Log) (f : Followed) (g : ℕ) (
   not-running = room.apart g waits-there
 
   not-joined : is_some (log_at logs g) ≡ false
-  not-joined = go (is_some (log_at logs g)) refl
-    where
-      go : (b : Bool) → is_some (log_at logs g) ≡ b → b ≡ false
-      go true e = absurd (false≢true (sym not-running ∙ room.joined g e))
-      go false e = refl
+  not-joined = room.joined g ∙ not-running
 
   few-joined : length logs < 4096
   few-joined =
@@ -245,16 +249,20 @@ module _ (ws : Waiting) (n : Named) (logs : List Log) (f : Followed) (g : ℕ) (
 
   joined-room : HaveRoom (waiting_without ws g) (named_with g (Some d) n) (logs_joined c logs)
   joined-room = record {
-    joined = λ j h. has-inserted g j n.running ∙ joined j (c.number == j) refl (sym (ap (λ (o : Option Log). is_some o) (ap (λ (xs : List Log). log_at xs j) joins-there ∙ log-with logs (record { config = c; entries = [] }) j)) ∙ h);
+    joined = λ j. ap (λ (o : Option Log). is_some o) (ap (λ (xs : List Log). log_at xs j) joins-there ∙ log-with logs (record { config = c; entries = [] }) j) ∙ (joined j (c.number == j) refl ∙ sym (has-inserted g j n.running));
     counted = let a = length-log-with logs (record { config = c; entries = [] }) in let b = ap (λ (xs : List Log). length xs) joins-there in let e = keys-inserted g n.running not-running in let k = room.counted in omega (arith, a, b, e, k);
     apart = λ j h. has-inserted g j n.running ∙ apart j (g == j) refl (sym (ap (λ (o : Option Outlined). is_some o) (at-removed g j ws room.once)) ∙ h);
     once = once-removed g ws room.once;
     few = let a = length-removed g ws waits-there in let e = keys-inserted g n.running not-running in let k = room.few in omega (arith, a, e, k);
   }
     where
-      joined : (j : ℕ) (b : Bool) → (c.number == j) ≡ b → is_some (if c.number == j then Some (record { config = c; entries = [] }) else log_at logs j) ≡ true → ((g == j) || is_in n.running j) ≡ true
-      joined j true e h = ap (λ k. (k == j) || is_in n.running j) (sym is.number) ∙ rw e refl
-      joined j false e h = ap (λ k. (k == j) || is_in n.running j) (sym is.number) ∙ rw e (room.joined j (sym (ap (λ b. is_some (if b then Some (record { config = c; entries = [] }) else log_at logs j)) e) ∙ h))
+      joined : (j : ℕ) (b : Bool) → (c.number == j) ≡ b → is_some (if c.number == j then Some (record { config = c; entries = [] }) else log_at logs j) ≡ ((g == j) || is_in n.running j)
+      joined j true e =
+          ap (λ b. is_some (if b then Some (record { config = c; entries = [] }) else log_at logs j)) e
+          ∙ sym (ap (λ b. b || is_in n.running j) (ap (λ k. k == j) (sym is.number) ∙ e))
+      joined j false e =
+          ap (λ b. is_some (if b then Some (record { config = c; entries = [] }) else log_at logs j)) e
+          ∙ (room.joined j ∙ sym (ap (λ b. b || is_in n.running j) (ap (λ k. k == j) (sym is.number) ∙ e)))
 
       apart : (j : ℕ) (b : Bool) → (g == j) ≡ b → is_some (if g == j then None else at_number ws j) ≡ true → ((g == j) || is_in n.running j) ≡ false
       apart j true e h = absurd (none-some (sym (ap (λ b. is_some (if b then None else at_number ws j)) e) ∙ h))
@@ -263,7 +271,7 @@ module _ (ws : Waiting) (n : Named) (logs : List Log) (f : Followed) (g : ℕ) (
           none-some k = false≢true k
       apart j false e h = rw e (room.apart j (sym (ap (λ b. is_some (if b then None else at_number ws j)) e) ∙ h))
 
-begun-follows : (g : ℕ) (old new : Hosting) → FollowsJournals old → IsBegun g old new → FollowsJournals new
+pub begun-follows : (g : ℕ) (old new : Hosting) → FollowsJournals old → IsBegun g old new → FollowsJournals new
 begun-follows g old new s h = go (waiting_at old.waiting g) refl h.0 h.1
   where
     go : (o : Option Outlined) → waiting_at old.waiting g ≡ o → NetworkIsNamedAt (also_followed logs_joined) g o old.waiting new.waiting (old.logs, old.followed) (new.logs, new.followed) → new.named ≡ named_with g o old.named → FollowsJournals new
@@ -368,12 +376,12 @@ handed-follows g slot logs f s j =
     go true (Some l) None h = h
     go true (Some l) (Some m) h = (h.0, slots-handed l.config l.entries slot m h.1)
 
-heard-follows : (g slot : ℕ) (e : Emission) (us : List ℕ) (old new : Hosting) (ended : Option Refusal) → FollowsJournals old → IsHeardBy g slot e us old ended new → FollowsJournals new
+pub heard-follows : (g slot : ℕ) (e : Emission) (us : List ℕ) (old new : Hosting) (ended : Option Refusal) → FollowsJournals old → IsHeardBy g slot e us old ended new → FollowsJournals new
 heard-follows g slot e us old new ended s by_all = s
 heard-follows g slot e us old new ended s (by_one {u = u} outs answer rest) = heard-follows g slot e _ _ new ended (applied-follows g (hearing slot u e) (Ok outs) old _ s answer) rest
 heard-follows g slot e us old new ended s (refused {u = u} r answer) = applied-follows g (hearing slot u e) (Err r) old new s answer
 
-over-follows : (g slot : ℕ) (ended : Option Refusal) (h : Hosting) → FollowsJournals h → FollowsJournals (handed_over g slot ended h)
+pub over-follows : (g slot : ℕ) (ended : Option Refusal) (h : Hosting) → FollowsJournals h → FollowsJournals (handed_over g slot ended h)
 over-follows g slot None h s = record { room = s.room; slots = handed-follows g slot h.logs h.followed s.slots }
 over-follows g slot (Some r) h s = s
 
@@ -389,26 +397,138 @@ settled-follows g slot None o old new ended s h = subst FollowsJournals (sym h.0
 settled-follows g slot (Some names) None old new ended s h = subst FollowsJournals (sym h.0) s
 settled-follows g slot (Some names) (Some o) old new ended s h = handed-on-follows g slot names old new ended s h
 
+-- ---- a served network
+
+pub told-follows : (g slot : ℕ) (e : Emission) (us : List ℕ) (old new : Hosting) → FollowsJournals old → AreTold g slot e us old new → FollowsJournals new
+told-follows g slot e us old new s all_told = s
+told-follows g slot e us old new s (one_told ended heard memory rest) = told-follows g slot e _ _ new (heard-follows g slot e _ old _ ended s heard) rest
+
+pub all-heard-follows : (g slot : ℕ) (names : List ℕ) (old new : Hosting) → FollowsJournals old → heard g slot names old new → FollowsJournals new
+all-heard-follows g slot names old new s (heard.none_waits none) = s
+all-heard-follows g slot names old new s (heard.one_waits e is each rest) =
+    all-heard-follows g slot names _ new (over-follows g slot None _ (told-follows g slot e names old _ s each)) rest
+
+heard-of-follows : (b : Bool) (g : ℕ) (r : Result (List Out) Refusal) (old new : Hosting) → FollowsJournals old → IsHeardOf b g r old new → FollowsJournals new
+heard-of-follows false g r old new s h = subst FollowsJournals (sym h) s
+heard-of-follows true g (Err r) old new s h = subst FollowsJournals (sym h) s
+heard-of-follows true g (Ok outs) old new s h = at (first_emitted outs) h
+  where
+    by : (slot : ℕ) (names : Option (List ℕ)) → IsHeardByOthers g slot names old new → FollowsJournals new
+    by slot None k = subst FollowsJournals (sym k) s
+    by slot (Some names) k = all-heard-follows g slot names old new s k
+
+    at : (e : Option Sent) → IsHeardAt g e old new → FollowsJournals new
+    at None k = subst FollowsJournals (sym k) s
+    at (Some e) k = by e.slot (names_at old.followed g) k
+
+pub served-follows : (g : ℕ) (e : Event) (r : Result (Vec Out Global) Refusal) (old new : Hosting) → FollowsJournals old → IsServed g e r old new → FollowsJournals new
+served-follows g e r old new s h = heard-of-follows (is_in old.named.served g) g (items_of r) h.0 new (applied-follows g e r old h.0 s h.1) h.2
+
+delivered-follows : (g : ℕ) (bytes : Bytes) (us : List ℕ) (old new : Hosting) (rs : List (Result (Vec Out Global) Refusal)) → FollowsJournals old → AreDelivered g bytes us old rs new → FollowsJournals new
+delivered-follows g bytes us old new rs s none_left = s
+delivered-follows g bytes us old new rs s (next_node {u = u} r one rest) = delivered-follows g bytes _ _ new _ (served-follows g (event.Deliver u bytes) r old _ s one) rest
+
+all-delivered-follows : (g : ℕ) (bytes : Bytes) (names : Option (List ℕ)) (old new : Hosting) (rs : List (Result (Vec Out Global) Refusal)) → FollowsJournals old → AreDeliveredTo g bytes names old rs new → FollowsJournals new
+all-delivered-follows g bytes None old new rs s h = subst FollowsJournals (sym h.0) s
+all-delivered-follows g bytes (Some names) old new rs s h = delivered-follows g bytes names old new rs s h
+
+-- ---- a network that is taken back
+
+length-without : (g : ℕ) (ls : List Log) → length (logs_without g ls) + (if is_some (log_at ls g) then 1 else 0) ≤ length ls
+length-without g [] = omega arith
+length-without g (l ∷ ls) = go (l.config.number == g) (log_at ls g) (length-without g ls)
+  where
+    go : (b : Bool) (o : Option Log) → length (logs_without g ls) + (if is_some o then 1 else 0) ≤ length ls
+        → length (if not b then l ∷ logs_without g ls else logs_without g ls) + (if is_some (if b then Some l else o) then 1 else 0) ≤ suc (length ls)
+    go true None h = omega (arith, h)
+    go true (Some k) h = omega (arith, h)
+    go false None h = omega (arith, h)
+    go false (Some k) h = omega (arith, h)
+
+entries-without : {X : Type 0} (g : ℕ) (es : List (ℕ × X)) → length (remove_entry (is_at (nat_cmp g)) es) ≤ length es
+entries-without g [] = omega arith
+entries-without g (e ∷ es) = go (is_at (nat_cmp g) e.0) (entries-without g es)
+  where
+    go : (b : Bool) → length (remove_entry (is_at (nat_cmp g)) es) ≤ length es → length (cond b es (e ∷ remove_entry (is_at (nat_cmp g)) es)) ≤ suc (length es)
+    go true h = omega arith
+    go false h = omega (arith, h)
+
+module _ (g : ℕ) (old : Hosting) (n : Named) (f : Followed) (s : FollowsJournals old) (named : IsForgotten g old.named n) (followed : IsUnfollowed g old.followed f) where
+  joined-without : (j : ℕ) → is_some (log_at (logs_without g old.logs) j) ≡ is_in n.running j
+  joined-without j = ap (λ (o : Option Log). is_some o) (at-left g old.logs j) ∙ go (g == j) refl
+    where
+      go : (b : Bool) → (g == j) ≡ b → is_some (if b then None else log_at old.logs j) ≡ is_in n.running j
+      go true e = sym (ap (is_in n.running) (sym (eqb-true g j e)) ∙ named.running.gone)
+      go false e = s.room.joined j ∙ sym (named.running.others j (is-at g j ∙ e))
+
+  apart-without : (j : ℕ) → is_some (waiting_at (waiting_without old.waiting g) j) ≡ true → is_in n.running j ≡ false
+  apart-without j h = go (g == j) refl (sym (ap (λ (o : Option Outlined). is_some o) (at-removed g j old.waiting s.room.once)) ∙ h)
+    where
+      go : (b : Bool) → (g == j) ≡ b → is_some (if b then None else at_number old.waiting j) ≡ true → is_in n.running j ≡ false
+      go true e k = absurd (false≢true k)
+      go false e k = named.running.others j (is-at g j ∙ e) ∙ s.room.apart j k
+
+  few-without : (a b c d x y : ℕ) → a + x ≤ b → b ≤ c → d + y ≡ c → x ≡ y → a ≤ d
+  few-without a b c d x y h k l e = omega (arith, h, k, l, e)
+
+  room-without : HaveRoom (waiting_without old.waiting g) n (logs_without g old.logs)
+  room-without = record {
+    joined = joined-without;
+    counted = few-without (length (logs_without g old.logs)) (length old.logs) (length old.named.running) (length n.running) _ _ (length-without g old.logs) s.room.counted named.running.count
+        (ap (λ b. if b then 1 else 0) (s.room.joined g));
+    apart = apart-without;
+    once = once-removed g old.waiting s.room.once;
+    few = fewer (length (waiting_without old.waiting g)) (length old.waiting) (length n.running) (length old.named.running) _ (entries-without g old.waiting) named.running.count s.room.few;
+  }
+    where
+      fewer : (a b c d x : ℕ) → a ≤ b → c + x ≡ d → b + d ≤ 4096 → a + c ≤ 4096
+      fewer a b c d x h k l = omega (arith, h, k, l)
+
+  slots-without : AreFollowed (logs_without g old.logs) f
+  slots-without j =
+      subst (λ (o : Option Log). AreSlotsAt o (at_number f j)) (sym (at-left g old.logs j)) (go (g == j) refl)
+    where
+      go : (b : Bool) → (g == j) ≡ b → AreSlotsAt (if b then None else log_at old.logs j) (at_number f j)
+      go true e = subst (λ (o : Option OpenSlots). AreSlotsAt None o) (sym (ap (at_number f) (sym (eqb-true g j e)) ∙ followed.gone)) tt
+      go false e = subst (λ (o : Option OpenSlots). AreSlotsAt (log_at old.logs j) o) (sym (followed.others j (is-at g j ∙ e))) (s.slots j)
+
+dropped-follows : (b : Bool) (g : ℕ) (old new : Hosting) (text : Bytes) → FollowsJournals old → IsDropped b g old text new → FollowsJournals new
+dropped-follows false g old new text s h = subst FollowsJournals (sym h.1) s
+dropped-follows true g old new text s h = record {
+  room = subst (λ (x : Waiting × List Log). HaveRoom x.0 new.named x.1) (λ i. (sym h.1.waiting i, sym h.1.logs i)) (room-without g old new.named new.followed s h.1.named h.1.followed);
+  slots = subst (λ (x : List Log). AreFollowed x new.followed) (sym h.1.logs) (slots-without g old new.named new.followed s h.1.named h.1.followed);
+}
+
 -- ---- a line, and all lines
 
-line-follows : (old new : Hosting) (fields : List Bytes) (printed : Option Bytes) → FollowsJournals old → Tells old fields printed new → FollowsJournals new
-line-follows old new fields printed s (declared p named kept logs) = record {
-  room = subst (λ (x : Named × List Log). HaveRoom new.waiting x.0 x.1) (λ i. (sym named i, sym logs i)) (declared-room p.0 p.1 old.waiting new.waiting old.named old.logs p.3 p.4 s.room);
-  slots = subst (λ (x : List Log × Followed). AreFollowed x.0 x.1) (λ i. (sym logs i, sym kept i)) s.slots;
-}
-line-follows old new fields printed s (answered g e asked put) = applied-follows g e put.1 put.0 new (begun-follows g old put.0 s put.2) put.3
-line-follows old new fields printed s (settled g slot asked done) = settled-follows g slot _ _ done.0 new done.1 (begun-follows g old done.0 s done.2) done.3
+served-room : (g : ℕ) (ws : Waiting) (n : Named) (logs : List Log) → HaveRoom ws n logs → HaveRoom ws (served_with g n) logs
+served-room g ws n logs room = record { joined = room.joined; counted = room.counted; apart = room.apart; once = room.once; few = room.few }
 
-first-follows : FollowsJournals new_hosting
+declared-follows : (g : ℕ) (d : Declaration) (n : Named) (old new : Hosting) → FollowsJournals old → HaveRoom new.waiting n old.logs → IsDeclaredSo g d n old new → FollowsJournals new
+declared-follows g d n old new s room h = record {
+  room = subst (λ (x : Named × List Log). HaveRoom new.waiting x.0 x.1) (λ i. (sym h.named_is i, sym h.logs i)) room;
+  slots = subst (λ (x : List Log × Followed). AreFollowed x.0 x.1) (λ i. (sym h.logs i, sym h.followed i)) s.slots;
+}
+
+pub line-follows : (old new : Hosting) (fields : List Bytes) (printed : Option Bytes) → FollowsJournals old → Tells old fields printed new → FollowsJournals new
+line-follows old new fields printed s (declared g d ordered h) = declared-follows g d old.named old new s (declared-room g d old.waiting new.waiting old.named old.logs h.taken h.prepared s.room) h
+line-follows old new fields printed s (declared_served g b ordered h) =
+    declared-follows g (Net b) (served_with g old.named) old new s (served-room g new.waiting old.named old.logs (declared-room g (Net b) old.waiting new.waiting old.named old.logs h.taken h.prepared s.room)) h
+line-follows old new fields printed s (answered g e ordered may put) = served-follows g e put.1 put.0 new (begun-follows g old put.0 s put.2) put.3
+line-follows old new fields printed s (settled g slot ordered may done) = settled-follows g slot _ _ done.0 new done.1 (begun-follows g old done.0 s done.2) done.3
+line-follows old new fields printed s (delivered g bytes rs ordered may done) = all-delivered-follows g bytes (names_at done.0.followed g) done.0 new rs (begun-follows g old done.0 s done.1) done.2
+line-follows old new fields printed s (dropped g ordered may done) = dropped-follows (is_declared old.waiting old.named g) g old new _ s done
+
+pub first-follows : FollowsJournals new_hosting
 first-follows = record {
-  room = record { joined = λ g h. absurd (false≢true h); counted = omega arith; apart = λ g h. absurd (false≢true h); once = tt; few = omega arith };
+  room = record { joined = λ g. refl; counted = omega arith; apart = λ g h. absurd (false≢true h); once = tt; few = omega arith };
   slots = λ g. tt;
 }
 
 pub lines_follow_journals : LinesFollowJournals
 lines_follow_journals = (first-follows, line-follows)
 
-passed-follows : (s t : Hosting) (line written : Bytes) → FollowsJournals s → Passes Tells s line written t → FollowsJournals t
+pub passed-follows : (s t : Hosting) (line written : Bytes) → FollowsJournals s → Passes Tells s line written t → FollowsJournals t
 passed-follows s t line written h (skipped empty) = h
 passed-follows s t line written h (told runs are tells) = line-follows s t _ _ h tells
 

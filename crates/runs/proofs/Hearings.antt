@@ -1,6 +1,6 @@
 -- Hearings, one after the other, and the line of a slot that settles.
-use Rattle.std.proofs.Common.{◌≡◌, ◌∙◌, ◌==◌, ◌++◌, ◌+◌, ◌<◌, ℕ, suc, Bool, true, false, List, [], ◌∷◌, length, drop, get_or, Option, Some, None, Ok, Err, refl, sym, ap, subst, arith}
-use Rattle.std.specs.Prelude.{◌↔◌, IsTrue, Result, Vec, not}
+use Rattle.std.proofs.Common.{◌≡◌, ◌≢◌, ◌∙◌, ◌==◌, ◌++◌, ◌+◌, ◌-◌, ◌<◌, ◌≤◌, take, take_all, append_assoc, ℕ, suc, Bool, true, false, List, [], ◌∷◌, length, drop, get_or, Option, Some, None, Ok, Err, refl, sym, ap, subst, arith}
+use Rattle.std.specs.Prelude.{◌↔◌, IsTrue, OnOk, Result, Vec, not}
 use Rattle.std.specs.Result.{result_err}
 use Rattle.std.specs.Global.{Global}
 use Rattle.std.proofs.lemmas.Bool.{eq-eqb, eqb-true, false≢true}
@@ -12,9 +12,14 @@ use Rattle.types.specs.declared.event.Refusal.{Refusal}
 use Rattle.network.specs.declared.plan.Emission.{Emission}
 use Rattle.runs.specs.Followed.{waiting}
 use Rattle.runs.specs.Hosting.{Hosting, IsApplied}
-use Rattle.runs.specs.Settling.{AreHandedOn, IsHanded, IsHeardBy, hearing, others}
+use Rattle.runs.specs.Settling.{AreHandedOn, IsHanded, IsHeardBy, handed_over, hearing, others}
 use Rattle.runs.specs.Settling.IsHeardBy.{by_all, by_one, refused}
 use Rattle.runs.specs.Settling.AreHandedOn.{one_waits, cut_short}
+use Rattle.types.specs.declared.event.Event.TheVariants.{Deliver}
+use Rattle.types.specs.declared.event.Refusal.TheVariants.{NoMemory}
+use Rattle.runs.specs.ServedNetworks.{AllIsHeard as heard, AreDelivered, AreTold, IsServed}
+use Rattle.runs.specs.ServedNetworks.AreDelivered.{next_node, none_left}
+use Rattle.runs.specs.ServedNetworks.AreTold.{all_told, one_told}
 
 -- ---- one emission
 
@@ -99,3 +104,45 @@ pub waits-on : (g slot : ℕ) (names : List ℕ) (old new : Hosting) (first : Op
     → first ≡ waiting old.followed g slot → first ≡ Some e → IsHanded g slot e names old handed new → handed ≡ Some r → AreHandedOn g slot names old (Some r) new
 waits-on g slot names old new first e handed r is some h short =
     cut_short e r (sym is ∙ some) (subst (λ x. IsHanded g slot e names old x new) short h)
+
+-- ---- where a refusal does not end it
+
+pub told-alone : (g slot : ℕ) (e : Emission) (u : ℕ) (old new : Hosting) (ended : Option Refusal) → IsHeardBy g slot e (others e (u ∷ [])) old ended new → ended ≢ Some NoMemory
+    → AreTold g slot e (u ∷ []) old new
+told-alone g slot e u old new ended heard memory = one_told ended heard memory all_told
+
+pub told-first : (g slot : ℕ) (e : Emission) (u : ℕ) (us : List ℕ) (old now new : Hosting) → AreTold g slot e (u ∷ []) old now → AreTold g slot e us now new → AreTold g slot e (u ∷ us) old new
+told-first g slot e u us old now new (one_told ended heard memory all_told) rest = one_told ended heard memory rest
+
+-- the same where it is the first that waits, as the code reads it
+pub first-is-told : (g slot : ℕ) (names : List ℕ) (old now after new : Hosting) (first : Option Emission) (e : Emission) → first ≡ waiting old.followed g slot → first ≡ Some e
+    → AreTold g slot e names old now → after ≡ handed_over g slot None now → heard g slot names after new → heard g slot names old new
+first-is-told g slot names old now after new first e is some each handed rest =
+    heard.one_waits e (sym is ∙ some) each (subst (λ (h : Hosting). heard g slot names h new) handed rest)
+
+-- ---- bytes for each of some nodes
+
+pub none-delivered : (g : ℕ) (bytes us : List ℕ) (h : Hosting) → length us < 1 → AreDelivered g bytes us h [] h
+none-delivered g bytes [] h small = none_left
+none-delivered g bytes (u ∷ us) h small = absurd (omega (arith, small))
+
+pub all-delivered : (g : ℕ) (bytes us others : List ℕ) (u : ℕ) (old now new : Hosting) (r : Result (Vec Out Global) Refusal) (before mid after : List (Result (Vec Out Global) Refusal)) → us ≡ u ∷ others
+    → IsServed g (Deliver u bytes) r old now → mid ≡ before ++ r ∷ []
+    → ((rs : List (Result (Vec Out Global) Refusal)) × (after ≡ mid ++ rs) × AreDelivered g bytes others now rs new) → (rs : List (Result (Vec Out Global) Refusal)) × (after ≡ before ++ rs) × AreDelivered g bytes us old rs new
+all-delivered g bytes us others u old now new r before mid after is one pushed rest = (
+  r ∷ rest.0,
+  rest.1 ∙ ap (λ l. l ++ rest.0) pushed ∙ append_assoc before (r ∷ []) rest.0,
+  subst (λ l. AreDelivered g bytes l old (r ∷ rest.0) new) (sym is) (next_node r one rest.2),
+)
+
+pub first-and-rest : {X : Type 0} (xs : List X) (x : X) → x ≡ get_or xs 0 x → 1 ≤ length xs → xs ≡ x ∷ take (length xs - 1) (drop 1 xs)
+first-and-rest [] x is le = absurd (omega (arith, le))
+first-and-rest (y ∷ ys) x is le =
+    let count : length (y ∷ ys) - 1 ≡ length ys = omega arith in
+    let all : take (length (y ∷ ys) - 1) ys ≡ ys = ap (λ n. take n ys) count ∙ take_all (length ys) ys (omega arith) in
+    ap (λ z. z ∷ ys) (sym is) ∙ ap (λ zs. x ∷ zs) (sym all)
+
+-- what is so where nothing failed is what follows from it
+pub on-ok : {A E P Q : Type 0} (r : Result A E) → OnOk r P → (P → Q) → OnOk r Q
+on-ok (Ok x) p f = f p
+on-ok (Err e) p f = tt

@@ -1,6 +1,7 @@
 pub mod BadLines
 mod Hearings
 mod JoiningLaws
+mod Origins
 mod Places
 mod UnprintedLines
 mod NumberedRows
@@ -10,3 +11,4 @@ mod NetsByEntries
 pub mod FollowedLaws
 pub mod Handing
 pub mod HeardByNumber
+pub mod Waiting

@@ -137,7 +137,7 @@ among-nodes (h ∷ hs) u = go (h.name == u) (among-nodes hs u)
 
 -- ---- what was emitted first
 
-first-from : (i u : ℕ) (os : List Out) (e : Sent) → AreFrom i u (emissions os) → first_emitted os ≡ Some e → (e.sender ≡ u) × (e.slot ≡ i)
+pub first-from : (i u : ℕ) (os : List Out) (e : Sent) → AreFrom i u (emissions os) → first_emitted os ≡ Some e → (e.sender ≡ u) × (e.slot ≡ i)
 first-from i u [] e by is = absurd (cc)
 first-from i u (ArmNomination r ∷ os) e by is = first-from i u os e by is
 first-from i u (ArmBallot n ∷ os) e by is = first-from i u os e by is

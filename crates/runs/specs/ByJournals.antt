@@ -20,7 +20,7 @@ use Rattle.scripts.specs.Script.{Bytes}
 use Rattle.scripts.specs.Runs.{HasRun}
 use Rattle.requests.specs.Outlines.{Waiting, waiting_at}
 use Rattle.runs.specs.Emissions.{OpenSlot, OpenSlots, at_number}
-use Rattle.runs.specs.Followed.{Followed, open_slot}
+use Rattle.runs.specs.Followed.{Followed, open_slot, waiting}
 use Rattle.runs.specs.Hosting.{Hosting, new_hosting}
 use Rattle.requests.specs.Naming.{Named, is_in}
 use Rattle.runs.specs.Running.{RefusesLine, Tells}
@@ -91,10 +91,10 @@ AreSlotsAt (Some l) (Some m) = IsRun l.config l.entries × AreSlotsBy l.config l
 abbrev pub AreFollowed : List Log → Followed → Type 0
 AreFollowed logs f = (g : ℕ) → AreSlotsAt (log_at logs g) (at_number f g)
 
--- each network that has joined was declared before an event named it, none that waits has joined, and there is room for
--- all that wait
+-- the networks that have joined are those that were declared before an event named them, none that waits has joined, and
+-- there is room for all that wait
 pub record HaveRoom (ws : Waiting) (n : Named) (logs : List Log) : Type 0 where
-  pub joined : (g : ℕ) → is_some (log_at logs g) ≡ true → is_in n.running g ≡ true
+  pub joined : (g : ℕ) → is_some (log_at logs g) ≡ is_in n.running g
   pub counted : length logs ≤ length n.running
   pub apart : (g : ℕ) → is_some (waiting_at ws g) ≡ true → is_in n.running g ≡ false
   pub once : StandOnce ws
@@ -126,3 +126,22 @@ KeptAreFound =
     → open_slot h.followed g i ≡ Some o → slice_get o.emissions n ≡ Some e
     → (x : Sent) × (slice_get (sent_at i (since_opened i l.entries)) n ≡ Some x)
     × (emission (node_where_open (instances_at (state_of l.config l.entries).slots i) e.from) e.kind e.number ≡ Some x)
+
+-- ---- served networks
+
+-- in a served network no emission waits at any slot
+abbrev pub NothingWaits : Hosting → Type 0
+NothingWaits h = (g i : ℕ) → is_in h.named.served g ≡ true → waiting h.followed g i ≡ None
+
+-- so it is before the first line, and each line that is run keeps it; so what waits where an event of a served network was
+-- applied is what that event gave out
+abbrev pub LinesLeaveNothing : Type 0
+LinesLeaveNothing =
+    NothingWaits new_hosting
+    × ((old new : Hosting) (fields : List Bytes) (printed : Option Bytes) → FollowsJournals old → NothingWaits old → Tells old fields printed new → NothingWaits new)
+
+-- so it is after the lines of any text, all of which were run from the first one on
+abbrev pub RunsLeaveNothing : Type 0
+RunsLeaveNothing =
+    (text : Bytes) (before after : Option Bytes) (new : Hosting)
+    → HasRun Tells RefusesLine new_hosting text before after (Ok tt) new → NothingWaits new

@@ -1,7 +1,7 @@
 -- The networks of a script that run, with what their nodes have emitted and decided at open slots.
-use Rattle.std.specs.Prelude.{ℕ, List, [], Option, Some, None, option_map, option_and_then}
+use Rattle.std.specs.Prelude.{◌≡◌, ℕ, false, List, [], Option, Some, None, option_map, option_and_then}
 use Rattle.std.specs.Ordering.{nat_cmp}
-use Rattle.std.specs.BTreeMap.{insert_entry}
+use Rattle.std.specs.BTreeMap.{insert_entry, is_at}
 use Rattle.types.specs.declared.event.Event.{Event}
 use Rattle.types.specs.declared.event.Event.TheVariants as event
 use Rattle.types.specs.declared.event.Out.{Out}
@@ -24,6 +24,11 @@ followed_with c f = insert_entry nat_cmp f c.number (record { names = names_of c
 -- a network joins others, and is followed from then on
 abbrev pub also_followed : {S : Type 0} → Joins S → Joins (S × Followed)
 also_followed joins c s = (joins c s.0, followed_with c s.1)
+
+-- the network of a number is followed no more, and all others are as before
+pub record IsUnfollowed (g : ℕ) (old new : Followed) : Type 0 where
+  pub gone : at_number new g ≡ None
+  pub others : (j : ℕ) → is_at (nat_cmp g) j ≡ false → at_number new j ≡ at_number old j
 
 -- the hosted nodes of a network that is followed, ascending
 abbrev pub names_at : Followed → ℕ → Option (List ℕ)

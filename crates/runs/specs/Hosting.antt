@@ -1,7 +1,6 @@
 -- The networks of one script, and what events make of them.
 use Rattle.std.specs.Prelude.{◌≡◌, ℕ, Bool, not, ◌&&◌, nat_lt, is_some, length, List, [], Result, Ok, Err, Vec, if◌then◌else◌}
 use Rattle.std.specs.Global.{Global}
-use Rattle.scripts.specs.Script.{Bytes}
 use Rattle.types.specs.declared.event.Event.{Event}
 use Rattle.types.specs.declared.event.Out.{Out}
 use Rattle.types.specs.declared.event.Refusal.{Refusal}
@@ -11,7 +10,6 @@ use Rattle.requests.specs.Outlines.{Waiting, waiting_at}
 use Rattle.runs.specs.Followed.{Followed, also_followed, followed_after, turn_of}
 use Rattle.runs.specs.Joining.{HaveJoined, NetworkIsNamed, Joins}
 use Rattle.requests.specs.Naming.{Named, named_with, new_named}
-use Rattle.requests.specs.Replies.{IsReply}
 
 -- the networks that wait for an event that names them, the numbers that events have named, and of the networks that
 -- joined what is kept for lines that settle, and the journals
@@ -63,9 +61,3 @@ abbrev pub IsApplied : ℕ → Event → Result (Vec Out Global) Refusal → Hos
 IsApplied g e r old new =
     IsAnswered old.logs g e r new.logs × (new.followed ≡ noted_answer g e (items_of r) old.followed)
     × DeclaresNothing old new
-
--- the same where the event may be the first that names the network, and the answer is printed
-abbrev pub IsPut : ℕ → Event → Hosting → Bytes → Hosting → Type 0
-IsPut g e old text new =
-    (begun : Hosting) × (r : Result (Vec Out Global) Refusal) × IsBegun g old begun × IsApplied g e r begun new
-    × IsReply (items_of r) text

@@ -5,6 +5,7 @@ pub mod Emissions
 pub mod Followed
 pub mod SettledLines
 pub mod Settling
+pub mod ServedNetworks
 pub mod Running
 pub mod ByJournals
 pub mod Unprinted

@@ -1,11 +1,25 @@
--- Replies to what was submitted, as answers.
-use Rattle.std.specs.Prelude.{List, Result, Ok, Err}
+-- Replies to what was submitted, as answers; and the lines of answers.
+use Rattle.std.specs.Prelude.{◌++◌, List, [], ◌∷◌, Result, Ok, Err, Vec}
+use Rattle.std.specs.Global.{Global}
+use Rattle.std.specs.List.{flat_map}
 use Rattle.crowds.specs.declared.reply.Reply.{Reply}
 use Rattle.crowds.specs.declared.reply.Reply.TheVariants as reply
 use Rattle.types.specs.declared.event.Out.{Out}
 use Rattle.types.specs.declared.event.Refusal.{Refusal}
+use Rattle.scripts.specs.Script.{Bytes}
+use Rattle.world.specs.Worlds.{items_of}
+use Rattle.requests.specs.Replies.{reply_text}
 
 -- a reply as the answer to an event
 abbrev pub answer_of : Reply → Result (List Out) Refusal
 answer_of (reply.Done outs) = Ok outs.items
 answer_of (reply.Refused r) = Err r
+
+-- the line of an answer behind a line feed (10)
+abbrev pub line_behind : Result (Vec Out Global) Refusal → Bytes
+line_behind r = 10 ∷ reply_text (items_of r)
+
+-- the lines of answers, with a line feed between each and the next
+abbrev pub lines_of : List (Result (Vec Out Global) Refusal) → Bytes
+lines_of [] = []
+lines_of (r ∷ rs) = reply_text (items_of r) ++ flat_map line_behind rs

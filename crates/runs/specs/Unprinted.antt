@@ -1,6 +1,7 @@
 -- Lines of scripts that are run for what becomes of the networks, and print nothing.
-use Rattle.std.specs.Prelude.{◌≡◌, ◌≢◌, ◌==◌, ◌&&◌, ◌++◌, ℕ, nat_lt, length, position, List, [], ◌∷◌, Option, Some, None, Result, Err, Vec}
+use Rattle.std.specs.Prelude.{◌≡◌, ◌≢◌, ◌==◌, ◌&&◌, ◌++◌, ◌+◌, ℕ, Bool, not, nat_lt, length, All, List, [], ◌∷◌, Option, Some, None, Result, Err, Vec, unwrap_or, if◌then◌else◌}
 use Rattle.std.specs.Global.{Global}
+use Rattle.std.specs.List.{list_any}
 use Rattle.scripts.specs.Script.{Bytes}
 use Rattle.types.specs.declared.event.Event.{Event}
 use Rattle.types.specs.declared.event.Out.{Out}
@@ -8,9 +9,10 @@ use Rattle.types.specs.declared.event.Refusal.{Refusal}
 use Rattle.types.specs.declared.event.Refusal.TheVariants.{NoMemory}
 use Rattle.hoststep.specs.Logs.{Log}
 use Rattle.world.specs.Worlds.{log_at}
-use Rattle.runs.specs.Hosting.{Hosting, IsApplied, IsBegun, IsFinished}
+use Rattle.runs.specs.Hosting.{Hosting, IsBegun, IsFinished}
 use Rattle.runs.specs.Running.{RefusesLine, Tells}
-use Rattle.runs.specs.Running.Tells.{declared, answered, settled}
+use Rattle.runs.specs.Running.Tells.{declared, declared_served, answered, settled, delivered, dropped}
+use Rattle.runs.specs.ServedNetworks.{IsServed}
 use Rattle.runs.specs.Settling.{HasSettled}
 use Rattle.requests.specs.Telling.{NamesNet}
 
@@ -24,13 +26,16 @@ pub record Unprinted : Type 0 where
   pub hosting : Hosting
   pub trace : Option Trace
 
--- no event of a line that is told was refused for want of memory: not the one that it asks for, and no hearing where it
--- settles
+-- no event of a line that is told was refused for want of memory: none that it asks for, and no hearing where it settles.
+-- (Those that follow an event of a served network never were.)
 abbrev pub HadMemory : {old new : Hosting} {fields : List Bytes} {printed : Option Bytes}
     → Tells old fields printed new → Type 0
-HadMemory (declared taken named followed logs) = Unit {0}
-HadMemory (answered g e asked put) = put.1 ≢ Err NoMemory
-HadMemory (settled g slot asked done) = done.1 ≢ Some NoMemory
+HadMemory (declared g d asked done) = Unit {0}
+HadMemory (declared_served g b asked done) = Unit {0}
+HadMemory (answered g e asked may put) = put.1 ≢ Err NoMemory
+HadMemory (settled g slot asked may done) = done.1 ≢ Some NoMemory
+HadMemory (delivered g bytes rs asked may done) = All (λ r. r ≢ Err NoMemory) rs
+HadMemory (dropped g asked may done) = Unit {0}
 
 -- the line names the network of a number, and the networks after it are those after it in a script whose answers are
 -- printed, where no event of the line was refused for want of memory
@@ -43,7 +48,7 @@ pub record IsRunBy (g : ℕ) (fields : List Bytes) (old new : Hosting) : Type 0 
 -- an event is put to the network of a number, whatever it answers but that memory is short
 abbrev pub IsPutUnprinted : ℕ → Event → Hosting → Hosting → Type 0
 IsPutUnprinted g e old new =
-    (begun : Hosting) × (r : Result (Vec Out Global) Refusal) × IsBegun g old begun × IsApplied g e r begun new
+    (begun : Hosting) × (r : Result (Vec Out Global) Refusal) × IsBegun g old begun × IsServed g e r begun new
     × (r ≢ Err NoMemory)
 
 -- a slot of the network of a number is to settle, whatever ends it but that memory is short
@@ -71,11 +76,30 @@ TellsUnprinted old fields printed new = (g : ℕ) × (printed ≡ None) × IsRun
 abbrev pub RefusesUnprinted : Unprinted → List Bytes → Type 0
 RefusesUnprinted old fields = RefusesLine old.hosting fields
 
--- the line that an entry of a network comes from, counted from 0: the first one after which the network has more
--- entries than come before it
+-- after a line that names the network of a number there are more entries than so many, or not
+abbrev pub has_more : ℕ → ℕ → ℕ × ℕ → Bool
+has_more g n line = (line.0 == g) && nat_lt n line.1
+
+abbrev pub has_no_more : ℕ → ℕ → ℕ × ℕ → Bool
+has_no_more g n line = (line.0 == g) && not (nat_lt n line.1)
+
+-- the line that an entry of a network comes from, by the lines from a number on: the first one after which, as after each
+-- later one that names the network, it has more entries than come before that one. (After one that takes the network back
+-- it has none.)
+abbrev pub origin_from : ℕ → Trace → ℕ → ℕ → Option ℕ
+origin_from k [] g n = None
+origin_from k (line ∷ t) g n =
+    if has_more g n line && not (list_any (has_no_more g n) t) then Some k else origin_from (k + 1) t g n
+
+-- the same with one line more behind those so far, as it was found among those
+abbrev pub origin_with : Option ℕ → ℕ → ℕ × ℕ → ℕ → ℕ → Option ℕ
+origin_with found k line g n =
+    if line.0 == g then (if nat_lt n line.1 then Some (unwrap_or found k) else None) else found
+
+-- the same, counted from 0
 abbrev pub origin_in : Option Trace → ℕ → ℕ → Option ℕ
 origin_in None g n = None
-origin_in (Some t) g n = position (λ line. (line.0 == g) && nat_lt n line.1) t
+origin_in (Some t) g n = origin_from 0 t g n
 
 -- after the last line all networks that wait and have nodes have joined
 abbrev pub IsFinishedUnprinted : Unprinted → Unprinted → Type 0

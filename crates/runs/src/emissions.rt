@@ -338,7 +338,7 @@ fn speaker_place(speakers: &[Speaker], name: &NodeId) -> Option<usize>
 }
 
 /// What was emitted first.
-fn first_emitted(outs: &[Out]) -> Option<&Envelope>
+pub(crate) fn first_emitted(outs: &[Out]) -> Option<&Envelope>
     ensures { option_map (λ e. e.now) result ≡ first_emitted outs.now }
 {
     match outs {

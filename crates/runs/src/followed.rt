@@ -2,7 +2,7 @@
 
 ghost use Rattle.std.specs.Prelude.{◌≡◌, ◌<◌, ◌^◌, [], IfOk, IfSome, OnOk, is_some, option_map, string_bytes};
 ghost use Rattle.runs.specs.Emissions.{at_number};
-ghost use Rattle.runs.specs.Followed.{followed_with, handed_at, names_at, followed_after, open_slot, turn_of, waiting, with_handed};
+ghost use Rattle.runs.specs.Followed.{IsUnfollowed, followed_with, handed_at, names_at, followed_after, open_slot, turn_of, waiting, with_handed};
 ghost use Rattle.runs.specs.SettledLines.{settled_text};
 
 use crate::emissions::{OpenSlot, OpenSlots};
@@ -54,6 +54,13 @@ impl Followed {
             // Memory: the map has no room.
             Err(_) => Err(AllocError),
         }
+    }
+
+    /// The network of a number was taken back: it is followed no more.
+    pub fn forget(&mut self, number: u32)
+        ensures { IsUnfollowed number self.old self.new }
+    {
+        let _slots = self.running.remove(&number);
     }
 
     /// The hosted nodes of a network, ascending, where it is followed.

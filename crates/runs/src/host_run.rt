@@ -1,27 +1,40 @@
 //! What runs the lines of a script of networks.
 
-ghost use Rattle.std.specs.Prelude.{◌≡◌, ◌≢◌, ◌<◌, ◌^◌, ◌∷◌, [], Err, IfOk, IfSome, OnOk, Some, is_some, map, option_map, string_bytes};
+ghost use Rattle.std.specs.Prelude.{◌≡◌, ◌≢◌, ◌<◌, ◌^◌, ◌∷◌, ◌++◌, [], All, Err, IfOk, IfSome, List, None, Ok, OnOk, Result, Some, Vec, false, is_some, map, option_map, string_bytes, true};
+ghost use Rattle.std.specs.Global.{Global};
 ghost use Rattle.types.specs.declared.event.Event.TheVariants.{Hear};
+ghost use Rattle.types.specs.declared.event.Out.{Out};
+ghost use Rattle.types.specs.declared.event.Refusal.{Refusal};
 ghost use Rattle.types.specs.declared.event.Refusal.TheVariants.{NoMemory};
-ghost use Rattle.runs.specs.ByJournals.{KeptAreFound, LinesFollowJournals, RunsFollowJournals};
+ghost use Rattle.runs.specs.ByJournals.{KeptAreFound, LinesFollowJournals, LinesLeaveNothing, RunsFollowJournals, RunsLeaveNothing};
 ghost use Rattle.runs.specs.Followed.{handed_at, names_at, open_slot, waiting};
-ghost use Rattle.runs.specs.Hosting.{IsApplied, IsBegun, IsFinished, IsPut, new_hosting};
+ghost use Rattle.runs.specs.Hosting.{IsApplied, IsBegun, IsFinished, new_hosting};
+ghost use Rattle.runs.specs.ReplyLines.{lines_of};
+ghost use Rattle.runs.specs.ServedNetworks.{IsDropped, IsPut, IsTakenBack};
 ghost use Rattle.runs.specs.Unprinted.{IsPutUnprinted, IsRunBy, IsSettledUnprinted};
-ghost use Rattle.runs.specs.Running.{BadLinesTellNothing, RefusesLine};
+ghost use Rattle.scripts.specs.Script.{Bytes as Text};
+ghost use Rattle.runs.specs.Running.{BadLinesTellNothing, IsPutToAll, RefusesLine, Tells};
+ghost use Rattle.requests.specs.Ordering.{Orders};
 ghost use Rattle.runs.specs.Settling.{AreHandedOn, HandedOnIsCounted, HasSettled, HeardWaitsOn, IsHanded, IsHeardBy, IsSettled, line_of, others};
-ghost use Rattle.requests.specs.Telling.{HasNoNode};
+ghost use Rattle.requests.specs.Naming.{is_in};
+ghost use Rattle.requests.specs.Taking.{is_declared};
+ghost use Rattle.requests.specs.Telling.{HasNoNode, IsBadOrder, is_hearing as hears, is_unserved, may_apply};
+ghost use Rattle.requests.specs.declared.order.Order.TheVariants as order;
+ghost use Rattle.requests.specs.declared.request.Request.TheVariants.{Apply, Settle};
 
 use crate::followed::turn_of;
 use crate::nets::Nets;
-use crate::replies::reply;
+use crate::replies::{replies, reply};
 use envstore::VecShelf;
 use network::Emission;
-use requests::{Request, line_of_refusal, request_of};
+use requests::{Order, Request, line_of_refusal, order_of};
 use scripts::{LineError, LineRunner};
 use std::alloc::{AllocError, Global};
 use std::marker::Model;
-use types::{Event, NodeId, Out, Refusal};
+use types::{Bytes, Event, NodeId, Out, Refusal};
 use world::World;
+
+mod serving;
 
 /// The networks of one script: what their lines have declared, and the journals of those that an event has
 /// named.
@@ -71,8 +84,8 @@ impl HostRun {
         self.nets.finish(&mut self.world)
     }
 
-    /// Runs a line without saying what it answers, and gives the number of the network that it names. Where
-    /// the line's event, or a hearing where it settles, is refused for want of memory, memory is short.
+    /// Runs a line without saying what it answers, and gives the number of the network that it names. Where an
+    /// event of the line, or a hearing that follows, is refused for want of memory, memory is short.
     pub(crate) fn run_unprinted(
         &mut self,
         alloc: Global,
@@ -81,30 +94,64 @@ impl HostRun {
         ensures told { IfOk result (λ g. IsRunBy g (map (λ field. field.now) fields.now) self.old self.new) }
         ensures bad { result ≡ Err LineError.Bad → RefusesLine self.old (map (λ field. field.now) fields.now) }
     {
-        let (number, request) = request_of(alloc, fields)?;
-        match request {
-            Request::Apply(event) => {
-                self.put(number, event)?;
+        let (number, order) = order_of(alloc, fields)?;
+        match order {
+            Order::Request(request) => {
+                self.request_unprinted(alloc, number, request)?;
                 Ok(number)
             }
-            Request::Settle(slot) => {
-                self.settle_unprinted(alloc, number, slot)?;
+            Order::Serve(budgets) => {
+                self.nets.serve(number, budgets)?;
                 Ok(number)
             }
-            Request::Declare(declaration) => {
-                self.nets.prepare(number, declaration)?;
+            Order::ForAll(bytes) => {
+                self.put_to_all_unprinted(alloc, number, bytes)?;
+                Ok(number)
+            }
+            Order::Drop => {
+                let _line = self.take_back(alloc, number)?;
                 Ok(number)
             }
         }
     }
 
-    /// Puts an event to the network of a number, whatever it answers but that memory is short.
-    fn put(&mut self, number: u32, event: Event) -> Result<(), LineError>
-        ensures told { OnOk result (IsPutUnprinted number event self.old self.new) }
-        ensures bad { result ≡ Err LineError.Bad → HasNoNode self.old.waiting number }
+    /// What lines may ask of any network, without saying what is answered.
+    fn request_unprinted(
+        &mut self,
+        alloc: Global,
+        number: u32,
+        request: Request,
+    ) -> Result<(), LineError>
+        ensures told { OnOk result ((fields : List Text) → Orders fields number (order.Request request) → IsRunBy number fields self.old self.new) }
+        ensures bad { result ≡ Err LineError.Bad → IsBadOrder self.old.waiting self.old.named number (order.Request request) }
     {
+        match request {
+            Request::Apply(event) => {
+                self.put(alloc, number, event)?;
+                Ok(())
+            }
+            Request::Settle(slot) => {
+                self.settle_unprinted(alloc, number, slot)?;
+                Ok(())
+            }
+            Request::Declare(declaration) => {
+                self.nets.prepare(number, declaration)?;
+                Ok(())
+            }
+        }
+    }
+
+    /// Puts an event to the network of a number, whatever it answers but that memory is short.
+    fn put(&mut self, alloc: Global, number: u32, event: Event) -> Result<(), LineError>
+        ensures may { OnOk result (may_apply self.old.named number event ≡ true) }
+        ensures told { OnOk result (IsPutUnprinted number event self.old self.new) }
+        ensures bad { result ≡ Err LineError.Bad → IsBadOrder self.old.waiting self.old.named number (order.Request (Apply event)) }
+    {
+        if !self.may_apply(number, &event) {
+            return Err(LineError::Bad);
+        }
         self.begin(number)?;
-        let answer = self.apply(number, event)?;
+        let answer = self.serve(alloc, number, event)?;
         but_for_memory(answer.err())?;
         Ok(())
     }
@@ -112,12 +159,35 @@ impl HostRun {
     /// Hands on what was emitted at a slot of the network of a number, whatever ends it but that memory is
     /// short.
     fn settle_unprinted(&mut self, alloc: Global, number: u32, slot: u64) -> Result<(), LineError>
+        ensures may { OnOk result (is_in self.old.named.served number ≡ false) }
         ensures told { OnOk result (IsSettledUnprinted number slot self.old self.new) }
-        ensures bad { result ≡ Err LineError.Bad → HasNoNode self.old.waiting number }
+        ensures bad { result ≡ Err LineError.Bad → IsBadOrder self.old.waiting self.old.named number (order.Request (Settle slot)) }
     {
+        if self.nets.is_served(number) {
+            return Err(LineError::Bad);
+        }
         self.begin(number)?;
         let ended = self.settle(alloc, number, slot)?;
         but_for_memory(ended)?;
+        Ok(())
+    }
+
+    /// Puts bytes to all nodes of the network of a number, whatever they answer but that memory is short.
+    fn put_to_all_unprinted(
+        &mut self,
+        alloc: Global,
+        number: u32,
+        bytes: Bytes,
+    ) -> Result<(), LineError>
+        ensures may { OnOk result (is_unserved self.old.waiting self.old.named number ≡ false) }
+        ensures told { OnOk result ((rs : List (Result (Vec Out Global) Refusal)) × IsPutToAll number bytes self.old rs self.new × All (λ r. r ≢ Err NoMemory) rs) }
+        ensures bad { result ≡ Err LineError.Bad → IsBadOrder self.old.waiting self.old.named number (order.ForAll bytes) }
+    {
+        let answers = self.put_to_all(alloc, number, &bytes)?;
+        drop(bytes);
+        let had_memory = had_memory(&answers);
+        drop(answers);
+        had_memory?;
         Ok(())
     }
 
@@ -142,24 +212,119 @@ impl HostRun {
         Ok(answer)
     }
 
+    /// Whether lines may ask the network of a number for this event.
+    fn may_apply(&self, number: u32, event: &Event) -> bool
+        ensures { result ≡ may_apply self.now.named number event.now }
+    {
+        !(self.nets.is_served(number) && is_hearing(event))
+    }
+
+    /// What lines may ask of any network: the line that is printed, if there is one.
+    fn request(
+        &mut self,
+        alloc: Global,
+        number: u32,
+        request: Request,
+    ) -> Result<Option<String>, LineError>
+        ensures told { IfOk result (λ printed. (fields : List Text) → Orders fields number (order.Request request) → Tells self.old fields (option_map string_bytes printed) self.new) }
+        ensures bad { result ≡ Err LineError.Bad → IsBadOrder self.old.waiting self.old.named number (order.Request request) }
+    {
+        match request {
+            Request::Apply(event) => Ok(Some(self.answer(alloc, number, event)?)),
+            Request::Settle(slot) => Ok(Some(self.settle_line(alloc, number, slot)?)),
+            Request::Declare(declaration) => {
+                self.nets.prepare(number, declaration)?;
+                Ok(None)
+            }
+        }
+    }
+
     /// The line that is printed of an event of the network of a number.
     fn answer(&mut self, alloc: Global, number: u32, event: Event) -> Result<String, LineError>
+        ensures may { OnOk result (may_apply self.old.named number event ≡ true) }
         ensures told { IfOk result (λ text. IsPut number event self.old (string_bytes text) self.new) }
-        ensures bad { result ≡ Err LineError.Bad → HasNoNode self.old.waiting number }
+        ensures bad { result ≡ Err LineError.Bad → IsBadOrder self.old.waiting self.old.named number (order.Request (Apply event)) }
     {
+        if !self.may_apply(number, &event) {
+            return Err(LineError::Bad);
+        }
         self.begin(number)?;
-        let answer = self.apply(number, event)?;
+        let answer = self.serve(alloc, number, event)?;
         Ok(reply(alloc, &answer)?)
     }
 
     /// The line that is printed of a slot of the network of a number that is to settle.
     fn settle_line(&mut self, alloc: Global, number: u32, slot: u64) -> Result<String, LineError>
+        ensures may { OnOk result (is_in self.old.named.served number ≡ false) }
         ensures told { IfOk result (λ text. IsSettled number slot self.old (string_bytes text) self.new) }
-        ensures bad { result ≡ Err LineError.Bad → HasNoNode self.old.waiting number }
+        ensures bad { result ≡ Err LineError.Bad → IsBadOrder self.old.waiting self.old.named number (order.Request (Settle slot)) }
     {
+        if self.nets.is_served(number) {
+            return Err(LineError::Bad);
+        }
         self.begin(number)?;
         let ended = self.settle(alloc, number, slot)?;
         Ok(self.line_of(alloc, number, slot, ended)?)
+    }
+
+    /// The lines that are printed of bytes for all nodes of the network of a number.
+    fn answer_all(&mut self, alloc: Global, number: u32, bytes: Bytes) -> Result<String, LineError>
+        ensures may { OnOk result (is_unserved self.old.waiting self.old.named number ≡ false) }
+        ensures told { IfOk result (λ text. (rs : List (Result (Vec Out Global) Refusal)) × IsPutToAll number bytes self.old rs self.new × (string_bytes text ≡ lines_of rs)) }
+        ensures bad { result ≡ Err LineError.Bad → IsBadOrder self.old.waiting self.old.named number (order.ForAll bytes) }
+    {
+        let answers = self.put_to_all(alloc, number, &bytes)?;
+        drop(bytes);
+        let lines = replies(alloc, &answers);
+        drop(answers);
+        Ok(lines?)
+    }
+
+    /// Bytes come to all nodes of the network of a number: what is answered. It is a bad line where the network is
+    /// declared and not served, and where it has no node.
+    fn put_to_all(
+        &mut self,
+        alloc: Global,
+        number: u32,
+        bytes: &Bytes,
+    ) -> Result<Vec<Result<Vec<Out>, Refusal>>, LineError>
+        ensures may { OnOk result (is_unserved self.old.waiting self.old.named number ≡ false) }
+        ensures told { IfOk result (λ answers. IsPutToAll number bytes.now self.old answers.items self.new) }
+        ensures bad { result ≡ Err LineError.Bad → IsBadOrder self.old.waiting self.old.named number (order.ForAll bytes.now) }
+    {
+        if self.nets.is_unserved(number) {
+            return Err(LineError::Bad);
+        }
+        self.begin(number)?;
+        Ok(self.deliver_to_all(alloc, number, bytes)?)
+    }
+
+    /// The line that is printed where the network of a number is to be taken back. It is a bad line where it is declared
+    /// and not served.
+    fn take_back(&mut self, alloc: Global, number: u32) -> Result<String, LineError>
+        ensures may { OnOk result (is_unserved self.old.waiting self.old.named number ≡ false) }
+        ensures told { IfOk result (λ text. IsDropped (is_declared self.old.waiting self.old.named number) number self.old (string_bytes text) self.new) }
+        ensures bad { result ≡ Err LineError.Bad → IsBadOrder self.old.waiting self.old.named number order.Drop }
+    {
+        if self.nets.is_unserved(number) {
+            return Err(LineError::Bad);
+        }
+        if !self.nets.is_declared(number) {
+            return Ok(line_of_refusal(alloc, Refusal::NoSuchNetwork)?);
+        }
+        let line = String::from_str(alloc, "ok")?;
+        self.forget(number);
+        Ok(line)
+    }
+
+    /// The network of a number is taken back, with its journal.
+    fn forget(&mut self, number: u32)
+        ensures { IsTakenBack number self.old self.new }
+    {
+        self.nets.forget(number);
+        if let Some(journal) = self.world.remove(number) {
+            drop(journal);
+        }
     }
 
     /// Hands on what was emitted at a slot; answers the first refusal.
@@ -304,14 +469,15 @@ impl LineRunner for HostRun {
     ghost refuses = { RefusesLine };
 
     fn line(&mut self, alloc: Global, fields: &[&[u8]]) -> Result<Option<String>, LineError> {
-        let (number, request) = request_of(alloc, fields)?;
-        match request {
-            Request::Apply(event) => Ok(Some(self.answer(alloc, number, event)?)),
-            Request::Settle(slot) => Ok(Some(self.settle_line(alloc, number, slot)?)),
-            Request::Declare(declaration) => {
-                self.nets.prepare(number, declaration)?;
+        let (number, order) = order_of(alloc, fields)?;
+        match order {
+            Order::Request(request) => Ok(self.request(alloc, number, request)?),
+            Order::Serve(budgets) => {
+                self.nets.serve(number, budgets)?;
                 Ok(None)
             }
+            Order::ForAll(bytes) => Ok(Some(self.answer_all(alloc, number, bytes)?)),
+            Order::Drop => Ok(Some(self.take_back(alloc, number)?)),
         }
     }
 }
@@ -336,6 +502,15 @@ pub fn open_slots_follow_journals()
 pub fn emission_handed_on_was_heard()
     ensures heard { HeardWaitsOn }
     ensures counted { HandedOnIsCounted }
+{}
+
+/// A law: in a served network no emission waits between two lines. So it is before the first line, each line that is
+/// run keeps it, and so it is after the lines of a text, all of which were run. What waits where an event was applied is
+/// what it gave out, then, and that is what the others hear.
+#[tactic(auto, using(crate::proofs::Waiting::lines_leave_nothing))]
+pub fn served_networks_leave_nothing()
+    ensures lines { LinesLeaveNothing }
+    ensures runs { RunsLeaveNothing }
 {}
 
 /// A law: each emission that is kept of an open slot is found by its number among what its node has emitted
@@ -366,5 +541,25 @@ fn hearing(slot: u64, node: NodeId, emission: &Emission) -> Event
         from: emission.from,
         kind: emission.kind,
         number: emission.number,
+    }
+}
+
+/// The event is that a node hears another one.
+fn is_hearing(event: &Event) -> bool
+    ensures { result ≡ hears event.now }
+{
+    matches!(event, Event::Hear { .. })
+}
+
+/// Lets all answers pass but that memory is short, which is an error.
+fn had_memory(answers: &[Result<Vec<Out>, Refusal>]) -> Result<(), AllocError>
+    ensures { OnOk result (All (λ r. r ≢ Err NoMemory) answers.now) }
+{
+    let [answer, others @ ..] = answers else {
+        return Ok(());
+    };
+    match answer {
+        Err(Refusal::NoMemory) => Err(AllocError),
+        _ => had_memory(others),
     }
 }

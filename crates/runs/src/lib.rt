@@ -20,7 +20,7 @@ mod unprinted_run;
 
 pub use host_run::{
     HostRun, bad_lines_tell_nothing, emission_handed_on_was_heard, kept_emissions_are_found,
-    open_slots_follow_journals,
+    open_slots_follow_journals, served_networks_leave_nothing,
 };
 pub use job_run::{JobRun, bad_lines_put_nothing};
 pub use replies::line_of_reply;

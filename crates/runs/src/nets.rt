@@ -1,14 +1,14 @@
 //! The networks of a script, by number: what their lines have declared, and how far they are.
 
 ghost use Rattle.std.specs.Prelude.{◌≡◌, [], Err, IfOk, None, OnOk, false, true};
-ghost use Rattle.requests.specs.Outlines.{IsRevised, fresh, waiting_at, waiting_with, with_node, with_roster};
-ghost use Rattle.runs.specs.Followed.{also_followed};
+ghost use Rattle.requests.specs.Outlines.{IsRevised, fresh, waiting_at, waiting_with, waiting_without, with_node, with_roster};
+ghost use Rattle.runs.specs.Followed.{IsUnfollowed, also_followed};
 ghost use Rattle.runs.specs.Joining.{HasJoined, HaveJoined, NetworkIsNamed, IsTaken};
-ghost use Rattle.requests.specs.Naming.{named_with, new_named};
+ghost use Rattle.requests.specs.Naming.{IsForgotten, is_in, named_with, new_named, served_with};
 ghost use Rattle.requests.specs.Preparing.{Prepares};
-ghost use Rattle.requests.specs.Taking.{takes};
+ghost use Rattle.requests.specs.Taking.{is_declared, takes};
 ghost use Rattle.requests.specs.declared.request.Declaration.TheVariants.{Net, Node, Roster};
-ghost use Rattle.requests.specs.Telling.{HasNoNode};
+ghost use Rattle.requests.specs.Telling.{HasNoNode, is_unserved};
 
 use crate::followed::Followed;
 use crate::networks::Networks;
@@ -76,6 +76,52 @@ impl Nets {
             return Err(LineError::Bad);
         }
         self.waiting.declare(number, budgets)
+    }
+
+    /// Declares a network with its budgets as served. It is a bad line where the number is used already, or where
+    /// 4,096 networks are declared.
+    pub fn serve(&mut self, number: u32, budgets: Budgets) -> Result<(), LineError>
+        ensures prepared { OnOk result (Prepares number (Net budgets) self.old.waiting self.new.waiting) }
+        ensures taken { OnOk result (takes self.old.waiting self.old.named number (Net budgets) ≡ true) }
+        ensures bad { result ≡ Err LineError.Bad → takes self.old.waiting self.old.named number (Net budgets) ≡ false }
+        ensures named { OnOk result (self.new.named ≡ served_with number self.old.named) }
+        ensures followed { self.new.followed ≡ self.old.followed }
+    {
+        self.declare(number, budgets)?;
+        self.named.serve(number)?;
+        Ok(())
+    }
+
+    /// Whether a line has declared the network of a number.
+    pub fn is_declared(&self, number: u32) -> bool
+        ensures { result ≡ is_declared self.now.waiting self.now.named number }
+    {
+        self.waiting.has(number) || self.named.is_running(number)
+    }
+
+    /// Whether the network of a number was declared as served.
+    pub fn is_served(&self, number: u32) -> bool
+        ensures { result ≡ is_in self.now.named.served number }
+    {
+        self.named.is_served(number)
+    }
+
+    /// Whether a line has declared the network of a number, and not as served.
+    pub fn is_unserved(&self, number: u32) -> bool
+        ensures { result ≡ is_unserved self.now.waiting self.now.named number }
+    {
+        self.is_declared(number) && !self.is_served(number)
+    }
+
+    /// The network of a number is taken back, and it is as if no line had named the number.
+    pub fn forget(&mut self, number: u32)
+        ensures waiting { self.new.waiting ≡ waiting_without self.old.waiting number }
+        ensures named { IsForgotten number self.old.named self.new.named }
+        ensures followed { IsUnfollowed number self.old.followed self.new.followed }
+    {
+        let _outline = self.waiting.take(number);
+        self.named.forget(number);
+        self.followed.forget(number);
     }
 
     /// Adds a node to a network. It is a bad line where the network is not declared or has been named by an

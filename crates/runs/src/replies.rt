@@ -1,9 +1,10 @@
 //! The lines of answers and of replies.
 
-ghost use Rattle.std.specs.Prelude.{◌≡◌, IfOk, string_bytes};
+ghost use Rattle.std.specs.Prelude.{◌≡◌, ◌++◌, IfOk, OnOk, string_bytes};
+ghost use Rattle.std.specs.List.{flat_map};
 ghost use Rattle.world.specs.Worlds.{items_of};
 ghost use Rattle.requests.specs.Replies.{IsReply};
-ghost use Rattle.runs.specs.ReplyLines.{answer_of};
+ghost use Rattle.runs.specs.ReplyLines.{answer_of, line_behind, lines_of};
 
 use crowds::Reply;
 use requests::{line_of_outs, line_of_refusal};
@@ -19,6 +20,48 @@ pub(crate) fn reply(alloc: Global, answer: &Result<Vec<Out>, Refusal>) -> Result
         Ok(outs) => line_of_outs(alloc, outs),
         Err(refusal) => line_of_refusal(alloc, *refusal),
     }
+}
+
+/// The lines of answers, with a line feed between each and the next.
+pub(crate) fn replies(
+    alloc: Global,
+    answers: &[Result<Vec<Out>, Refusal>],
+) -> Result<String, AllocError>
+    ensures { IfOk result (λ text. string_bytes text ≡ lines_of answers.now) }
+{
+    let [first, others @ ..] = answers else {
+        return Ok(String::new(alloc));
+    };
+    let mut text = reply(alloc, first)?;
+    push_replies(alloc, &mut text, others)?;
+    Ok(text)
+}
+
+/// Adds the line of each answer behind a line feed.
+fn push_replies(
+    alloc: Global,
+    text: &mut String,
+    answers: &[Result<Vec<Out>, Refusal>],
+) -> Result<(), AllocError>
+    ensures { OnOk result (string_bytes text.new ≡ string_bytes text.old ++ flat_map line_behind answers.now) }
+{
+    for answer in answers {
+        push_reply(alloc, text, answer)?;
+    }
+    Ok(())
+}
+
+/// Adds the line of an answer behind a line feed.
+fn push_reply(
+    alloc: Global,
+    text: &mut String,
+    answer: &Result<Vec<Out>, Refusal>,
+) -> Result<(), AllocError>
+    ensures { OnOk result (string_bytes text.new ≡ string_bytes text.old ++ line_behind answer.now) }
+{
+    let line = reply(alloc, answer)?;
+    text.push('\n')?;
+    text.push_str(&line)
 }
 
 /// The line of a reply to what was submitted: that of the same answer to an event line.

@@ -1,7 +1,7 @@
 //! From which line of a script each entry of a journal comes.
 
 ghost use Rattle.std.specs.Prelude.{◌≡◌, ◌++◌, ◌∷◌, [], Some, OnErr, OnOk};
-ghost use Rattle.runs.specs.Unprinted.{origin_in};
+ghost use Rattle.runs.specs.Unprinted.{origin_in, origin_with};
 
 use std::alloc::{AllocError, Global};
 use std::marker::Model;
@@ -46,8 +46,32 @@ impl Trace {
     pub fn origin(&self, net: u32, entry: usize) -> Option<usize>
         ensures { result ≡ origin_in (Some self.now) net entry }
     {
-        self.lines
-            .iter()
-            .position(|line| line.0 == net && entry < line.1)
+        let mut found = None;
+        for number in 0..self.lines.len() {
+            found = origin_with(found, number, self.lines[number], net, entry);
+        }
+        found
+    }
+}
+
+/// The line from which an entry of a network comes, where it was found among the lines so far, with one line more.
+fn origin_with(
+    found: Option<usize>,
+    number: usize,
+    line: (u32, usize),
+    net: u32,
+    entry: usize,
+) -> Option<usize>
+    ensures { result ≡ origin_with found number line net entry }
+{
+    if line.0 != net {
+        found
+    } else if entry < line.1 {
+        match found {
+            None => Some(number),
+            Some(_) => found,
+        }
+    } else {
+        None
     }
 }

@@ -28,10 +28,10 @@ use Rattle.live.specs.declared.served.Served.{Served}
 use Rattle.questions.specs.Left.{all_left, left_line, left_of}
 use Rattle.questions.specs.Shown.{Shows}
 use Rattle.questions.specs.declared.left.Left.{Left}
-use Rattle.serving.specs.Asking.{IsAsked}
+use Rattle.requests.specs.Asking.{IsAsked}
 use Rattle.serving.specs.Blocks.{block_of, closing_line, closing_of, line_of_telling}
-use Rattle.serving.specs.declared.ask.Ask.{Ask}
-use Rattle.serving.specs.declared.ask.Ask.TheVariants as ask
+use Rattle.requests.specs.declared.ask.Ask.{Ask}
+use Rattle.requests.specs.declared.ask.Ask.TheVariants as ask
 use Rattle.serving.specs.declared.block.Closing.{Closing}
 use Rattle.serving.specs.declared.block.Closing.TheVariants as closing
 use Rattle.serving.specs.declared.all.NodeAnswer.{NodeAnswer}

@@ -1,4 +1,2 @@
-pub mod Forms
-pub mod Asking
 pub mod Blocks
 pub mod Hosts

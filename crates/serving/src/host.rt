@@ -11,14 +11,13 @@ ghost use Rattle.serving.specs.Blocks.{closing_line};
 ghost use Rattle.serving.specs.Hosts.{AreAllAnswered, AreFieldsAnswered, IsAnswer, IsBadLine, IsBegun, IsDeclared, IsDropped, IsEventAnswered, IsLeftText, IsShown, IsShownOf, Serves, begun, left_at, not_shown, not_there, takes};
 
 use crate::all::{closing_of_answers, push_answers, serve_each};
-use crate::ask::{Ask, ask_of};
 use crate::block::{Closing, Place, push_closing, push_served};
 use configuration::NetConfig;
 use envstore::{Shelf, VecShelf};
 use feed::LineServer;
 use live::ServedNetwork;
 use questions::{Left, all_left, left_of, push_left, push_node};
-use requests::{Declaration, Waiting};
+use requests::{Ask, Declaration, Waiting, ask_of};
 use scripts::{LineError, fields_of};
 use std::alloc::{AllocError, Global};
 use std::collections::BTreeMap;

@@ -5,10 +5,7 @@
 #![tactic(auto)]
 
 mod all;
-mod ask;
 mod block;
-mod form;
 mod host;
 
-pub use ask::{Ask, ask_of};
 pub use host::{LiveHost, MOST_NETWORKS};

@@ -39,7 +39,7 @@ has-number (k ∷ ks) g l h = go (k.config.number == g) refl h (has-number ks g 
     go false y e ih = ih e
 
 -- the entries that a history applies to a network that is there are the journal of the steps to it
-history-journal : (h : History) (ls : List Log) (g : ℕ) (l : Log) → map (λ k. k.config) ls ≡ h.configs → log_at ls g ≡ Some l → entries reading h g ≡ journal (new_net l.config) (steps_to g (steps_of reading h.calls))
+pub history-journal : (h : History) (ls : List Log) (g : ℕ) (l : Log) → map (λ k. k.config) ls ≡ h.configs → log_at ls g ≡ Some l → entries reading h g ≡ journal (new_net l.config) (steps_to g (steps_of reading h.calls))
 history-journal h ls g l c at = applied-journal g (steps_of reading h.calls) (nets h.configs) (new_net l.config) (ap (λ cs. net_at (nets cs) g) (sym c) ∙ has-net ls g l at)
 
 -- ---- one event more
@@ -217,7 +217,7 @@ with-own (k ∷ ks) l none = go (k.config.number == l.config.number) (nat_lt k.c
     go false true y e ih = rw y (ih e)
     go false false y e ih = rw (equal l.config.number l.config.number refl) refl
 
-others-left : (g j : ℕ) (calls : List (ℕ × Event)) → (g == j) ≡ false → steps_to j (steps_of reading (filter (λ x. not (x.0 == g)) calls)) ≡ steps_to j (steps_of reading calls)
+pub others-left : (g j : ℕ) (calls : List (ℕ × Event)) → (g == j) ≡ false → steps_to j (steps_of reading (filter (λ x. not (x.0 == g)) calls)) ≡ steps_to j (steps_of reading calls)
 unfolding steps_to
 others-left g j [] other = refl
 others-left g j (c ∷ cs) other = go (c.0 == g) refl (others-left g j cs other)

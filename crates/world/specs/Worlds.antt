@@ -37,6 +37,10 @@ abbrev pub logs_set : Log → List Log → List Log
 logs_set l [] = []
 logs_set l (k ∷ ks) = if k.config.number == l.config.number then l ∷ ks else k ∷ logs_set l ks
 
+-- the journals but that of a number
+abbrev pub logs_without : ℕ → List Log → List Log
+logs_without g ls = filter (λ l. not (l.config.number == g)) ls
+
 -- the place of a network; or it is not there, and this is where it would stand
 abbrev pub IsPlaceOf : List Log → ℕ → Result ℕ ℕ → Type 0
 IsPlaceOf ls g (Ok k) = (index_in (numbers_of ls) g ≡ Some k) × (k < length ls)
@@ -70,6 +74,13 @@ abbrev pub with_history_of : Config → History → History → History
 with_history_of c own h = record h {
   configs = configs_with c h.configs;
   calls = filter (λ x. not (x.0 == c.number)) h.calls ++ filter (λ x. x.0 == c.number) own.calls;
+}
+
+-- a history where a network is not there, without the events that named it
+abbrev pub without_network : ℕ → History → History
+without_network g h = record {
+  configs = filter (λ c. not (c.number == g)) h.configs;
+  calls = filter (λ x. not (x.0 == g)) h.calls;
 }
 
 -- the journals are those of a history: its configurations, and of each network the entries that the history applies to

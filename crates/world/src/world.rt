@@ -1,9 +1,9 @@
 //! The journals of many networks, by number.
 
-ghost use Rattle.std.specs.Prelude.{◌≡◌, ◌<◌, ◌≢◌, [], Err, IfErr, None, OnErr, OnOk, ◌∷◌, length, option_map};
+ghost use Rattle.std.specs.Prelude.{◌≡◌, ◌<◌, ◌≢◌, [], Err, IfErr, None, Ok, OnErr, OnOk, Some, ◌∷◌, length, option_map};
 ghost use Rattle.protocol.specs.Hosts.{History};
 ghost use Rattle.types.specs.declared.event.Refusal.TheVariants.{NoMemory};
-ghost use Rattle.world.specs.Worlds.{IsAnswered, IsNotAdded, IsPlaceOf, AreJournalsOf, with_history_of, and_then, with_new_network, log_at, logs_with};
+ghost use Rattle.world.specs.Worlds.{IsAnswered, IsNotAdded, IsPlaceOf, AreJournalsOf, with_history_of, and_then, with_new_network, without_network, log_at, logs_with, logs_without};
 
 use configuration::NetConfig;
 use envstore::Shelf;
@@ -112,6 +112,19 @@ impl<S: Shelf> World<S> {
         }
     }
 
+    /// The journal of a network leaves, if it is there. A history of the host is from then on one without that network and
+    /// without the events that named its number. It takes no memory.
+    pub fn remove(&mut self, number: u32) -> Option<Journal<S>>
+        ensures which { result ≡ log_at self.old number }
+        ensures rest { self.new ≡ logs_without number self.old }
+        ensures history { (h : History) → AreJournalsOf h self.old → AreJournalsOf (without_network number h) self.new }
+    {
+        match self.place(number) {
+            Ok(at) => Some(self.take_at(at, number)),
+            Err(_) => None,
+        }
+    }
+
     /// The journal of a network, by a binary search.
     pub fn journal(&self, number: u32) -> Option<&Journal<S>>
         ensures { option_map (λ j. j.now) result ≡ log_at self.now number }
@@ -149,6 +162,16 @@ impl<S: Shelf> World<S> {
         ensures { IsPlaceOf self.now number result }
     {
         self.numbers.binary_search(&number)
+    }
+
+    /// The journal at the place of its number leaves.
+    fn take_at(&mut self, at: usize, number: u32) -> Journal<S>
+        requires { IsPlaceOf self.old number (Ok at) }
+        ensures which { Some result ≡ log_at self.old number }
+        ensures rest { self.new ≡ logs_without number self.old }
+    {
+        let _number = self.numbers.remove(at);
+        self.journals.remove(at)
     }
 
     /// A journal joins in the place of its number. With the reason it is handed back where a network of that

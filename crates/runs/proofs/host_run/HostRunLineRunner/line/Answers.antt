@@ -1,15 +1,26 @@
 use Rattle.std.proofs.Common.{refl}
-use Rattle.runs.specs.Running.Tells.{declared, answered, settled}
+use Rattle.runs.specs.Running.Tells.{declared_served, delivered, dropped}
 use Rattle.runs.proofs.host_run.HostRunLineRunner.line.Goals as goal
 
-pub returns-in_ok-answer-in-Apply-clause-told : goal.returns-in_ok-answer-in-Apply-clause-told
-returns-in_ok-answer-in-Apply-clause-told c = answered _ _ (rw c.in-Apply.is at c.in_ok-number.ensures.asked) c.in_ok-answer-in-Apply.ensures.told
+pub returns-in_ok-request-in-Request-clause-told : goal.returns-in_ok-request-in-Request-clause-told
+returns-in_ok-request-in-Request-clause-told c = c.in_ok-request-in-Request.ensures.told _ (rw c.in-Request.is at c.in_ok-number.ensures.ordered)
 
-pub returns-in_ok-settle_line-in-Settle-clause-told : goal.returns-in_ok-settle_line-in-Settle-clause-told
-returns-in_ok-settle_line-in-Settle-clause-told c = settled _ _ (rw c.in-Settle.is at c.in_ok-number.ensures.asked) c.in_ok-settle_line-in-Settle.ensures.told
-
-pub returns-in_ok-prepare-in-Declare-clause-told : goal.returns-in_ok-prepare-in-Declare-clause-told
-returns-in_ok-prepare-in-Declare-clause-told c =
+pub returns-in_ok-serve-in-Serve-clause-told : goal.returns-in_ok-serve-in-Serve-clause-told
+returns-in_ok-serve-in-Serve-clause-told c =
     rw (← c.self.view_is)
-    (declared (_, _, rw c.in-Declare.is at c.in_ok-number.ensures.asked, c.in_ok-prepare-in-Declare.ensures.taken, c.in_ok-prepare-in-Declare.ensures.prepared)
-    c.prepare.ensures.named c.prepare.ensures.followed refl)
+    (declared_served _ _ (rw c.in-Serve.is at c.in_ok-number.ensures.ordered) (record {
+      taken = c.in_ok-serve-in-Serve.ensures.taken;
+      prepared = c.in_ok-serve-in-Serve.ensures.prepared;
+      named_is = c.in_ok-serve-in-Serve.ensures.named;
+      followed = c.serve.ensures.followed;
+      logs = refl;
+    }))
+
+pub returns-in_ok-answer_all-in-ForAll-clause-told : goal.returns-in_ok-answer_all-in-ForAll-clause-told
+returns-in_ok-answer_all-in-ForAll-clause-told c =
+    let told = c.in_ok-answer_all-in-ForAll.ensures.told in
+    rw told.2 (delivered _ _ told.0 (rw c.in-ForAll.is at c.in_ok-number.ensures.ordered) c.in_ok-answer_all-in-ForAll.ensures.may told.1)
+
+pub returns-in_ok-take_back-in-Drop-clause-told : goal.returns-in_ok-take_back-in-Drop-clause-told
+returns-in_ok-take_back-in-Drop-clause-told c =
+    dropped _ (rw c.in-Drop.is at c.in_ok-number.ensures.ordered) c.in_ok-take_back-in-Drop.ensures.may c.in_ok-take_back-in-Drop.ensures.told

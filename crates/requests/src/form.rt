@@ -1,13 +1,13 @@
 //! Which form a line of a live host has.
 
 ghost use Rattle.std.specs.Prelude.{◌≡◌, map};
-ghost use Rattle.serving.specs.Forms.{form_in, is_for_all};
+ghost use Rattle.requests.specs.Forms.{form_in, is_for_all};
 
-use requests::is_word;
+use crate::verbs::is_word;
 
 /// Which form a line has, by its first words.
 #[derive(Clone, Copy, Debug, PartialEq, Eq)]
-pub(crate) enum Form {
+pub enum Form {
     /// `net`: a network is declared, with the word `served` behind its budgets.
     Net,
     /// `deliver N *` and `say N *`: bytes reach each hosted node.

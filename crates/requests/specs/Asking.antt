@@ -9,11 +9,11 @@ use Rattle.requests.specs.declared.request.Request.{Request}
 use Rattle.requests.specs.declared.request.Request.TheVariants as request
 use Rattle.requests.specs.Lines.{slot_in}
 use Rattle.requests.specs.Requests.{IsRequested}
-use Rattle.serving.specs.Forms.{form_in, is_word}
-use Rattle.serving.specs.declared.ask.Ask.{Ask}
-use Rattle.serving.specs.declared.ask.Ask.TheVariants as ask
-use Rattle.serving.specs.declared.form.Form.{Form}
-use Rattle.serving.specs.declared.form.Form.TheVariants as form
+use Rattle.requests.specs.Forms.{form_in, is_word}
+use Rattle.requests.specs.declared.ask.Ask.{Ask}
+use Rattle.requests.specs.declared.ask.Ask.TheVariants as ask
+use Rattle.requests.specs.declared.form.Form.{Form}
+use Rattle.requests.specs.declared.form.Form.TheVariants as form
 
 -- an event is served but for a hearing, which follows what was emitted without a line
 abbrev pub asked_by_event : ℕ → Event → Option (ℕ × Ask)

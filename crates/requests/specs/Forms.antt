@@ -3,8 +3,8 @@ use Rattle.std.specs.Prelude.{◌&&◌, ◌||◌, nat_eq, Bool, List, [], ◌∷
 use lib.Pointwise.{pointwise}
 use Rattle.scripts.specs.Script.{Bytes}
 use Rattle.requests.specs.Lines.{meaning_in}
-use Rattle.serving.specs.declared.form.Form.{Form}
-use Rattle.serving.specs.declared.form.Form.TheVariants as form
+use Rattle.requests.specs.declared.form.Form.{Form}
+use Rattle.requests.specs.declared.form.Form.TheVariants as form
 
 -- a field is this word
 abbrev pub is_word : Bytes → Bytes → Bool

@@ -1,11 +1,12 @@
 //! What a line asks of a live host.
 
 ghost use Rattle.std.specs.Prelude.{◌≡◌, ◌∷◌, IfOk, codes, map};
-ghost use Rattle.serving.specs.Asking.{IsAsked, IsForAll, IsNet, IsOfScript, IsServedNet, asked_by, dropped_in, for_all_by, left_in, shown_in, shown_of};
-ghost use Rattle.serving.specs.Forms.{is_word};
+ghost use Rattle.requests.specs.Asking.{IsAsked, IsForAll, IsNet, IsOfScript, IsServedNet, asked_by, dropped_in, for_all_by, left_in, shown_in, shown_of};
+ghost use Rattle.requests.specs.Forms.{is_word};
 
 use crate::form::{Form, form_of};
-use requests::{Declaration, Request, asked_by, is_word};
+use crate::request::{Declaration, Request, asked_by};
+use crate::verbs::is_word;
 use scripts::{counter_of, name_of, number_of};
 use std::alloc::{AllocError, Global};
 use types::{Bytes, Event, NodeId};
