@@ -7,7 +7,7 @@ use Rattle.std.proofs.lemmas.Slice.Eq.{bytes_eq-Decides}
 use Rattle.std.proofs.lemmas.List.{append-nil, drop-map, take-append-drop, take-map}
 use Rattle.types.proofs.Bools.{both, join, not_is}
 use Rattle.command_line.specs.Words.{Text, AreOperands, is_plain, operands_in, plain_count}
-use Rattle.command_line.specs.Options.{AreOptions, HasForm, behind, no_options, option_in}
+use Rattle.command_line.specs.Options.{AreOptions, HasForm, behind, journal_option, no_options, option_in}
 use Rattle.command_line.specs.Options.AreOptions.{none, more}
 use Rattle.command_line.specs.declared.command.Command.{Command}
 use Rattle.command_line.specs.declared.command.Command.TheVariants as command
@@ -61,6 +61,19 @@ plain_format [] e = refl
 plain_format (x ∷ []) e = elim (x == 45) as (λ b. (if b && false then Some (drop 8 (x ∷ [])) else None) ≡ None) [ true ↦ refl | false ↦ refl ]
 plain_format (x ∷ y ∷ rest) e = simp (not_is (x == 45) e)
 
+plain_journal : (word : Text) → is_plain word ≡ true → behind (codes "--journal") word ≡ None
+plain_journal [] e = refl
+plain_journal (x ∷ []) e = elim (x == 45) as (λ b. (if b && false then Some (drop 9 (x ∷ [])) else None) ≡ None) [ true ↦ refl | false ↦ refl ]
+plain_journal (x ∷ y ∷ rest) e = simp (not_is (x == 45) e)
+
+plain_from : (word : Text) → is_plain word ≡ true → behind (codes "--from") word ≡ None
+plain_from [] e = refl
+plain_from (x ∷ []) e = elim (x == 45) as (λ b. (if b && false then Some (drop 6 (x ∷ [])) else None) ≡ None) [ true ↦ refl | false ↦ refl ]
+plain_from (x ∷ y ∷ rest) e = simp (not_is (x == 45) e)
+
+plain_replay : (asked : Options) (word : Text) (rest : List Text) → is_plain word ≡ true → journal_option asked (word ∷ rest) ≡ None
+plain_replay asked word rest e = rw (plain_journal word e, plain_from word e) refl
+
 ended_plain : (c : Command) (asked : Options) (word : Text) (rest : List Text) → is_plain word ≡ true → option_in c asked (word ∷ rest) ≡ None
 ended_plain command.Table asked word rest e = refl
 ended_plain command.Run asked word rest e = rw (plain_workers word e) refl
@@ -68,7 +81,7 @@ ended_plain command.Closure asked word rest e = rw (plain_format word e) refl
 ended_plain command.Compare asked word rest e = rw (no_option word (codes "explain") e) refl
 ended_plain command.Crowd asked word rest e = refl
 ended_plain command.Serve asked word rest e =
-    rw (plain_workers word e, no_option word (codes "bytes") e, no_option word (codes "explain") e) refl
+    rw (plain_workers word e, plain_replay asked word rest e, no_option word (codes "bytes") e, no_option word (codes "explain") e) refl
 
 ended_dashes : (c : Command) (asked : Options) (rest : List Text) → option_in c asked (codes "--" ∷ rest) ≡ None
 ended_dashes command.Table asked rest = refl

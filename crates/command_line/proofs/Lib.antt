@@ -1,3 +1,4 @@
 pub mod FormLaws
 pub mod CallLaws
 pub mod Short
+pub mod Fronts

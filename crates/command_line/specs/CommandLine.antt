@@ -1,8 +1,8 @@
 -- The command line: which words are which call.
-use Rattle.std.specs.Prelude.{◌≡◌, List, [], ◌∷◌, Option, Some, None, option_map}
+use Rattle.std.specs.Prelude.{◌≡◌, List, [], ◌∷◌, Option, Some, None, option_map, if◌then◌else◌}
 use Rattle.command_line.specs.Words.{Text}
 use Rattle.command_line.specs.Commands.{command_in}
-use Rattle.command_line.specs.Options.{HasForm}
+use Rattle.command_line.specs.Options.{HasForm, lack_journal}
 use Rattle.command_line.specs.Subjects.{format_or_text, subject_in}
 use Rattle.command_line.specs.declared.call.Call.{Call}
 use Rattle.command_line.specs.declared.call.Call.TheVariants.{Table, Run, Closure, Compare, Crowd, Serve}
@@ -20,7 +20,8 @@ call_of command.Compare asked (one ∷ other ∷ net ∷ slot ∷ node ∷ []) =
     option_map (λ subject. Compare one other subject asked.explain) (subject_in net slot node)
 call_of command.Crowd asked (one ∷ other ∷ net ∷ slot ∷ node ∷ []) =
     option_map (λ subject. Crowd one other subject) (subject_in net slot node)
-call_of command.Serve asked [] = Some (Serve asked.workers asked.bytes asked.explain)
+call_of command.Serve asked [] = if lack_journal asked then None
+    else Some (Serve asked.workers asked.bytes asked.explain asked.journal asked.from)
 call_of c asked operands = None
 
 -- the words are this call: the name of a command, and behind it options and operands of which it makes the call

@@ -1,19 +1,20 @@
 -- The words behind a command: its operands, with options before or behind them.
 use Rattle.std.specs.Prelude.{◌≡◌, ◌⊎◌, ◌^◌, ◌==◌, ◌++◌, ◌&&◌, ℕ, true, false, not, List, [], ◌∷◌, codes, length, take, drop, nat_lt}
-use Rattle.std.specs.Prelude.{Option, Some, None, option_and_then, option_map, is_none, if◌then◌else◌}
+use Rattle.std.specs.Prelude.{Bool, Option, Some, None, option_and_then, option_map, is_none, is_some, if◌then◌else◌}
 use Rattle.std.specs.List.{list_all}
 use Rattle.std.specs.Option.{option_or}
 use Rattle.std.specs.Str.{bytes_eq}
 use Rattle.scripts.specs.Words.{word_number}
 use Rattle.command_line.specs.Words.{Text, AreOperands, is_plain}
 use Rattle.command_line.specs.Subjects.{format_in}
+use Rattle.command_line.specs.Replays.{replay_in}
 use Rattle.command_line.specs.declared.command.Command.{Command}
 use Rattle.command_line.specs.declared.command.Command.TheVariants as command
 use Rattle.command_line.specs.declared.options.Options.{Options}
 
 -- nothing is asked for
 abbrev pub no_options : Options
-no_options = record { workers = None; format = None; bytes = false; explain = false }
+no_options = record { workers = None; format = None; journal = None; from = None; bytes = false; explain = false }
 
 -- ---- one option
 
@@ -56,6 +57,16 @@ abbrev pub with_format : Options → Text × List Text → Option (Options × Li
 with_format asked given = if is_none asked.format
     then option_map (λ f. (record asked { format = Some f }, given.1)) (format_in given.0) else None
 
+-- the same with the name of a journal, which may be any word
+abbrev pub with_journal : Options → Text × List Text → Option (Options × List Text)
+with_journal asked given = if is_none asked.journal
+    then Some (record asked { journal = Some given.0 }, given.1) else None
+
+-- the same with the line from which a journal is replayed
+abbrev pub with_from : Options → Text × List Text → Option (Options × List Text)
+with_from asked given = if is_none asked.from
+    then option_map (λ f. (record asked { from = Some f }, given.1)) (replay_in given.0) else None
+
 -- the same with envelopes as bytes
 abbrev pub with_bytes : Options → List Text → Option (Options × List Text)
 with_bytes asked [] = None
@@ -72,10 +83,15 @@ with_explanation asked (word ∷ rest) = if bytes_eq word (codes "--explain") &&
 abbrev pub workers_option : Options → List Text → Option (Options × List Text)
 workers_option asked words = option_and_then (with_workers asked) (value_in (codes "--workers") words)
 
--- the same with an option of `serve`: a number of workers, envelopes as bytes or an explanation
+-- the same with an option of a journal, as it is spelled: its name, or the line from which it is replayed
+abbrev pub journal_option : Options → List Text → Option (Options × List Text)
+journal_option asked words = option_or (option_and_then (with_journal asked) (value_in (codes "--journal") words))
+    (option_and_then (with_from asked) (value_in (codes "--from") words))
+
+-- the same with an option of `serve`: a number of workers, a journal, envelopes as bytes or an explanation
 abbrev pub serving_in : Options → List Text → Option (Options × List Text)
-serving_in asked words =
-    option_or (workers_option asked words) (option_or (with_bytes asked words) (with_explanation asked words))
+serving_in asked words = option_or (workers_option asked words) (option_or (journal_option asked words)
+    (option_or (with_bytes asked words) (with_explanation asked words)))
 
 -- what was asked for with the option of a command beside it that the first words are, each once, and the words behind it
 abbrev pub option_in : Command → Options → List Text → Option (Options × List Text)
@@ -87,6 +103,10 @@ option_in command.Crowd asked words = None
 option_in command.Serve asked words = serving_in asked words
 
 -- ---- all of them
+
+-- a journal is to be replayed, and none is named
+abbrev pub lack_journal : Options → Bool
+lack_journal asked = is_some asked.from && is_none asked.journal
 
 -- behind what was asked for, words are options of the command, one after the other, down to these last words
 pub data AreOptions (c : Command) : Options → List Text → Options → List Text → Type 0 where

@@ -12,6 +12,7 @@ use crate::help::page_of;
 use crate::options::{Options, options_and_operands};
 use crate::pages::text_of;
 use crate::pool_size::PoolSize;
+use crate::replay::ReplayFrom;
 use crate::subject::{Format, subject_of};
 use crate::word::Word;
 use std::alloc::{AllocError, Global};
@@ -72,6 +73,11 @@ pub enum Call {
         bytes: bool,
         /// Whether a bad line is explained on the standard error.
         explain: bool,
+        /// The name of the file that keeps each line on the disk before it is answered; none is kept without it.
+        journal: Option<Word>,
+        /// From which line on the blocks of that file are printed at the start; none are printed without it. It comes
+        /// with a file alone.
+        from: Option<ReplayFrom>,
     },
 }
 
@@ -149,7 +155,7 @@ fn call_of<S: AsStr>(alloc: Global, words: &[S]) -> Result<Call, Fault<'_>>
 fn call_with<'a, S: AsStr>(
     alloc: Global,
     command: Command,
-    asked: &Options,
+    asked: &Options<'_>,
     operands: &'a [S],
 ) -> Result<Call, Fault<'a>>
     ensures sound { IfOk result (λ call. call_of command asked.now (map S.text operands.entry.now) ≡ Some call) }
@@ -167,7 +173,7 @@ fn call_with<'a, S: AsStr>(
 fn made_call<S: AsStr>(
     alloc: Global,
     command: Command,
-    asked: &Options,
+    asked: &Options<'_>,
     operands: &[S],
 ) -> Result<Option<Call>, AllocError>
     ensures { IfOk result (λ call. call ≡ call_of command asked.now (map S.text operands.now)) }
@@ -178,14 +184,14 @@ fn made_call<S: AsStr>(
         Command::Closure => closure_call(alloc, asked, operands),
         Command::Compare => compare_call(alloc, asked, operands),
         Command::Crowd => crowd_call(alloc, asked, operands),
-        Command::Serve => Ok(serve_call(asked, operands)),
+        Command::Serve => serve_call(alloc, asked, operands),
     }
 }
 
 /// The call of `table` with these operands, if they are one file.
 fn table_call<S: AsStr>(
     alloc: Global,
-    asked: &Options,
+    asked: &Options<'_>,
     operands: &[S],
 ) -> Result<Option<Call>, AllocError>
     ensures { IfOk result (λ call. call ≡ call_of Command.Table asked.now (map S.text operands.now)) }
@@ -202,7 +208,7 @@ fn table_call<S: AsStr>(
 /// The call of `run` with these operands, if they are one script.
 fn run_call<S: AsStr>(
     alloc: Global,
-    asked: &Options,
+    asked: &Options<'_>,
     operands: &[S],
 ) -> Result<Option<Call>, AllocError>
     ensures { IfOk result (λ call. call ≡ call_of Command.Run asked.now (map S.text operands.now)) }
@@ -220,7 +226,7 @@ fn run_call<S: AsStr>(
 /// The call of `closure` with these operands, if they are a script and a subject.
 fn closure_call<S: AsStr>(
     alloc: Global,
-    asked: &Options,
+    asked: &Options<'_>,
     operands: &[S],
 ) -> Result<Option<Call>, AllocError>
     ensures { IfOk result (λ call. call ≡ call_of Command.Closure asked.now (map S.text operands.now)) }
@@ -246,7 +252,7 @@ fn closure_call<S: AsStr>(
 /// The call of `compare` with these operands, if they are two scripts and a subject.
 fn compare_call<S: AsStr>(
     alloc: Global,
-    asked: &Options,
+    asked: &Options<'_>,
     operands: &[S],
 ) -> Result<Option<Call>, AllocError>
     ensures { IfOk result (λ call. call ≡ call_of Command.Compare asked.now (map S.text operands.now)) }
@@ -274,7 +280,7 @@ fn compare_call<S: AsStr>(
 /// The call of `crowd` with these operands, if they are two scripts and a subject.
 fn crowd_call<S: AsStr>(
     alloc: Global,
-    asked: &Options,
+    asked: &Options<'_>,
     operands: &[S],
 ) -> Result<Option<Call>, AllocError>
     ensures { IfOk result (λ call. call ≡ call_of Command.Crowd asked.now (map S.text operands.now)) }
@@ -297,16 +303,26 @@ fn crowd_call<S: AsStr>(
     }
 }
 
-/// The call of `serve` with these operands, if they are none.
-fn serve_call<S: AsStr>(asked: &Options, operands: &[S]) -> Option<Call>
-    ensures { result ≡ call_of Command.Serve asked.now (map S.text operands.now) }
+/// The call of `serve` with these operands, if they are none, and a journal that is to be replayed is named.
+fn serve_call<S: AsStr>(
+    alloc: Global,
+    asked: &Options<'_>,
+    operands: &[S],
+) -> Result<Option<Call>, AllocError>
+    ensures { IfOk result (λ call. call ≡ call_of Command.Serve asked.now (map S.text operands.now)) }
 {
     match operands {
-        [] => Some(Call::Serve {
-            workers: asked.workers,
-            bytes: asked.bytes,
-            explain: asked.explain,
-        }),
-        [_, ..] => None,
+        [] if asked.lack_journal() => Ok(None),
+        [] => {
+            let journal = asked.journal_word(alloc)?;
+            Ok(Some(Call::Serve {
+                workers: asked.workers,
+                bytes: asked.bytes,
+                explain: asked.explain,
+                journal,
+                from: asked.from,
+            }))
+        }
+        [_, ..] => Ok(None),
     }
 }

@@ -1,7 +1,7 @@
 //! What is wrong with words that are no call, and how that is told.
 
 use crate::command::Command;
-use crate::form::{COMMANDS, Form, Part, form_of};
+use crate::form::{COMMANDS, FROM, Form, JOURNAL, Part, form_of};
 use crate::operands::is_plain;
 use crate::options::Options;
 use crate::pages::{push_names, push_usage};
@@ -21,6 +21,8 @@ pub enum Fault<'a> {
     Missing(Command, bool, usize),
     /// This option has no value.
     NoValue(&'a str),
+    /// A journal is to be replayed, and none is named.
+    NoJournal,
     /// Some word is wrong that stands in its place.
     BadWord,
     /// There was no memory to read the words.
@@ -90,7 +92,7 @@ fn wants_value(option: &Part<'_>, name: &str) -> bool {
 /// What is wrong with the operands of a command, where they make no call with these options.
 pub fn fault_of_operands<'a, S: AsStr>(
     command: Command,
-    asked: &Options,
+    asked: &Options<'_>,
     operands: &'a [S],
 ) -> Fault<'a> {
     let wanted = form_of(command).operands.len();
@@ -99,6 +101,7 @@ pub fn fault_of_operands<'a, S: AsStr>(
         None if operands.len() < wanted => {
             Fault::Missing(command, asked.are_given(), operands.len())
         }
+        None if asked.lack_journal() => Fault::NoJournal,
         None => Fault::BadWord,
     }
 }
@@ -140,6 +143,7 @@ fn push_fault(text: &mut String, fault: &Fault<'_>) -> Result<(), AllocError> {
                 "a value is required for '{option}' but none was supplied\n"
             )
         }
+        Fault::NoJournal => push_no_journal(text),
         Fault::BadWord | Fault::NoMemory => Ok(()),
     }
 }
@@ -187,4 +191,13 @@ fn push_missing(
     }
     push_names(text, form.operands)?;
     text.push_str("\n")
+}
+
+/// Adds that a journal is missing where one is to be replayed, and how it is named.
+fn push_no_journal(text: &mut String) -> Result<(), AllocError> {
+    let (journal, from) = (JOURNAL.name, FROM.name);
+    write!(
+        text,
+        "the following required arguments were not provided:\n  {journal}\n\nUsage: scphost serve {journal} {from}\n"
+    )
 }

@@ -90,6 +90,18 @@ const HOST_WORKERS: Part<'static> = Part {
     about: "Takes a number of workers, 1 to 64; one thread serves all networks so far",
 };
 
+/// The option that names a journal.
+pub const JOURNAL: Part<'static> = Part {
+    name: "--journal <FILE>",
+    about: "Keeps each line on the disk before it is answered, and goes on from FILE",
+};
+
+/// The option that asks what the lines of a journal were answered.
+pub const FROM: Part<'static> = Part {
+    name: "--from <L|open>",
+    about: "Prints what FILE's lines were answered, from L or the first open slot on",
+};
+
 const BYTES: Part<'static> = Part {
     name: "--bytes",
     about: "Prints what is emitted as the bytes of its envelope, in hexadecimal",
@@ -192,7 +204,7 @@ const SERVE: Form<'static> = Form {
         about: "Hosts networks live: answers each line of the standard input as it comes",
     },
     operands: &[],
-    options: &[HOST_WORKERS, BYTES, EXPLAIN_LINES],
+    options: &[HOST_WORKERS, JOURNAL, FROM, BYTES, EXPLAIN_LINES],
     more: "These lines are taken, N being a network and I a slot; empty ones and comments are passed over:
   net N events E bytes B slots S served
   node N NODE SLICES
@@ -209,6 +221,11 @@ const SERVE: Form<'static> = Form {
 With * for NODE, `deliver` and `say` go to each hosted node. What a node emits is heard by the
 others of its network.
 
+With --journal each line is in FILE, and on the disk, before it is answered; one that changed
+nothing may be an empty line there. At the start FILE is made, or its lines are run. Of these only
+those are answered again that --from asks for: from line L on, or from the line on that opened the
+first slot still open. Then `resumed L` says how many lines FILE has, and the next is L + 1.
+
 Line L is answered by a block. It has a line for each step that gave something out, the event's own
 first, and for each hearing that was refused, or what `left` and `show` tell:
   L N I NODE OUTS
@@ -219,9 +236,11 @@ Then one line ends it:
   L refused K NAME   it was refused, and nothing changed
   L bad              it cannot be taken, and nothing changed
 The status is 0 at the end of the input, 2 if it cannot be read, 3 if memory is short, and 4 if an
-answer cannot be written. For example:
+answer cannot be written; with FILE also 2 if it cannot be read, is in use or has a bad line, and 4
+if it cannot be written. For example:
   scphost serve --workers 4 < lines.txt
-  scphost serve --bytes --explain",
+  scphost serve --bytes --explain
+  scphost serve --journal host.txt --from open < lines.txt",
 };
 
 /// The form of a command.

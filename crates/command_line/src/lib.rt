@@ -13,10 +13,12 @@ mod operands;
 mod options;
 mod pages;
 mod pool_size;
+mod replay;
 mod subject;
 mod word;
 
 pub use call::{Call, Usage, read_call};
 pub use pool_size::{MAX_WORKERS, PoolSize};
+pub use replay::ReplayFrom;
 pub use subject::Format;
 pub use word::Word;

@@ -1,40 +1,66 @@
 //! The words behind a command: its operands, with options before or behind them.
 
 ghost use Rattle.std.specs.Prelude.{◌≡◌, ◌<◌, IfOk, IfSome, IsOkAnd, List, None, length, map, option_map};
-ghost use Rattle.command_line.specs.Options.{AreOptions, HasForm, behind, next_in, no_options, option_in, serving_in, value_in, with_bytes, with_explanation, with_format, with_workers, workers_in, workers_option};
+ghost use Rattle.command_line.specs.Options.{AreOptions, HasForm, behind, journal_option, lack_journal, next_in, no_options, option_in, serving_in, value_in, with_bytes, with_explanation, with_format, with_from, with_journal, with_workers, workers_in, workers_option};
 ghost use Rattle.command_line.specs.Subjects.{format_or_text};
 ghost use Rattle.command_line.specs.Words.{Text};
 
 use crate::command::Command;
 use crate::operands::{operands_of, plain_count};
 use crate::pool_size::PoolSize;
-use crate::subject::{Format, format_of};
-use scripts::number_of;
+use crate::replay::{ReplayFrom, replay_of};
+use crate::subject::{Format, format_of, number_in};
+use crate::word::{LentWord, Word};
+use std::alloc::{AllocError, Global};
 use std::convert::AsStr;
 
 /// What the options of a command ask for.
-#[derive(Clone, Copy)]
-pub struct Options {
+#[derive(Drop)]
+pub struct Options<'a> {
     /// `--workers N`: how many workers a pool has.
     pub workers: Option<PoolSize>,
     /// `--format FORM`: the form of a report.
     pub format: Option<Format>,
+    /// `--journal FILE`: the name of the file that lines are kept in.
+    pub journal: Option<LentWord<'a>>,
+    /// `--from L|open`: from which line on the blocks of that file are printed.
+    pub from: Option<ReplayFrom>,
     /// `--bytes`: envelopes are printed as bytes.
     pub bytes: bool,
     /// `--explain`: a difference, or a bad line, is explained.
     pub explain: bool,
 }
 
-impl Options {
+impl<'a> Options<'a> {
     /// Nothing is asked for.
-    fn none() -> Options
+    fn none() -> Options<'a>
         ensures { result ≡ no_options }
     {
         Options {
             workers: None,
             format: None,
+            journal: None,
+            from: None,
             bytes: false,
             explain: false,
+        }
+    }
+
+    /// The same options.
+    fn reborrow(&self) -> Options<'a>
+        ensures { result ≡ self.now }
+    {
+        let journal = match &self.journal {
+            Some(name) => Some(name.reborrow()),
+            None => None,
+        };
+        Options {
+            workers: self.workers,
+            format: self.format,
+            journal,
+            from: self.from,
+            bytes: self.bytes,
+            explain: self.explain,
         }
     }
 
@@ -48,17 +74,42 @@ impl Options {
         }
     }
 
+    /// The name of the file that lines are kept in, as a word of its own. Fails only for want of memory.
+    pub fn journal_word(&self, alloc: Global) -> Result<Option<Word>, AllocError>
+        ensures { IfOk result (λ journal. journal ≡ self.now.journal) }
+    {
+        match &self.journal {
+            Some(name) => {
+                let name = name.copied(alloc)?;
+                Ok(Some(name))
+            }
+            None => Ok(None),
+        }
+    }
+
+    /// A journal is to be replayed, and none is named.
+    pub fn lack_journal(&self) -> bool
+        ensures { result ≡ lack_journal self.now }
+    {
+        self.from.is_some() && self.journal.is_none()
+    }
+
     /// Something is asked for.
     pub fn are_given(&self) -> bool {
-        self.workers.is_some() || self.format.is_some() || self.bytes || self.explain
+        self.workers.is_some()
+            || self.format.is_some()
+            || self.journal.is_some()
+            || self.from.is_some()
+            || self.bytes
+            || self.explain
     }
 }
 
 /// What is asked for, and the operands, in the words behind a command; else the words at which the reading stopped.
-pub fn options_and_operands<S: AsStr>(
+pub fn options_and_operands<'a, S: AsStr>(
     command: Command,
-    words: &[S],
-) -> Result<(Options, &[S]), &[S]>
+    words: &'a [S],
+) -> Result<(Options<'a>, &'a [S]), &'a [S]>
     ensures found { IfOk result (λ p. HasForm command (map S.text words.now) p.0 (map S.text p.1.now)) }
     ensures all { (asked : Options) → (operands : List Text) → HasForm command (map S.text words.now) asked operands
         → IsOkAnd result (λ p. (p.0 ≡ asked) × (map S.text p.1.now ≡ operands)) }
@@ -79,8 +130,12 @@ pub fn options_and_operands<S: AsStr>(
 }
 
 /// What is asked for with the options beside it that the words begin with, and the words behind them.
-fn options_before<S: AsStr>(command: Command, asked: Options, words: &[S]) -> (Options, &[S])
-    ensures given { AreOptions command asked (map S.text words.now) result.0 (map S.text result.1.now) }
+fn options_before<'a, S: AsStr>(
+    command: Command,
+    asked: Options<'a>,
+    words: &'a [S],
+) -> (Options<'a>, &'a [S])
+    ensures given { AreOptions command asked.entry (map S.text words.now) result.0 (map S.text result.1.now) }
     ensures ended { option_in command result.0 (map S.text result.1.now) ≡ None }
 {
     match option_before(command, &asked, words) {
@@ -92,16 +147,16 @@ fn options_before<S: AsStr>(command: Command, asked: Options, words: &[S]) -> (O
 /// What is asked for with the option of a command beside it that the first words are, and the words behind it.
 fn option_before<'a, S: AsStr>(
     command: Command,
-    asked: &Options,
+    asked: &Options<'a>,
     words: &'a [S],
-) -> Option<(Options, &'a [S])>
+) -> Option<(Options<'a>, &'a [S])>
     ensures option { option_map (λ p. (p.0, map S.text p.1.now)) result ≡ option_in command asked.now (map S.text words.entry.now) }
     ensures shorter { IfSome result (λ p. length p.1.now < length words.entry.now) }
 {
     match command {
         Command::Table => None,
         Command::Run => workers_before(asked, words),
-        Command::Closure => match value_before(b"--format", words) {
+        Command::Closure => match value_before("--format", words) {
             Some((value, rest)) => with_format(asked, value, rest),
             None => None,
         },
@@ -112,11 +167,17 @@ fn option_before<'a, S: AsStr>(
 }
 
 /// The same with an option of `serve`.
-fn serving_before<'a, S: AsStr>(asked: &Options, words: &'a [S]) -> Option<(Options, &'a [S])>
+fn serving_before<'a, S: AsStr>(
+    asked: &Options<'a>,
+    words: &'a [S],
+) -> Option<(Options<'a>, &'a [S])>
     ensures option { option_map (λ p. (p.0, map S.text p.1.now)) result ≡ serving_in asked.now (map S.text words.entry.now) }
     ensures shorter { IfSome result (λ p. length p.1.now < length words.entry.now) }
 {
     if let Some(found) = workers_before(asked, words) {
+        return Some(found);
+    }
+    if let Some(found) = journal_before(asked, words) {
         return Some(found);
     }
     match with_bytes(asked, words) {
@@ -125,12 +186,32 @@ fn serving_before<'a, S: AsStr>(asked: &Options, words: &'a [S]) -> Option<(Opti
     }
 }
 
+/// The same with an option of a journal: `--journal FILE` or `--from L|open`.
+fn journal_before<'a, S: AsStr>(
+    asked: &Options<'a>,
+    words: &'a [S],
+) -> Option<(Options<'a>, &'a [S])>
+    ensures option { option_map (λ p. (p.0, map S.text p.1.now)) result ≡ journal_option asked.now (map S.text words.entry.now) }
+    ensures shorter { IfSome result (λ p. length p.1.now < length words.entry.now) }
+{
+    if let Some((value, rest)) = value_before("--journal", words) {
+        return with_journal(asked, value, rest);
+    }
+    match value_before("--from", words) {
+        Some((value, rest)) => with_from(asked, value, rest),
+        None => None,
+    }
+}
+
 /// The same with the option `--workers N`.
-fn workers_before<'a, S: AsStr>(asked: &Options, words: &'a [S]) -> Option<(Options, &'a [S])>
+fn workers_before<'a, S: AsStr>(
+    asked: &Options<'a>,
+    words: &'a [S],
+) -> Option<(Options<'a>, &'a [S])>
     ensures option { option_map (λ p. (p.0, map S.text p.1.now)) result ≡ workers_option asked.now (map S.text words.entry.now) }
     ensures shorter { IfSome result (λ p. length p.1.now < length words.entry.now) }
 {
-    match value_before(b"--workers", words) {
+    match value_before("--workers", words) {
         Some((value, rest)) => with_workers(asked, value, rest),
         None => None,
     }
@@ -138,10 +219,10 @@ fn workers_before<'a, S: AsStr>(asked: &Options, words: &'a [S]) -> Option<(Opti
 
 /// What is asked for with a number of workers beside it, if there was none.
 fn with_workers<'a, S: AsStr>(
-    asked: &Options,
-    value: &[u8],
+    asked: &Options<'a>,
+    value: &str,
     rest: &'a [S],
-) -> Option<(Options, &'a [S])>
+) -> Option<(Options<'a>, &'a [S])>
     ensures option { option_map (λ p. (p.0, map S.text p.1.now)) result ≡ with_workers asked.now (value.now, map S.text rest.entry.now) }
     ensures rest { IfSome result (λ p. p.1.now ≡ rest.entry.now) }
 {
@@ -150,12 +231,8 @@ fn with_workers<'a, S: AsStr>(
     }
     match workers_in(value) {
         Some(workers) => {
-            let next = Options {
-                workers: Some(workers),
-                format: asked.format,
-                bytes: asked.bytes,
-                explain: asked.explain,
-            };
+            let mut next = asked.reborrow();
+            next.workers = Some(workers);
             Some((next, rest))
         }
         None => None,
@@ -164,10 +241,10 @@ fn with_workers<'a, S: AsStr>(
 
 /// The same with a form of report.
 fn with_format<'a, S: AsStr>(
-    asked: &Options,
-    value: &[u8],
+    asked: &Options<'a>,
+    value: &str,
     rest: &'a [S],
-) -> Option<(Options, &'a [S])>
+) -> Option<(Options<'a>, &'a [S])>
     ensures option { option_map (λ p. (p.0, map S.text p.1.now)) result ≡ with_format asked.now (value.now, map S.text rest.entry.now) }
     ensures rest { IfSome result (λ p. p.1.now ≡ rest.entry.now) }
 {
@@ -176,12 +253,47 @@ fn with_format<'a, S: AsStr>(
     }
     match format_of(value) {
         Some(format) => {
-            let next = Options {
-                workers: asked.workers,
-                format: Some(format),
-                bytes: asked.bytes,
-                explain: asked.explain,
-            };
+            let mut next = asked.reborrow();
+            next.format = Some(format);
+            Some((next, rest))
+        }
+        None => None,
+    }
+}
+
+/// The same with the name of a journal.
+fn with_journal<'a, S: AsStr>(
+    asked: &Options<'a>,
+    value: &'a str,
+    rest: &'a [S],
+) -> Option<(Options<'a>, &'a [S])>
+    ensures option { option_map (λ p. (p.0, map S.text p.1.now)) result ≡ with_journal asked.now (value.entry.now, map S.text rest.entry.now) }
+    ensures rest { IfSome result (λ p. p.1.now ≡ rest.entry.now) }
+{
+    if asked.journal.is_some() {
+        return None;
+    }
+    let mut next = asked.reborrow();
+    next.journal = Some(LentWord::of(value));
+    Some((next, rest))
+}
+
+/// The same with the line from which a journal is replayed.
+fn with_from<'a, S: AsStr>(
+    asked: &Options<'a>,
+    value: &str,
+    rest: &'a [S],
+) -> Option<(Options<'a>, &'a [S])>
+    ensures option { option_map (λ p. (p.0, map S.text p.1.now)) result ≡ with_from asked.now (value.now, map S.text rest.entry.now) }
+    ensures rest { IfSome result (λ p. p.1.now ≡ rest.entry.now) }
+{
+    if asked.from.is_some() {
+        return None;
+    }
+    match replay_of(value) {
+        Some(from) => {
+            let mut next = asked.reborrow();
+            next.from = Some(from);
             Some((next, rest))
         }
         None => None,
@@ -189,18 +301,14 @@ fn with_format<'a, S: AsStr>(
 }
 
 /// The same with envelopes as bytes.
-fn with_bytes<'a, S: AsStr>(asked: &Options, words: &'a [S]) -> Option<(Options, &'a [S])>
+fn with_bytes<'a, S: AsStr>(asked: &Options<'a>, words: &'a [S]) -> Option<(Options<'a>, &'a [S])>
     ensures option { option_map (λ p. (p.0, map S.text p.1.now)) result ≡ with_bytes asked.now (map S.text words.entry.now) }
     ensures shorter { IfSome result (λ p. length p.1.now < length words.entry.now) }
 {
     match words {
         [word, rest @ ..] if word.as_str() == "--bytes" && !asked.bytes => {
-            let next = Options {
-                workers: asked.workers,
-                format: asked.format,
-                bytes: true,
-                explain: asked.explain,
-            };
+            let mut next = asked.reborrow();
+            next.bytes = true;
             Some((next, rest))
         }
         _ => None,
@@ -208,18 +316,17 @@ fn with_bytes<'a, S: AsStr>(asked: &Options, words: &'a [S]) -> Option<(Options,
 }
 
 /// The same with an explanation.
-fn with_explanation<'a, S: AsStr>(asked: &Options, words: &'a [S]) -> Option<(Options, &'a [S])>
+fn with_explanation<'a, S: AsStr>(
+    asked: &Options<'a>,
+    words: &'a [S],
+) -> Option<(Options<'a>, &'a [S])>
     ensures option { option_map (λ p. (p.0, map S.text p.1.now)) result ≡ with_explanation asked.now (map S.text words.entry.now) }
     ensures shorter { IfSome result (λ p. length p.1.now < length words.entry.now) }
 {
     match words {
         [word, rest @ ..] if word.as_str() == "--explain" && !asked.explain => {
-            let next = Options {
-                workers: asked.workers,
-                format: asked.format,
-                bytes: asked.bytes,
-                explain: true,
-            };
+            let mut next = asked.reborrow();
+            next.explain = true;
             Some((next, rest))
         }
         _ => None,
@@ -228,43 +335,46 @@ fn with_explanation<'a, S: AsStr>(asked: &Options, words: &'a [S]) -> Option<(Op
 
 /// The value that the first words give to the option of this name, and the words behind it: it is the next word, or
 /// stands behind `=` in the same one.
-fn value_before<'a, S: AsStr>(name: &[u8], words: &'a [S]) -> Option<(&'a [u8], &'a [S])>
+fn value_before<'a, S: AsStr>(name: &str, words: &'a [S]) -> Option<(&'a str, &'a [S])>
     ensures value { option_map (λ p. (p.0.now, map S.text p.1.now)) result ≡ value_in name.now (map S.text words.entry.now) }
     ensures shorter { IfSome result (λ p. length p.1.now < length words.entry.now) }
 {
     let [word, rest @ ..] = words else {
         return None;
     };
-    match behind(name, word.as_str().as_bytes()) {
-        Some([]) => next_word(rest),
-        Some([b'=', value @ ..]) => Some((value, rest)),
-        _ => None,
+    match behind(name, word.as_str()) {
+        Some("") => next_word(rest),
+        Some(value) => match behind("=", value) {
+            Some(value) => Some((value, rest)),
+            None => None,
+        },
+        None => None,
     }
 }
 
 /// The first word, and the words behind it.
-fn next_word<S: AsStr>(words: &[S]) -> Option<(&[u8], &[S])>
+fn next_word<S: AsStr>(words: &[S]) -> Option<(&str, &[S])>
     ensures word { option_map (λ p. (p.0.now, map S.text p.1.now)) result ≡ next_in (map S.text words.now) }
     ensures shorter { IfSome result (λ p. length p.1.now < length words.now) }
 {
     match words {
-        [value, rest @ ..] => Some((value.as_str().as_bytes(), rest)),
+        [value, rest @ ..] => Some((value.as_str(), rest)),
         [] => None,
     }
 }
 
-/// What stands behind these bytes at the beginning of a word.
-fn behind<'a>(front: &[u8], word: &'a [u8]) -> Option<&'a [u8]>
+/// What stands behind this text at the beginning of a word.
+fn behind<'a>(front: &str, word: &'a str) -> Option<&'a str>
     ensures { option_map (λ w. w.now) result ≡ behind front.now word.entry.now }
 {
     word.strip_prefix(front)
 }
 
 /// How many workers a word asks for.
-fn workers_in(word: &[u8]) -> Option<PoolSize>
+fn workers_in(word: &str) -> Option<PoolSize>
     ensures { result ≡ workers_in word.now }
 {
-    match number_of(word) {
+    match number_in(word) {
         Some(number) => PoolSize::new(number),
         None => None,
     }

@@ -24,7 +24,7 @@ pub fn subject_of<S: AsStr>(net: &S, slot: &S, node: &S) -> Option<Subject>
     ensures { result ≡ subject_in (S.text net.now) (S.text slot.now) (S.text node.now) }
 {
     match network_of(net.as_str()) {
-        Some(net) => match slot_of(slot.as_str()) {
+        Some(net) => match number_in(slot.as_str()) {
             Some(slot) => match name_of(node.as_str().as_bytes()) {
                 Some(node) => Some(Subject { net, slot, node }),
                 None => None,
@@ -43,20 +43,20 @@ fn network_of(word: &str) -> Option<u32>
 }
 
 /// The number below 2^64 that a word spells.
-fn slot_of(word: &str) -> Option<u64>
+pub fn number_in(word: &str) -> Option<u64>
     ensures { result ≡ word_number (2 ^ 64) word.now }
 {
     number_of(word.as_bytes())
 }
 
 /// The form that a word names.
-pub fn format_of(word: &[u8]) -> Option<Format>
+pub fn format_of(word: &str) -> Option<Format>
     ensures { result ≡ format_in word.now }
 {
     match word {
-        b"text" => Some(Format::Text),
-        b"dot" => Some(Format::Dot),
-        b"svg" => Some(Format::Svg),
+        "text" => Some(Format::Text),
+        "dot" => Some(Format::Dot),
+        "svg" => Some(Format::Svg),
         _ => None,
     }
 }

@@ -35,3 +35,42 @@ impl Word {
         self.text.as_str()
     }
 }
+
+/// A word of the command line, or a part of one, where it stands.
+#[derive(Drop)]
+pub struct LentWord<'a> {
+    text: &'a str,
+}
+
+impl<'a> Model for LentWord<'a> {
+    ghost use Rattle.std.specs.Prelude.{ℕ, List};
+
+    ghost Value = { List ℕ };
+
+    ghost view = { λ w. w.text.now };
+}
+
+impl<'a> LentWord<'a> {
+    ghost use Rattle.std.specs.Prelude.{◌≡◌, IfOk};
+
+    /// This word.
+    pub fn of(text: &'a str) -> LentWord<'a>
+        ensures { result ≡ text.now }
+    {
+        LentWord { text }
+    }
+
+    /// The same word.
+    pub fn reborrow(&self) -> LentWord<'a>
+        ensures { result ≡ self.now }
+    {
+        LentWord { text: self.text }
+    }
+
+    /// A copy of its own. Fails only for want of memory.
+    pub fn copied(&self, alloc: Global) -> Result<Word, AllocError>
+        ensures { IfOk result (λ w. w ≡ self.now) }
+    {
+        Word::new(alloc, self.text)
+    }
+}

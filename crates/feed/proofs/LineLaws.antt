@@ -1,13 +1,13 @@
 -- Lines, their feeds and how much is kept of one.
 use Rattle.std.proofs.Common.{◌≡◌, ◌∙◌, ℕ, ◌+◌, ◌<◌, ◌≤◌, Bool, true, false, cond, List, [], ◌∷◌, ◌++◌, length, take, refl, sym, ap, ap₂, subst, arith, append_assoc, length-append, one-add, add-one}
-use Rattle.std.specs.Prelude.{◌==◌, ◌&&◌, not, nat_lt, position, Option, Some, None, IsTrue}
+use Rattle.std.specs.Prelude.{◌==◌, ◌&&◌, ◌||◌, not, nat_lt, position, Option, Some, None, IsTrue}
 use Rattle.std.specs.List.{list_all, position_or_len}
 use Rattle.std.proofs.lemmas.Bool.Decides.{nat_tests, Decides-eqb}
 use Rattle.std.proofs.lemmas.List.{append-nil}
-use Rattle.std.proofs.lemmas.List.Folds.{list_all-append}
+use Rattle.std.proofs.lemmas.List.Folds.{list_all-append, list_any-append}
 use Rattle.scripts.specs.Script.{Bytes, lines_with_feeds, has_no_feed}
-use Rattle.feed.specs.WholeLines.{given}
-use Rattle.feed.specs.Reading.{longer, Grows}
+use Rattle.feed.specs.WholeLines.{given, has_hole}
+use Rattle.feed.specs.Reading.{Held, held, longer, longer_given, Grows}
 
 -- ---- the first line feed
 
@@ -90,7 +90,7 @@ plain_more lines line a b = list_all-append has_no_feed lines (line ∷ []) ∙ 
 -- ---- how much is kept
 
 over_by : (longest : ℕ) (line more : Bytes) (over : Bool) → nat_lt longest (length line) ≡ over
-    → longer longest (cond over None (Some line)) more ≡ given longest (line ++ more)
+    → longer_given longest (cond over None (Some line)) more ≡ given longest (line ++ more)
 over_by longest line more true e =
     let long : nat_lt longest (length (line ++ more)) ≡ true = above longest (length line) (length (line ++ more)) e (omega (arith, length-append line more)) in
     sym (ap (λ (over : Bool). cond over None (Some (line ++ more))) long)
@@ -99,9 +99,24 @@ over_by longest line more true e =
     above l m n h within = grind (arith, nat_tests)
 over_by longest line more false e = refl
 
-pub grows : (longest : ℕ) (before after : Option Bytes) (more : Bytes) → after ≡ longer longest before more → Grows longest before after more
-grows longest before after more e line was =
-    e ∙ ap (λ kept. longer longest kept more) was ∙ over_by longest line more (nat_lt longest (length line)) refl
+hole_both : (xs ys : Bytes) → has_hole (xs ++ ys) ≡ (has_hole xs || has_hole ys)
+hole_both xs ys = list_any-append (λ b. b == 0) xs ys
 
-pub grows_nothing : (longest : ℕ) (kept : Option Bytes) → Grows longest kept kept []
-grows_nothing longest kept line was = was ∙ ap (given longest) (sym (append-nil line))
+abbrev held_as : Option Bytes → Bool → Held
+held_as g s = record { given = g; hole = s }
+
+pub grows : (longest : ℕ) (before after : Held) (more : Bytes) → after ≡ longer longest before more → Grows longest before after more
+grows longest before after more e line was =
+    e ∙ ap (λ kept. longer longest kept more) was
+    ∙ ap₂ held_as (over_by longest line more (nat_lt longest (length line)) refl) (sym (hole_both line more))
+
+pub grows_nothing : (longest : ℕ) (kept : Held) → Grows longest kept kept []
+grows_nothing longest kept line was = was ∙ ap (held longest) (sym (append-nil line))
+
+-- what came last is taken back
+pub taken_back : (n : ℕ) (xs ys zs : Bytes) → n ≡ length xs → ys ≡ xs ++ zs → take n ys ≡ xs
+taken_back n xs ys zs e f = ap₂ (λ (m : ℕ) l. take m l) e f ∙ front xs zs
+  where
+    front : (xs zs : Bytes) → take (length xs) (xs ++ zs) ≡ xs
+    front [] zs = refl
+    front (x ∷ xs) zs = ap (λ l. x ∷ l) (front xs zs)

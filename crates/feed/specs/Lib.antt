@@ -1,3 +1,10 @@
 pub mod WholeLines
 pub mod Reading
+pub mod Faults
 pub mod Served
+pub mod Acts
+pub mod Hosted
+pub mod Steps
+pub mod Replayed
+pub mod Openings
+pub mod OpeningLaws

@@ -1,66 +1,54 @@
--- What a live host writes of the lines that it is sent, and how its loop ends.
-use Rattle.std.specs.Prelude.{◌≡◌, ◌++◌, ◌-◌, ◌^◌, ℕ, List, [], ◌∷◌, length, Option, Some, None, Result, Ok, Err, IfSome}
-use Rattle.std.specs.List.{enumerate_from}
-use Rattle.std.specs.Io.KnownBytes.{Appends, Keeps, IsAtEnd}
+-- What a live host answers to the lines that it is sent, and what its journal has of them.
+use Rattle.std.specs.Prelude.{◌≡◌, ◌++◌, ◌+◌, ℕ, Bool, true, false, List, [], ◌∷◌, Option, Some, None, IsTrue, string_bytes}
 use Rattle.scripts.specs.Script.{Bytes}
-use Rattle.scripts.specs.declared.run.Stop.{Stop}
-use Rattle.scripts.specs.declared.run.Stop.TheVariants as stop
-use Rattle.feed.specs.WholeLines.{BeginsWithLines, AreWholeLines, given}
+use Rattle.feed.specs.WholeLines.{given, has_no_hole}
+use Rattle.feed.specs.declared.answering.Answer.{Answer}
 
--- what may be written of a line in a state: of the line with this number, or of `None`, which is a line that is too long,
--- these bytes, and that state is left
+-- what a line is answered: what is told of it, and whether the journal keeps it
+pub record Reply : Type 0 where
+  pub text : Bytes
+  pub kept : Bool
+
+-- of an empty line, or of a comment, nothing is told
+abbrev pub unanswered : Reply
+unanswered = record { text = []; kept = false }
+
+abbrev pub reply_of : Option Answer → Reply
+reply_of None = unanswered
+reply_of (Some a) = record { text = string_bytes a.block; kept = a.kept }
+
+-- what may be answered in a state to the line with this number, or to `None`, which is a line that is too long; and the
+-- state that is left
 abbrev pub Serving : Type 0 → Type 1
-Serving S = S → ℕ → Option Bytes → Bytes → S → Type 0
+Serving S = S → ℕ → Option Bytes → Reply → S → Type 0
 
--- the bytes of a block, of which no block has none
-abbrev pub block_bytes : Option Bytes → Bytes
-block_bytes None = []
-block_bytes (Some bytes) = bytes
+-- the line of the journal that stands for a line: the line, where it is kept, or an empty one
+abbrev pub kept_as : Option Bytes → Bool → Bytes
+kept_as None kept = []
+kept_as (Some line) true = line
+kept_as (Some line) false = []
 
--- numbered lines were served one after the other, from a state to another: what was written of them
-pub data Serves {S : Type 0} (serves : Serving S) (longest : ℕ) : S → List (ℕ × Bytes) → Bytes → S → Type 0 where
-  none : {s : S} → Serves serves longest s [] [] s
-  next : {s t u : S} {n : ℕ} {line : Bytes} {more : List (ℕ × Bytes)} {written others : Bytes}
-      → serves s n (given longest line) written t → Serves serves longest t more others u
-      → Serves serves longest s ((n, line) ∷ more) (written ++ others) u
+abbrev pub journal_line : Option Bytes → Reply → Bytes
+journal_line line a = kept_as line a.kept
 
--- lines were served, the first with number 1, and a writer took what was written of them
-pub record HasServed {S : Type 0} (longest : ℕ) (serves : Serving S) (s : S) (lines : List Bytes)
-    (old new : Option Bytes) (t : S) : Type 0 where
-  pub written : Bytes
-  pub served : Serves serves longest s (enumerate_from 1 lines) written t
-  pub appended : Appends old new written
+-- what the journal does not keep of a line changes nothing
+abbrev pub OnlyKeptLinesCount : {S : Type 0} → Serving S → Type 0
+OnlyKeptLinesCount {S} serves =
+    (s t : S) (n : ℕ) (line : Option Bytes) (a : Reply) → serves s n line a t → journal_line line a ≡ [] → t ≡ s
 
--- one line was served so, and a writer took what was written of it
-abbrev pub HasServedLine : {S : Type 0} → Serving S → S → ℕ → Option Bytes → Option Bytes → Option Bytes
-    → Result (Unit {0}) Stop → S → Type 0
-HasServedLine serves s n line old new (Ok _) t =
-    (written : Bytes) × serves s n line written t × Appends old new written
-HasServedLine serves s n line old new (Err stop.NoMemory) t = Keeps old new
-HasServedLine serves s n line old new (Err stop.CannotWrite) t = Unit {0}
-HasServedLine serves s n line old new (Err stop.CannotRead) t = ⊥
-HasServedLine serves s n line old new (Err stop.TooLong) t = ⊥
-HasServedLine serves s n line old new (Err (stop.BadLine m)) t = ⊥
+-- an empty line is not answered, and changes nothing
+abbrev pub EmptyLinesAreSkipped : {S : Type 0} → Serving S → Type 0
+EmptyLinesAreSkipped {S} serves = (s : S) (n : ℕ) → serves s n (Some []) unanswered s
 
--- lines with which the input begins were served so
-abbrev pub HasServedFront : {S : Type 0} → ℕ → Serving S → S → Option Bytes → List Bytes → Option Bytes → Option Bytes → S
-    → Type 0
-HasServedFront longest serves s input lines old new t =
-    IfSome input (λ text. BeginsWithLines text lines) × HasServed longest serves s lines old new t
+-- a line that the journal keeps has no byte 0
+abbrev pub KeptLinesAreWhole : {S : Type 0} → Serving S → Type 0
+KeptLinesAreWhole {S} serves =
+    (s t : S) (n : ℕ) (line : Bytes) (a : Reply) → serves s n (Some line) a t → a.kept ≡ true → IsTrue (has_no_hole line)
 
--- what a live host was sent was served line by line as it came, and this is left of it. At the end all of its whole
--- lines were served. Where a read failed, no number below 2^64 was left for a line, or memory was short, the lines before
--- were; in the last case nothing is said of the state after. Where a write failed, nothing is said.
-abbrev pub HasServedStream : {S : Type 0} → ℕ → Serving S → S → Option Bytes → Option Bytes → Option Bytes → Option Bytes
-    → Result (Unit {0}) Stop → S → Type 0
-HasServedStream longest serves s input left old new (Ok _) t =
-    (lines : List Bytes) × IfSome input (λ text. AreWholeLines text lines × IsAtEnd left)
-    × HasServed longest serves s lines old new t
-HasServedStream longest serves s input left old new (Err stop.CannotRead) t =
-    (lines : List Bytes) × HasServedFront longest serves s input lines old new t
-HasServedStream longest serves s input left old new (Err stop.TooLong) t =
-    (lines : List Bytes) × (length lines ≡ 2 ^ 64 - 1) × HasServedFront longest serves s input lines old new t
-HasServedStream {S} longest serves s input left old new (Err stop.NoMemory) t =
-    (lines : List Bytes) × (u : S) × HasServedFront longest serves s input lines old new u
-HasServedStream longest serves s input left old new (Err stop.CannotWrite) t = Unit {0}
-HasServedStream longest serves s input left old new (Err (stop.BadLine n)) t = ⊥
+-- lines were served one after the other, the first with this number: the lines of the journal that stand for them, what
+-- is told of them, and the state that is left
+pub data Serves {S : Type 0} (serves : Serving S) (longest : ℕ) : S → ℕ → List Bytes → List Bytes → Bytes → S → Type 0 where
+  none : {s : S} {n : ℕ} → Serves serves longest s n [] [] [] s
+  next : {s t u : S} {n : ℕ} {line : Bytes} {more journal : List Bytes} {others : Bytes} (a : Reply)
+      → serves s n (given longest line) a t → Serves serves longest t (n + 1) more journal others u
+      → Serves serves longest s n (line ∷ more) (journal_line (given longest line) a ∷ journal) (a.text ++ others) u

@@ -1,6 +1,6 @@
 -- The whole lines of what a live host is sent, and how it is given one.
-use Rattle.std.specs.Prelude.{◌≡◌, ◌++◌, ℕ, List, length, nat_lt, Option, Some, None, IsTrue, if◌then◌else◌}
-use Rattle.std.specs.List.{list_all}
+use Rattle.std.specs.Prelude.{◌≡◌, ◌==◌, ◌++◌, ◌&&◌, not, ℕ, Bool, List, length, nat_lt, Option, Some, None, IsTrue, if◌then◌else◌}
+use Rattle.std.specs.List.{list_all, list_any}
 use Rattle.scripts.specs.Script.{Bytes, lines_with_feeds, has_no_feed}
 
 -- the text begins with these lines, each with a line feed behind it
@@ -19,3 +19,15 @@ pub record AreWholeLines (text : Bytes) (lines : List Bytes) : Type 0 where
 -- a line as it is given: itself, or `None` where it has more bytes than the longest
 abbrev pub given : ℕ → Bytes → Option Bytes
 given longest line = if nat_lt longest (length line) then None else Some line
+
+-- one of these bytes is 0
+abbrev pub has_hole : Bytes → Bool
+has_hole bytes = list_any (λ b. b == 0) bytes
+
+-- none of these bytes is 0
+abbrev pub has_no_hole : Bytes → Bool
+has_no_hole bytes = list_all (λ b. not (b == 0)) bytes
+
+-- no byte of a line is a line feed (10) or 0
+abbrev pub is_plain : Bytes → Bool
+is_plain line = has_no_feed line && has_no_hole line

@@ -1,7 +1,8 @@
 //! Reading one line in bounded memory.
 
-ghost use Rattle.std.specs.Prelude.{◌≡◌, ◌≢◌, ◌==◌, Some, [], option_map, position, IfErr, IfOk, OnOk};
-ghost use Rattle.feed.specs.Reading.{IsNextLine, IsNextPiece, longer};
+ghost use Rattle.std.specs.Prelude.{◌≡◌, ◌≢◌, ◌==◌, option_map, position, IfErr, IfOk, OnOk};
+ghost use Rattle.feed.specs.Reading.{IsNextLine, IsNextPiece, longer, nothing_held};
+ghost use Rattle.feed.specs.WholeLines.{has_hole};
 
 use scripts::ReadError;
 use std::alloc::{AllocError, Global};
@@ -12,43 +13,58 @@ use std::sync::Wait;
 /// The longest line of a live host, in bytes, without its line feed (this host's profile).
 pub const LONGEST_LINE: usize = 262_144;
 
-/// A line as far as it has come, of which nothing is kept once it has more than `LONGEST_LINE` bytes.
+/// A line as far as it has come. Once it has more than `LONGEST_LINE` bytes nothing is kept of it but whether a byte of it
+/// is 0.
 #[derive(Drop)]
 pub(crate) struct KeptLine {
-    bytes: Option<Vec<u8>>,
+    bytes: Vec<u8>,
+    too_long: bool,
+    hole: bool,
 }
 
 impl Model for KeptLine {
-    ghost use Rattle.std.specs.Prelude.{◌≤◌, Option, option_map, length, IfSome};
-    ghost use Rattle.scripts.specs.Script.{Bytes};
+    ghost use Rattle.std.specs.Prelude.{◌≤◌, Some, None, length, if◌then◌else◌};
+    ghost use Rattle.feed.specs.Reading.{Held};
     ghost use Rattle.feed.specs.declared.reading.TheConstants.{LONGEST_LINE};
 
-    ghost Value = { Option Bytes };
+    ghost Value = { Held };
 
-    ghost view = { λ line. option_map (λ bytes. bytes.items) line.bytes };
+    ghost view = { λ line. record { given = if line.too_long then None else Some line.bytes.items; hole = line.hole } };
 
-    ghost invariant = { λ line. IfSome line.bytes (λ bytes. length bytes.items ≤ LONGEST_LINE) };
+    ghost invariant = { λ line. length line.bytes.items ≤ LONGEST_LINE };
 }
 
 impl KeptLine {
     /// A line of which nothing has come yet.
-    fn new(alloc: Global) -> KeptLine
-        ensures { result ≡ Some [] }
+    pub(crate) fn new(alloc: Global) -> KeptLine
+        ensures { result ≡ nothing_held }
     {
         KeptLine {
-            bytes: Some(Vec::new(alloc)),
+            bytes: Vec::new(alloc),
+            too_long: false,
+            hole: false,
         }
+    }
+
+    /// Lets go of the line, for the next one, of which nothing has come yet.
+    fn clear(&mut self)
+        ensures { self.new ≡ nothing_held }
+    {
+        self.bytes.clear();
+        self.too_long = false;
+        self.hole = false;
     }
 
     /// Takes what comes next of the line. An error says that memory is short.
     fn add(&mut self, more: &[u8]) -> Result<(), AllocError>
         ensures { OnOk result (self.new ≡ longer LONGEST_LINE self.old more.now) }
     {
-        if let Some(bytes) = &mut self.bytes {
-            if more.len() > LONGEST_LINE - bytes.len() {
-                self.bytes = None;
+        self.hole = self.hole || has_hole(more);
+        if !self.too_long {
+            if more.len() > LONGEST_LINE - self.bytes.len() {
+                self.too_long = true;
             } else {
-                bytes.extend_from_slice(more)?;
+                self.bytes.extend_from_slice(more)?;
             }
         }
         Ok(())
@@ -56,43 +72,58 @@ impl KeptLine {
 
     /// The line, or `None` where it is too long.
     pub(crate) fn given(&self) -> Option<&[u8]>
-        ensures { option_map (λ bytes. bytes.now) result ≡ self.now }
+        ensures { option_map (λ bytes. bytes.now) result ≡ self.now.given }
     {
-        match &self.bytes {
-            Some(bytes) => Some(bytes.as_slice()),
-            None => None,
+        if self.too_long {
+            None
+        } else {
+            Some(self.bytes.as_slice())
         }
     }
+
+    /// Whether a byte of the line is 0.
+    pub(crate) fn has_hole(&self) -> bool
+        ensures { result ≡ self.now.hole }
+    {
+        self.hole
+    }
+}
+
+/// Whether one of these bytes is 0.
+fn has_hole(bytes: &[u8]) -> bool
+    ensures { result ≡ has_hole bytes.now }
+{
+    bytes.iter().any(|byte| *byte == 0)
 }
 
 /// What was read last of a line.
 pub(crate) enum Piece {
     /// Bytes behind which the line goes on.
     Part,
-    /// The last bytes of the line, and its line feed.
-    Last,
+    /// The last bytes of the line, and its line feed; and whether a further line is at hand, which needs no waiting.
+    Last(bool),
     /// Nothing: the input has ended.
     End,
 }
 
-/// Reads the next line and the line feed behind it. `None` says that the input has ended; what stood behind its last
-/// line feed is no line.
+/// Reads the next line and the line feed behind it, and answers whether a further line is at hand, which needs no waiting.
+/// `None` says that the input has ended; what stood behind its last line feed is no line.
 ///
 /// A line with more than `LONGEST_LINE` bytes is read to its line feed and not kept. After an error a part of the line
 /// may have been read.
 pub(crate) fn next_line<X: Wait, R: BufRead>(
     rt: &X,
-    alloc: Global,
     reader: &mut R,
-) -> Result<Option<KeptLine>, ReadError>
-    ensures next { IfOk result (IsNextLine LONGEST_LINE (R.remaining reader.old) (R.remaining reader.new)) }
+    line: &mut KeptLine,
+) -> Result<Option<bool>, ReadError>
+    ensures next { IfOk result (IsNextLine LONGEST_LINE (R.remaining reader.old) (R.remaining reader.new) line.new) }
     ensures failed { IfErr result (λ why. why ≢ ReadError.TooLong) }
 {
-    let mut line = KeptLine::new(alloc);
+    line.clear();
     for _ in rt.forever() {
-        match read_piece(reader, &mut line)? {
+        match read_piece(reader, line)? {
             Piece::Part => {}
-            Piece::Last => return Ok(Some(line)),
+            Piece::Last(more) => return Ok(Some(more)),
             Piece::End => return Ok(None),
         }
     }
@@ -114,8 +145,9 @@ fn read_piece<R: BufRead>(reader: &mut R, line: &mut KeptLine) -> Result<Piece, 
     match feed_in(available) {
         Some(end) => {
             add_piece(line, &available[..end])?;
+            let more = feed_in(&available[end + 1..]).is_some();
             reader.consume(end + 1);
-            Ok(Piece::Last)
+            Ok(Piece::Last(more))
         }
         None => {
             let length = available.len();

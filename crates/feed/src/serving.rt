@@ -1,117 +1,156 @@
-//! Serving the lines of a live host as they come: each is answered before the next one is waited for.
+//! Serving the lines of a live host as they come.
 
-ghost use Rattle.std.specs.Prelude.{◌≡◌, ◌+◌, ◌-◌, ◌^◌, option_map, IfErr, IfOk, OnOk, IsOkUnless};
-ghost use Rattle.std.specs.Io.KnownBytes.{Appends, Keeps};
-ghost use Rattle.feed.specs.Served.{HasServedLine, HasServedStream};
+ghost use Rattle.std.specs.Prelude.{◌≡◌, ◌+◌, ◌^◌, [], IfErr, IfOk, OnErr};
+ghost use Rattle.std.specs.Io.KnownBytes.{Keeps};
+ghost use Rattle.feed.specs.Hosted.{HasDone, HasHostedStream};
+ghost use Rattle.feed.specs.Served.{kept_as};
+ghost use Rattle.feed.specs.Steps.{HasAnsweredLine, HasServedLine, HasTold};
 
-use crate::reading::{LONGEST_LINE, next_line};
-use scripts::Stop;
+use crate::answering::{Answer, Desk, LineServer};
+use crate::fault::{Fault, fault_of_read};
+use crate::reading::{KeptLine, LONGEST_LINE, next_line};
 use std::alloc::{AllocError, Global};
-use std::io::{BufRead, Write};
+use std::io::BufRead;
 use std::sync::Wait;
 
-/// What answers the lines of a live host.
-///
-/// `serves` says what is written of a line, and which state it leaves.
-pub trait LineServer {
-    ghost use Rattle.std.specs.Prelude.{IfOk, option_map, string_bytes};
-    ghost use Rattle.feed.specs.Served.{Serving, block_bytes};
-
-    ghost serves: { Serving Self };
-
-    /// Answers a line with its number: what is written of it, whole lines with their line feeds, or nothing. `None` is
-    /// a line that is too long. An error says that memory is short; then nothing is served any more.
-    fn serve(
-        &mut self,
-        alloc: Global,
-        number: u64,
-        line: Option<&[u8]>,
-    ) -> Result<Option<String>, AllocError>
-        ensures { IfOk result (λ block.
-            serves self.old number (option_map (λ bytes. bytes.now) line.entry) (block_bytes (option_map string_bytes block)) self.new) };
+/// A live host at work: what answers its lines, and how many there were.
+#[derive(Drop)]
+pub struct Feed<S: LineServer> {
+    alloc: Global,
+    server: S,
+    count: u64,
+    line: KeptLine,
+    waiting: Vec<u8>,
 }
 
-/// Reads lines until the input ends, and gives each to what serves them, with its number, counted from 1 over all
-/// lines. What is written of a line is written, and `out` flushed, before the next line is waited for.
-///
-/// A line ends with its line feed, and is given without it; what stands behind the last line feed when the input ends
-/// is no line. One with more than `LONGEST_LINE` bytes is given as too long, and skipped. At most one line is kept.
-///
-/// It stops early where a read fails ([`Stop::CannotRead`]), memory is short ([`Stop::NoMemory`]), a write fails
-/// ([`Stop::CannotWrite`]), or no number below 2^64 is left for a line ([`Stop::TooLong`]). The lines before the fault
-/// have been served, and what was written of them stays written; but after a failed write nothing is said of either.
-/// [`Stop::BadLine`] never comes: a server says itself what is written of a bad line.
-pub fn serve_stream<X: Wait, S: LineServer, R: BufRead, W: Write>(
-    rt: &X,
-    alloc: Global,
-    server: &mut S,
-    input: &mut R,
-    out: &mut W,
-) -> Result<(), Stop>
-    ensures { HasServedStream LONGEST_LINE S.serves server.old
-        (R.remaining input.old) (R.remaining input.new) (W.contents out.old) (W.contents out.new) result server.new }
-{
-    let mut count = 0;
-    for _ in rt.forever() {
-        let Some(line) = next_line(rt, alloc, input)? else {
-            return Ok(());
-        };
-        let number = number_after(count)?;
-        let served = serve_line(alloc, server, number, line.given(), out);
-        drop(line);
-        served?;
-        count = number;
+impl<S: LineServer> Feed<S> {
+    /// A host of which so many lines have been served.
+    pub fn new(alloc: Global, server: S, count: u64) -> Feed<S>
+        ensures server { result.server ≡ server }
+        ensures count { result.count ≡ count }
+        ensures waiting { result.waiting.items ≡ [] }
+    {
+        Feed {
+            alloc,
+            server,
+            count,
+            line: KeptLine::new(alloc),
+            waiting: Vec::new(alloc),
+        }
     }
-    unreachable!()
+
+    /// Reads lines until the input ends, and has each of them answered, with its number, counted over all lines. A line
+    /// stands in the journal, and the journal is on the disk, before anything is told of it. The lines at hand go there
+    /// together, and what they are answered is told before a further one is waited for.
+    ///
+    /// A line ends with its line feed, and is given without it; what stands behind the last line feed when the input ends
+    /// is no line. One with more than [`LONGEST_LINE`] bytes is given as too long, and skipped.
+    ///
+    /// It stops early at a [`Fault`]. Where a read fails, no number is left, or memory is short, the lines before have been
+    /// told. Where a line cannot be written to the journal they have been told too, if they could be brought to the disk.
+    pub fn serve<X: Wait, R: BufRead, D: Desk>(
+        &mut self,
+        rt: &X,
+        input: &mut R,
+        desk: &mut D,
+    ) -> Result<(), Fault>
+        requires { self.old.waiting.items ≡ [] }
+        ensures { HasHostedStream S.serves LONGEST_LINE self.old.server (self.old.count + 1) (R.remaining input.old) (R.remaining input.new)
+            (HasDone (D.acts desk.old) (D.acts desk.new) (D.told desk.old) (D.told desk.new)) result self.new.server }
+    {
+        for _ in rt.forever() {
+            match next_line(rt, input, &mut self.line) {
+                Ok(Some(more)) => {
+                    if let Err(fault) = self.serve_line(desk) {
+                        self.tell(desk)?;
+                        return Err(fault);
+                    }
+                    if !more {
+                        self.tell(desk)?;
+                    }
+                }
+                Ok(None) => return self.tell(desk),
+                Err(error) => {
+                    self.tell(desk)?;
+                    return Err(fault_of_read(error));
+                }
+            }
+        }
+        unreachable!()
+    }
+
+    /// Has the line answered, and writes it to the journal.
+    fn serve_line<D: Desk>(&mut self, desk: &mut D) -> Result<(), Fault>
+        ensures served { HasServedLine S.serves self.old.server self.old.count self.old.line.given self.old.waiting.items
+            (D.acts desk.old) (D.acts desk.new) result self.new.waiting.items self.new.count self.new.server }
+        ensures told { Keeps (D.told desk.old) (D.told desk.new) }
+    {
+        let number = number_after(self.count)?;
+        let told = self.waiting.len();
+        let kept = self.answer_line(number)?;
+        if desk.append(journal_line(&self.line, kept)) {
+            self.count = number;
+            if told < self.waiting.len() {
+                desk.explain(number, self.line.given(), self.waiting.as_slice());
+            }
+            Ok(())
+        } else {
+            self.waiting.truncate(told);
+            Err(Fault::NotAppended)
+        }
+    }
+
+    /// Has the line answered, and answers whether the journal keeps it. What is told of it waits. An error says that memory
+    /// is short.
+    fn answer_line(&mut self, number: u64) -> Result<bool, AllocError>
+        ensures answered { IfOk result (λ kept. HasAnsweredLine S.serves self.old.server number self.old.line.given self.old.waiting.items kept self.new.waiting.items self.new.server) }
+        ensures unanswered { OnErr result (self.new.waiting.items ≡ self.old.waiting.items) }
+        ensures same { (self.new.count ≡ self.old.count) × (self.new.line ≡ self.old.line) }
+    {
+        match self.server.serve(self.alloc, number, self.line.given())? {
+            None => Ok(false),
+            Some(Answer { block, kept }) => {
+                let waits = self.waiting.extend_from_slice(block.as_str().as_bytes());
+                drop(block);
+                waits?;
+                Ok(kept)
+            }
+        }
+    }
+
+    /// Brings what was written to the disk, and then tells what lines were answered.
+    fn tell<D: Desk>(&mut self, desk: &mut D) -> Result<(), Fault>
+        ensures told { HasTold self.old.waiting.items (D.acts desk.old) (D.acts desk.new) (D.told desk.old) (D.told desk.new) result self.new.waiting.items }
+        ensures same { (self.new.server ≡ self.old.server) × (self.new.count ≡ self.old.count) }
+    {
+        if !desk.sync() {
+            return Err(Fault::NotSynced);
+        }
+        if !desk.tell(self.waiting.as_slice()) {
+            return Err(Fault::CannotWrite);
+        }
+        self.waiting.clear();
+        Ok(())
+    }
+}
+
+/// The line of the journal that stands for a line: the line, or an empty one.
+fn journal_line(line: &KeptLine, kept: bool) -> &[u8]
+    ensures { result.now ≡ kept_as line.now.given kept }
+{
+    match line.given() {
+        Some(bytes) if kept => bytes,
+        _ => &[],
+    }
 }
 
 /// The number of the line behind so many. The error says that there is none.
-fn number_after(count: u64) -> Result<u64, Stop>
+fn number_after(count: u64) -> Result<u64, Fault>
     ensures number { IfOk result (λ number. number ≡ count + 1) }
-    ensures none { IfErr result (λ why. (why ≡ Stop.TooLong) × (count ≡ 2 ^ 64 - 1)) }
+    ensures none { IfErr result (λ why. (why ≡ Fault.TooLong) × (count + 1 ≡ 2 ^ 64)) }
 {
     match count.checked_add(1) {
         Some(number) => Ok(number),
-        None => Err(Stop::TooLong),
-    }
-}
-
-/// Serves one line and hands on what is written of it.
-fn serve_line<S: LineServer, W: Write>(
-    alloc: Global,
-    server: &mut S,
-    number: u64,
-    line: Option<&[u8]>,
-    out: &mut W,
-) -> Result<(), Stop>
-    ensures { HasServedLine S.serves server.old number (option_map (λ bytes. bytes.now) line.entry)
-        (W.contents out.old) (W.contents out.new) result server.new }
-{
-    match server.serve(alloc, number, line) {
-        Ok(Some(block)) => write_block(out, block.as_str()),
-        Ok(None) => Ok(()),
-        Err(_) => Err(Stop::NoMemory),
-    }
-}
-
-/// Writes a block of lines and hands it on.
-fn write_block<W: Write>(out: &mut W, block: &str) -> Result<(), Stop>
-    ensures written { OnOk result (Appends (W.contents out.old) (W.contents out.new) block.now) }
-    ensures failed { IsOkUnless result Stop.CannotWrite }
-{
-    match out.write_all(block.as_bytes()) {
-        Ok(()) => flush(out),
-        Err(_) => Err(Stop::CannotWrite),
-    }
-}
-
-/// Hands on what was written.
-fn flush<W: Write>(out: &mut W) -> Result<(), Stop>
-    ensures kept { OnOk result (Keeps (W.contents out.old) (W.contents out.new)) }
-    ensures failed { IsOkUnless result Stop.CannotWrite }
-{
-    match out.flush() {
-        Ok(()) => Ok(()),
-        Err(_) => Err(Stop::CannotWrite),
+        None => Err(Fault::TooLong),
     }
 }

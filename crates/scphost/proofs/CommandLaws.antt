@@ -28,4 +28,9 @@ performed_as_it_comes call input old new end performed = inr (inl (input, perfor
 -- one of its files cannot be opened
 pub not_opened : (call : Call) (old new : Option Bytes) (end : End) → end ≡ Err stop.CannotRead
     → Keeps old new → IsCarriedOut call old new end
-not_opened call old new end is kept = inr (inr (is, kept))
+not_opened call old new end is kept = inr (inr (inl is, kept))
+
+-- there is no memory to read it
+pub no_room : (call : Call) (old new : Option Bytes) (end : End) → end ≡ Err stop.NoMemory
+    → Keeps old new → IsCarriedOut call old new end
+no_room call old new end is kept = inr (inr (inr is, kept))

@@ -1,2 +1,3 @@
 mod PrintingLaws
 mod CommandLaws
+pub mod HostingLaws

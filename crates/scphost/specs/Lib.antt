@@ -1,4 +1,5 @@
 pub mod Stops
+pub mod Hosting
 pub mod Commands
 pub mod Printing
 pub mod Reporting

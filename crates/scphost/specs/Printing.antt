@@ -6,17 +6,15 @@ use Rattle.scripts.specs.Runs.{HasRunScript, Refusing, Telling}
 use Rattle.scripts.specs.Streams.{HasRunStream}
 use Rattle.scripts.specs.declared.run.Stop.{Stop}
 use Rattle.scripts.specs.declared.run.Stop.TheVariants as stop
-use Rattle.feed.specs.Served.{HasServedStream}
-use Rattle.feed.specs.declared.reading.TheConstants.{LONGEST_LINE}
 use Rattle.tables.specs.TableLines
 use Rattle.runs.specs.Hosting.{new_hosting}
 use Rattle.runs.specs.Running
 use Rattle.runs.specs.Plans.{Plan}
 use Rattle.runs.specs.Submitting.{Submitting}
 use Rattle.pooled.specs.Pooling.{IsPoolText}
-use Rattle.serving.specs.Hosts.{Live, Serves, new_live}
 use Rattle.answers.specs.Comparisons.{IsComparison}
 use Rattle.answers.specs.Crowding.{TellsCrowd}
+use Rattle.scphost.specs.Hosting.{HasServed}
 use Rattle.scphost.specs.Reporting.{IsReport}
 use Rattle.answers.specs.Scripts.{IsPlannedBy, IsSubmittedBy, IsStoryOf, Story, longest_script}
 use Rattle.answers.specs.Scripts.{StopsPlan, StopsStories, StopsStory, StopsSubmissions}
@@ -75,7 +73,7 @@ HasRunLines {S = S} tells refuses start script old new end =
 
 -- whether a call names the files that it reads
 abbrev pub names_files : Call → Bool
-names_files (Serve workers bytes explain) = false
+names_files (Serve workers bytes explain journal from) = false
 names_files _ = true
 
 -- what a call does with its files: it runs the lines of one, or prints the answer; a call that names none is not
@@ -93,7 +91,7 @@ IsPerformed (Compare one other subject explain) first second old new end =
     HasAnswered (IsCompared explain subject first second) (StopsStories explain first second) old new end
 IsPerformed (Crowd one other subject) first second old new end =
     HasAnswered (IsCrowd subject first second) (StopsSubmissions first second) old new end
-IsPerformed (Serve workers bytes explain) first second old new end = ⊥
+IsPerformed (Serve workers bytes explain journal from) first second old new end = ⊥
 
 -- the same of lines each of which is answered before the next one is read
 abbrev pub HasRunAsTheyCome : {S : Type 0} → Telling S → Refusing S → S → Option Bytes → Option Bytes → Option Bytes
@@ -101,13 +99,6 @@ abbrev pub HasRunAsTheyCome : {S : Type 0} → Telling S → Refusing S → S �
 HasRunAsTheyCome {S = S} tells refuses start input old new end =
     (ran : Result (Unit {0}) Stop) × (last : S) × IsEndOf ran end
     × HasRunStream longest_script tells refuses start input old new ran last
-
--- a live host, which has no networks at first and prints envelopes as bytes if that is asked for, served what it was sent
--- line by line as it came, and what it answered is written; it is told how that ended
-abbrev pub HasServed : Bool → Option Bytes → Option Bytes → Option Bytes → End → Type 0
-HasServed bytes input old new end =
-    (ran : Result (Unit {0}) Stop) × (left : Option Bytes) × (last : Live) × IsEndOf ran end
-    × HasServedStream LONGEST_LINE Serves (new_live bytes) input left old new ran last
 
 -- what a call does with the standard input: it runs or serves its lines as they come, or is performed on all of it
 abbrev pub IsPerformedAsItComes : Call → Option Bytes → Option Bytes → Option Bytes → End → Type 0
@@ -123,7 +114,8 @@ IsPerformedAsItComes (Compare one other subject explain) input old new end =
     IsPerformed (Compare one other subject explain) input (Some []) old new end
 IsPerformedAsItComes (Crowd one other subject) input old new end =
     IsPerformed (Crowd one other subject) input (Some []) old new end
-IsPerformedAsItComes (Serve workers bytes explain) input old new end = HasServed bytes input old new end
+IsPerformedAsItComes (Serve workers bytes explain journal from) input old new end =
+    HasServed bytes journal from input old new end
 
 -- what answers words that are no call: help is printed whole, or a write failed (4); else nothing is printed, and the
 -- words are at fault (2), or there was no memory (3)

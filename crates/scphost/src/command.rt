@@ -9,8 +9,8 @@ use crate::perform::{exit_status, perform, perform_stream, print_stop, print_usa
 use command_line::{Call, read_call};
 use scripts::Stop;
 use std::convert::AsStr;
-use std::io::{Input, Read, Write};
-use std::rt::Files;
+use std::fs::{File, Files};
+use std::io::{BufReader, Input, Read, Write};
 use std::sync::Wait;
 use std::thread::Threads;
 use std::{fs, io};
@@ -20,7 +20,7 @@ use std::{fs, io};
 /// are a call are refused only for want of memory.
 #[tactic(auto, using(crate::proofs::CommandLaws::called))]
 pub fn answer_words<
-    R: Files + Input + AllocGlobal + Threads + Wait + Sync + Send + Copy + Drop,
+    R: Files<File = File> + Input + AllocGlobal + Threads + Wait + Sync + Send + Copy + Drop,
     S: AsStr,
     W: Write,
     E: Write,
@@ -39,9 +39,9 @@ pub fn answer_words<
 
 /// Opens the files of a call in order and carries it out. The file `-` is the standard input, and a live host reads its
 /// lines there.
-#[tactic(auto, using(crate::proofs::CommandLaws::performed_as_it_comes))]
+#[tactic(auto, using(crate::proofs::CommandLaws::performed_as_it_comes, crate::proofs::CommandLaws::no_room))]
 fn open_and_perform<
-    R: Files + Input + AllocGlobal + Threads + Wait + Sync + Send + Copy + Drop,
+    R: Files<File = File> + Input + AllocGlobal + Threads + Wait + Sync + Send + Copy + Drop,
     W: Write,
     E: Write,
 >(rt: &R, call: &Call, outputs: &mut Outputs<W, E>) -> Result<bool, Stop>
@@ -54,14 +54,18 @@ fn open_and_perform<
         Call::Compare { first, second, .. } | Call::Crowd { first, second, .. } => {
             perform_two(rt, call, first.as_str(), second.as_str(), outputs)
         }
-        Call::Serve { .. } => perform_stream(rt, call, &mut rt.reader(), outputs),
+        // The reader of a pipe asks it for each byte.
+        Call::Serve { .. } => match BufReader::new(rt.alloc(), rt.reader()) {
+            Ok(mut input) => perform_stream(rt, call, &mut input, outputs),
+            Err(_) => print_stop(Stop::NoMemory, "", &mut outputs.err),
+        },
     }
 }
 
 /// Opens the file of a call and carries it out.
 #[tactic(auto, using(crate::proofs::CommandLaws::performed_on, crate::proofs::CommandLaws::performed_as_it_comes, crate::proofs::CommandLaws::not_opened))]
 fn perform_one<
-    R: Files + Input + AllocGlobal + Threads + Wait + Sync + Send + Copy + Drop,
+    R: Files<File = File> + Input + AllocGlobal + Threads + Wait + Sync + Send + Copy + Drop,
     W: Write,
     E: Write,
 >(rt: &R, call: &Call, file: &str, outputs: &mut Outputs<W, E>) -> Result<bool, Stop>
@@ -80,7 +84,7 @@ fn perform_one<
 /// Opens both files of a call, the first one first, and carries it out. One of them may be the standard input.
 #[tactic(auto, using(crate::proofs::CommandLaws::performed_on, crate::proofs::CommandLaws::not_opened))]
 fn perform_two<
-    R: Files + Input + AllocGlobal + Threads + Wait + Sync + Send + Copy + Drop,
+    R: Files<File = File> + Input + AllocGlobal + Threads + Wait + Sync + Send + Copy + Drop,
     W: Write,
     E: Write,
 >(rt: &R, call: &Call, one: &str, other: &str, outputs: &mut Outputs<W, E>) -> Result<bool, Stop>
@@ -104,7 +108,7 @@ fn perform_two<
 /// standard input.
 #[tactic(auto, using(crate::proofs::CommandLaws::performed_on, crate::proofs::CommandLaws::not_opened))]
 fn perform_with_second<
-    R: Files + AllocGlobal + Threads + Wait + Sync + Send + Copy + Drop,
+    R: Files<File = File> + AllocGlobal + Threads + Wait + Sync + Send + Copy + Drop,
     F: Read,
     W: Write,
     E: Write,

@@ -1,13 +1,18 @@
 //! A live host, which is sent its lines and answers each of them.
 
-ghost use Rattle.scphost.specs.Printing.{HasServed};
+ghost use Rattle.std.specs.Prelude.{◌≡◌, None, Some, Err};
+ghost use Rattle.serving.specs.Hosts.{new_live};
+ghost use Rattle.scphost.specs.Hosting.{HasServed, HasStarted, IsFrom};
+ghost use Rattle.scphost.specs.Stops.{IsEndOfHost, IsEndOfJournal};
 
-use crate::explaining::ExplainingHost;
 use crate::outputs::Outputs;
-use crate::perform::print_end;
-use feed::serve_stream;
+use crate::perform::print_stop;
+use crate::remembering::RememberedHost;
+use command_line::ReplayFrom;
+use feed::{Fault, Feed};
+use journal::{JournalFault, first_open_line, open_journal, resume};
 use scripts::Stop;
-use serving::LiveHost;
+use std::fs::{File, Files};
 use std::io::{BufRead, Write};
 use std::sync::Wait;
 
@@ -18,8 +23,15 @@ pub struct AnswerForm {
     pub explain: bool,
 }
 
+/// The journal of a live host: the name of its file, and from which line on its blocks are printed at the start.
+#[derive(Clone, Copy)]
+pub struct JournalUse<'a> {
+    pub name: &'a str,
+    pub from: Option<ReplayFrom>,
+}
+
 /// Hosts the networks that the lines of an input declare, until it ends, and answers how it ended. What is answered to a
-/// line is written to `outputs.out` before the next one is waited for, with envelopes as bytes where that is asked for.
+/// line is written to `outputs.out` before a further one is waited for, with envelopes as bytes where that is asked for.
 /// Why lines are bad, where that is asked for, and one line on what ended it early go to `outputs.err`.
 ///
 /// One thread serves all networks.
@@ -29,15 +41,132 @@ pub fn serve<A: AllocGlobal + Wait, R: BufRead, W: Write, E: Write>(
     input: &mut R,
     outputs: &mut Outputs<W, E>,
 ) -> Result<bool, Stop>
-    ensures { HasServed form.bytes (R.remaining input.old) (W.contents outputs.old.out) (W.contents outputs.new.out) result }
+    ensures { HasServed form.bytes None None (R.remaining input.old) (W.contents outputs.old.out) (W.contents outputs.new.out) result }
+{
+    outputs.explain = form.explain;
+    let alloc = rt.alloc();
+    let host = RememberedHost::new(alloc, form.bytes, false);
+    let mut feed = Feed::new(alloc, host, 0);
+    let ran = feed.serve(rt, input, outputs);
+    drop(feed);
+    print_end_of_host(ran, "", &mut outputs.err)
+}
+
+/// The same with a journal, which has each line, on the disk, before anything is told of it. Its lines are run first, up
+/// to its end; what some of them were answered is written again if that is asked for, and then `resumed L`, L being how
+/// many there are.
+pub fn serve_with_journal<
+    A: AllocGlobal + Wait + Files<File = File>,
+    R: BufRead,
+    W: Write,
+    E: Write,
+>(
+    rt: &A,
+    form: AnswerForm,
+    journal: JournalUse<'_>,
+    input: &mut R,
+    outputs: &mut Outputs<W, E>,
+) -> Result<bool, Stop>
+    ensures { HasServed form.bytes (Some journal.entry.name.now) journal.entry.from (R.remaining input.old) (W.contents outputs.old.out) (W.contents outputs.new.out) result }
 {
     let alloc = rt.alloc();
-    let mut host = ExplainingHost {
-        host: LiveHost::new(alloc, form.bytes),
-        err: &mut outputs.err,
-        explain: form.explain,
+    let mut host = RememberedHost::new(alloc, form.bytes, true);
+    let (file, count) = match start(rt, journal, form.bytes, &mut host, &mut outputs.out) {
+        Ok(started) => started,
+        Err(fault) => {
+            drop(host);
+            return print_end_of_journal(fault, journal.name, &mut outputs.err);
+        }
     };
-    let ran = serve_stream(rt, alloc, &mut host, input, &mut outputs.out);
-    drop(host);
-    print_end(ran, "-", &mut outputs.err)
+    outputs.journal = Some(file);
+    outputs.explain = form.explain;
+    let mut feed = Feed::new(alloc, host, count);
+    let ran = feed.serve(rt, input, outputs);
+    drop(feed);
+    print_end_of_host(ran, journal.name, &mut outputs.err)
+}
+
+/// Opens the journal of a host and goes on from it. It answers the file, and how many lines it has.
+fn start<A: AllocGlobal + Wait + Files<File = File>, W: Write>(
+    rt: &A,
+    journal: JournalUse<'_>,
+    bytes: bool,
+    host: &mut RememberedHost,
+    out: &mut W,
+) -> Result<(File, u64), JournalFault>
+    requires { host.old ≡ new_live bytes }
+    ensures { HasStarted bytes journal.entry.from (W.contents out.old) (W.contents out.new) result host.new }
+{
+    let file = open_journal(rt, journal.name)?;
+    let from = first_told(rt, &file, bytes, journal.from)?;
+    let count = resume(rt, &file, host, from, out)?;
+    Ok((file, count))
+}
+
+/// From which line of a journal on answers are told.
+fn first_told<A: AllocGlobal + Wait>(
+    rt: &A,
+    file: &File,
+    bytes: bool,
+    from: Option<ReplayFrom>,
+) -> Result<Option<u64>, JournalFault>
+    ensures { IsFrom bytes from result }
+{
+    match from {
+        None => Ok(None),
+        Some(ReplayFrom::Line(line)) => Ok(Some(line)),
+        Some(ReplayFrom::Open) => {
+            first_open_line(rt, file, RememberedHost::new(rt.alloc(), bytes, true))
+        }
+    }
+}
+
+/// Says on `err` what ended a host early, whose journal, if it has one, has this name, and answers that.
+fn print_end_of_host<E: Write>(
+    ran: Result<(), Fault>,
+    journal: &str,
+    err: &mut E,
+) -> Result<bool, Stop>
+    ensures { IsEndOfHost ran result }
+{
+    match ran {
+        Ok(()) => Ok(false),
+        Err(Fault::CannotRead) => print_stop(Stop::CannotRead, "-", err),
+        Err(Fault::TooLong) => print_stop(Stop::TooLong, "-", err),
+        Err(Fault::NoMemory) => print_stop(Stop::NoMemory, "", err),
+        Err(Fault::NotAppended | Fault::NotSynced) => print_not_written(journal, err),
+        Err(Fault::CannotWrite) => print_stop(Stop::CannotWrite, "", err),
+    }
+}
+
+/// Says on `err` why a host does not start from the journal of this name, and answers that.
+fn print_end_of_journal<E: Write>(
+    fault: JournalFault,
+    journal: &str,
+    err: &mut E,
+) -> Result<bool, Stop>
+    ensures { IsEndOfJournal fault result }
+{
+    match fault {
+        JournalFault::CannotRead => print_stop(Stop::CannotRead, journal, err),
+        JournalFault::InUse => {
+            let _ = writeln!(err, "journal in use");
+            Err(Stop::CannotRead)
+        }
+        JournalFault::BadLine(number) => {
+            let _ = writeln!(err, "bad journal line {number}");
+            Err(Stop::BadLine(number))
+        }
+        JournalFault::CannotWrite => print_not_written(journal, err),
+        JournalFault::CannotTell => print_stop(Stop::CannotWrite, "", err),
+        JournalFault::NoMemory => print_stop(Stop::NoMemory, "", err),
+    }
+}
+
+/// Says on `err` that the journal of this name cannot be written, and answers that.
+fn print_not_written<E: Write>(journal: &str, err: &mut E) -> Result<bool, Stop>
+    ensures { result ≡ Err Stop.CannotWrite }
+{
+    let _ = writeln!(err, "cannot write {journal}");
+    Err(Stop::CannotWrite)
 }

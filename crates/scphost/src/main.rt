@@ -8,6 +8,7 @@ mod outputs;
 mod perform;
 mod pooling;
 mod printing;
+mod remembering;
 mod reporting;
 
 use command::answer_words;
@@ -16,9 +17,10 @@ use outputs::Outputs;
 use perform::{exit_status, print_stop, print_usage};
 use scripts::Stop;
 use std::env;
+use std::fs::{File, Files};
 use std::io::{BufWriter, ErrorKind, Input, Write};
 use std::process::ExitCode;
-use std::rt::{Env, Files};
+use std::rt::Env;
 use std::sync::Wait;
 use std::thread::Threads;
 
@@ -27,7 +29,15 @@ use std::thread::Threads;
 fn main(rt: HostRuntime) -> ExitCode {
     let mut err = rt.stderr();
     let status = match BufWriter::new(rt.alloc(), rt.stdout()) {
-        Ok(out) => run_command_line(&rt, Outputs { out, err }),
+        Ok(out) => {
+            let outputs = Outputs {
+                out,
+                err,
+                journal: None,
+                explain: false,
+            };
+            run_command_line(&rt, outputs)
+        }
         Err(_) => exit_status(print_stop(Stop::NoMemory, "", &mut err)),
     };
     ExitCode::from(status)
@@ -36,7 +46,7 @@ fn main(rt: HostRuntime) -> ExitCode {
 /// Answers the words of the command line, and gives the status. What is still kept at the end is given up: a write
 /// failed, and nothing is written after it.
 fn run_command_line<
-    R: Env + Files + Input + AllocGlobal + Threads + Wait + Sync + Send + Copy + Drop,
+    R: Env + Files<File = File> + Input + AllocGlobal + Threads + Wait + Sync + Send + Copy + Drop,
     W: Write + Drop,
     E: Write + Drop,
 >(rt: &R, outputs: Outputs<BufWriter<W>, E>) -> u8 {
@@ -45,7 +55,7 @@ fn run_command_line<
         Ok(words) => answer_words(rt, words.as_slice(), &mut outputs),
         Err(usage) => print_usage(&usage, &mut outputs),
     };
-    let Outputs { out, err: _ } = outputs;
+    let Outputs { out, .. } = outputs;
     let (_, _) = out.into_parts();
     status
 }

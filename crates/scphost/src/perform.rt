@@ -7,7 +7,7 @@ ghost use Rattle.scphost.specs.Printing.{HasAnswered, HasAnsweredUsage, HasRunLi
 ghost use Rattle.answers.specs.Scripts.{StopsPlan, StopsStories, StopsStory, StopsSubmissions};
 ghost use Rattle.scphost.specs.Stops.{IsEndOf, status_of_end};
 
-use crate::hosting::{AnswerForm, serve};
+use crate::hosting::{AnswerForm, JournalUse, serve, serve_with_journal};
 use crate::outputs::Outputs;
 use crate::pooling::answer_pool;
 use crate::printing::{print_answer, write_text};
@@ -17,6 +17,7 @@ use command_line::{Call, Format, PoolSize, Usage, Word};
 use runs::HostRun;
 use scripts::{Stop, run_script, run_stream};
 use std::alloc::Global;
+use std::fs::{File, Files};
 use std::io;
 use std::io::{BufRead, Read, Write};
 use std::sync::Wait;
@@ -297,7 +298,7 @@ fn perform_crowd<R: Read, T: Read, W: Write, E: Write>(
 /// input that is too long: the lines before have been run, and what they printed is written. `closure`, `compare`, `crowd`
 /// and `run` with workers read it whole. `serve` goes on after a bad line.
 pub fn perform_stream<
-    A: AllocGlobal + Threads + Wait + Sync + Send + Copy + Drop,
+    A: Files<File = File> + AllocGlobal + Threads + Wait + Sync + Send + Copy + Drop,
     R: BufRead,
     W: Write,
     E: Write,
@@ -328,12 +329,27 @@ pub fn perform_stream<
         | Call::Closure { .. }
         | Call::Compare { .. }
         | Call::Crowd { .. } => { perform(rt, call, input, &mut io::empty(), outputs) }
-        Call::Serve { bytes, explain, .. } => {
+        Call::Serve {
+            bytes,
+            explain,
+            journal,
+            from,
+            ..
+        } => {
             let form = AnswerForm {
                 bytes: *bytes,
                 explain: *explain,
             };
-            serve(rt, form, input, outputs)
+            match journal {
+                None => serve(rt, form, input, outputs),
+                Some(name) => {
+                    let journal = JournalUse {
+                        name: name.as_str(),
+                        from: *from,
+                    };
+                    serve_with_journal(rt, form, journal, input, outputs)
+                }
+            }
         }
     }
 }

@@ -1,5 +1,5 @@
 -- A live host, and what it answers to its lines.
-use Rattle.std.specs.Prelude.{◌≡◌, ◌⊎◌, ◌+◌, ◌++◌, ◌&&◌, ◌==◌, if◌then◌else◌, option_map, not, ℕ, Bool, true, false, nat_lt, List, [], ◌∷◌, length, map, Option, Some, None, is_some}
+use Rattle.std.specs.Prelude.{◌≡◌, ◌⊎◌, ◌+◌, ◌++◌, ◌&&◌, ◌==◌, if◌then◌else◌, option_map, not, ℕ, Bool, true, false, nat_lt, List, [], ◌∷◌, length, Option, Some, None, is_some}
 use Rattle.std.specs.List.{flat_map, list_any}
 use Rattle.std.specs.Ordering.{nat_cmp}
 use Rattle.std.specs.BTreeMap.{insert_entry, is_at}
@@ -17,6 +17,7 @@ use Rattle.network.specs.Decoding.{step_of}
 use Rattle.network.specs.Standing.{Machine, StandsFor, node_at}
 use Rattle.network.specs.declared.network.Used.{Used}
 use Rattle.scripts.specs.Script.{AreFields, Bytes, IsBad, IsSkipped}
+use Rattle.feed.specs.Served.{Reply, Serving, unanswered}
 use Rattle.requests.specs.declared.request.Declaration.{Declaration}
 use Rattle.requests.specs.declared.request.Declaration.TheVariants as declaration
 use Rattle.requests.specs.Outlines.{IsConfigOf, Outlined, Waiting, waiting_at, waiting_without}
@@ -54,6 +55,10 @@ live_at l g = lookup (is_at (nat_cmp g)) l.running
 -- the same with that one in its place
 abbrev pub with_live : Live → ℕ → Machine → Live
 with_live l g m = record l { running = set_value (is_at (nat_cmp g)) l.running m }
+
+-- the answer that is one line
+abbrev pub one_line : ℕ → Closing → Bool → Reply
+one_line n c kept = record { text = closing_line n c; kept = kept }
 
 -- ---- declarations
 -- A declaration is taken. A network is one that is not declared, where fewer than 4,096 are; a node and a roster are those
@@ -93,16 +98,16 @@ IsBegun g old true new = IsStarted (waiting_at old.waiting g) g old new
 IsBegun g old false new = (is_bare (waiting_at old.waiting g) ≡ true) × (new ≡ old)
 
 -- ---- events
--- an event of a network that runs, if it does, is served, and this is its block
-abbrev pub IsServedAt : Option Machine → ℕ → ℕ → Event → Live → Bytes → Live → Type 0
-IsServedAt None n g e old text new = (text ≡ closing_line n (closing.Refused NoSuchNetwork)) × (new ≡ old)
-IsServedAt (Some m) n g e old text new =
+-- an event of a network that runs, if it does, is served, and then the line is kept; this is its answer
+abbrev pub IsServedAt : Option Machine → ℕ → ℕ → Event → Live → Reply → Live → Type 0
+IsServedAt None n g e old a new = (a ≡ one_line n (closing.Refused NoSuchNetwork) false) × (new ≡ old)
+IsServedAt (Some m) n g e old a new =
     (after : Machine) × (s : Served) × IsServedBy m (step_of e) after s × (new ≡ with_live old g after)
-    × (text ≡ block_of old.bytes n g s.slot (tellings_of s.told.items) (ending_of s))
+    × (a ≡ record { text = block_of old.bytes n g s.slot (tellings_of s.told.items) (ending_of s); kept = true })
 
-abbrev pub IsEventAnswered : ℕ → ℕ → Event → Live → Bytes → Live → Type 0
-IsEventAnswered n g e old text new =
-    (running : Option Machine) × (live_at old g ≡ running) × IsServedAt running n g e old text new
+abbrev pub IsEventAnswered : ℕ → ℕ → Event → Live → Reply → Live → Type 0
+IsEventAnswered n g e old a new =
+    (running : Option Machine) × (live_at old g ≡ running) × IsServedAt running n g e old a new
 
 -- ---- bytes for all nodes
 -- each of these nodes gets the bytes, one after the other
@@ -148,29 +153,37 @@ abbrev pub closing_of_answers : List NodeAnswer → Closing
 closing_of_answers [] = closing.Refused NoSuchNode
 closing_of_answers (a ∷ answers) = better (closing_of (ending_of a.served)) (closing_of_answers answers)
 
--- bytes come to each hosted node of a network that runs, if it does, and this is the block
-abbrev pub AreServedAt : Option Machine → ℕ → ℕ → Bytes → Live → Bytes → Live → Type 0
-AreServedAt None n g bytes old text new = (text ≡ closing_line n (closing.Refused NoSuchNetwork)) × (new ≡ old)
-AreServedAt (Some m) n g bytes old text new =
-    (after : Machine) × (answers : List NodeAnswer) × AreServed bytes (names_of m.config.nodes) m answers after
-    × (new ≡ with_live old g after)
-    × (text ≡ lines_of_answers (slot_of_answers answers) old.bytes n g answers ++ closing_line n (closing_of_answers answers))
+-- the lines of all, and how the block ends
+abbrev pub block_of_answers : Bool → ℕ → ℕ → List NodeAnswer → Bytes
+block_of_answers b n g answers =
+    lines_of_answers (slot_of_answers answers) b n g answers ++ closing_line n (closing_of_answers answers)
 
-abbrev pub AreAllAnswered : ℕ → ℕ → Bytes → Live → Bytes → Live → Type 0
-AreAllAnswered n g bytes old text new =
-    (running : Option Machine) × (live_at old g ≡ running) × AreServedAt running n g bytes old text new
+-- bytes come to each hosted node of a network that runs, if it does, and then the line is kept; this is the answer
+abbrev pub AreServedAt : Option Machine → ℕ → ℕ → Bytes → Live → Reply → Live → Type 0
+AreServedAt None n g bytes old a new = (a ≡ one_line n (closing.Refused NoSuchNetwork) false) × (new ≡ old)
+AreServedAt (Some m) n g bytes old a new =
+    (after : Machine) × (answers : List NodeAnswer) × AreServed bytes (names_of m.config.nodes) m answers after
+    × (new ≡ with_live old g after) × (a ≡ record { text = block_of_answers old.bytes n g answers; kept = true })
+
+abbrev pub AreAllAnswered : ℕ → ℕ → Bytes → Live → Reply → Live → Type 0
+AreAllAnswered n g bytes old a new =
+    (running : Option Machine) × (live_at old g ≡ running) × AreServedAt running n g bytes old a new
 
 -- ---- networks that are taken back
-abbrev pub IsDroppedAt : Option Outlined → Option Machine → ℕ → Live → Closing → Live → Type 0
-IsDroppedAt (Some d) running g old c new =
-    (c ≡ closing.Taken) × (new ≡ record old { waiting = waiting_without old.waiting g })
-IsDroppedAt None (Some m) g old c new =
-    (c ≡ closing.Taken) × (new ≡ record old { running = remove_entry (is_at (nat_cmp g)) old.running })
-IsDroppedAt None None g old c new = (c ≡ closing.Refused NoSuchNetwork) × (new ≡ old)
+abbrev pub IsDroppedAt : Option Outlined → Option Machine → ℕ → Live → Bool → Live → Type 0
+IsDroppedAt (Some d) running g old taken new =
+    (taken ≡ true) × (new ≡ record old { waiting = waiting_without old.waiting g })
+IsDroppedAt None (Some m) g old taken new =
+    (taken ≡ true) × (new ≡ record old { running = remove_entry (is_at (nat_cmp g)) old.running })
+IsDroppedAt None None g old taken new = (taken ≡ false) × (new ≡ old)
 
--- the network of a number is taken back, whether it waits or runs
-abbrev pub IsDropped : ℕ → Live → Closing → Live → Type 0
-IsDropped g old c new = IsDroppedAt (waiting_at old.waiting g) (live_at old g) g old c new
+-- the network of a number is taken back, whether it waits or runs; or there is none, and nothing changes
+abbrev pub IsDropped : ℕ → Live → Bool → Live → Type 0
+IsDropped g old taken new = IsDroppedAt (waiting_at old.waiting g) (live_at old g) g old taken new
+
+abbrev pub closing_of_drop : Bool → Closing
+closing_of_drop true = closing.Taken
+closing_of_drop false = closing.Refused NoSuchNetwork
 
 -- ---- questions
 -- how much a network that runs has used up, and how many of its slots are open
@@ -217,46 +230,49 @@ abbrev pub IsShown : ℕ → ℕ → ℕ → ℕ → Live → Bytes → Type 0
 IsShown n g i u l text = (running : Option Machine) × (live_at l g ≡ running) × IsShownBy running n g i u l text
 
 -- ---- lines
--- a bad line changes nothing
-abbrev pub IsBadLine : ℕ → Live → Bytes → Live → Type 0
-IsBadLine n old text new = (text ≡ closing_line n closing.Bad) × (new ≡ old)
+-- a bad line changes nothing, and is not kept
+abbrev pub IsBadLine : ℕ → Live → Reply → Live → Type 0
+IsBadLine n old a new = (a ≡ one_line n closing.Bad false) × (new ≡ old)
 
 -- what stands behind the beginning of a network: its answer; or the line is bad
-abbrev pub IsAnsweredThen : Bool → ℕ → (Live → Bytes → Live → Type 0) → Live → Bytes → Live → Type 0
-IsAnsweredThen true n answers old text new = answers old text new
-IsAnsweredThen false n answers old text new = IsBadLine n old text new
+abbrev pub IsAnsweredThen : Bool → ℕ → (Live → Reply → Live → Type 0) → Live → Reply → Live → Type 0
+IsAnsweredThen true n answers old a new = answers old a new
+IsAnsweredThen false n answers old a new = IsBadLine n old a new
 
-abbrev pub IsAnsweredOnceBegun : ℕ → ℕ → (Live → Bytes → Live → Type 0) → Live → Bytes → Live → Type 0
-IsAnsweredOnceBegun n g answers old text new =
-    (is : Bool) × (now : Live) × IsBegun g old is now × IsAnsweredThen is n answers now text new
+abbrev pub IsAnsweredOnceBegun : ℕ → ℕ → (Live → Reply → Live → Type 0) → Live → Reply → Live → Type 0
+IsAnsweredOnceBegun n g answers old a new =
+    (is : Bool) × (now : Live) × IsBegun g old is now × IsAnsweredThen is n answers now a new
 
--- the answer to what a line asks of the network of a number
-abbrev pub IsAnswer : ℕ → ℕ → Ask → Live → Bytes → Live → Type 0
-IsAnswer n g (ask.Declare d) old text new =
-    (taken : Bool) × IsDeclared g d old taken new × (text ≡ closing_line n (closing_of_declaration taken))
-IsAnswer n g (ask.Serve e) old text new = IsAnsweredOnceBegun n g (IsEventAnswered n g e) old text new
-IsAnswer n g (ask.ForAll bytes) old text new = IsAnsweredOnceBegun n g (AreAllAnswered n g bytes) old text new
-IsAnswer n g ask.Left old text new = IsLeftText n g (left_at old g) text × (new ≡ old)
-IsAnswer n g (ask.Show i u) old text new = IsShown n g i u old text × (new ≡ old)
-IsAnswer n g ask.Drop old text new = (c : Closing) × IsDropped g old c new × (text ≡ closing_line n c)
+-- The answer to what a line asks of the network of a number. A declaration or a `drop` is kept where it is taken; a
+-- question is not kept, and changes nothing.
+abbrev pub IsAnswer : ℕ → ℕ → Ask → Live → Reply → Live → Type 0
+IsAnswer n g (ask.Declare d) old a new =
+    (taken : Bool) × IsDeclared g d old taken new × (a ≡ one_line n (closing_of_declaration taken) taken)
+IsAnswer n g (ask.Serve e) old a new = IsAnsweredOnceBegun n g (IsEventAnswered n g e) old a new
+IsAnswer n g (ask.ForAll bytes) old a new = IsAnsweredOnceBegun n g (AreAllAnswered n g bytes) old a new
+IsAnswer n g ask.Left old a new = IsLeftText n g (left_at old g) a.text × (a.kept ≡ false) × (new ≡ old)
+IsAnswer n g (ask.Show i u) old a new = IsShown n g i u old a.text × (a.kept ≡ false) × (new ≡ old)
+IsAnswer n g ask.Drop old a new =
+    (taken : Bool) × IsDropped g old taken new × (a ≡ one_line n (closing_of_drop taken) taken)
 
-abbrev pub IsAnswerTo : ℕ → Option (ℕ × Ask) → Live → Bytes → Live → Type 0
-IsAnswerTo n None old text new = IsBadLine n old text new
-IsAnswerTo n (Some asked) old text new = IsAnswer n asked.0 asked.1 old text new
+abbrev pub IsAnswerTo : ℕ → Option (ℕ × Ask) → Live → Reply → Live → Type 0
+IsAnswerTo n None old a new = IsBadLine n old a new
+IsAnswerTo n (Some asked) old a new = IsAnswer n asked.0 asked.1 old a new
 
 -- the answer to a line with these fields
-abbrev pub AreFieldsAnswered : ℕ → List Bytes → Live → Bytes → Live → Type 0
-AreFieldsAnswered n fields old text new =
-    (asked : Option (ℕ × Ask)) × IsAsked fields asked × IsAnswerTo n asked old text new
+abbrev pub AreFieldsAnswered : ℕ → List Bytes → Live → Reply → Live → Type 0
+AreFieldsAnswered n fields old a new =
+    (asked : Option (ℕ × Ask)) × IsAsked fields asked × IsAnswerTo n asked old a new
 
 -- a line that is not skipped is bad, or its fields are answered
-abbrev pub IsLineAnswered : ℕ → Bytes → Live → Bytes → Live → Type 0
-IsLineAnswered n line old text new =
-    (IsBad line × IsBadLine n old text new)
-    ⊎ ((fields : List Bytes) × AreFields line fields × AreFieldsAnswered n fields old text new)
+abbrev pub IsLineAnswered : ℕ → Bytes → Live → Reply → Live → Type 0
+IsLineAnswered n line old a new =
+    (IsBad line × IsBadLine n old a new)
+    ⊎ ((fields : List Bytes) × AreFields line fields × AreFieldsAnswered n fields old a new)
 
--- The block of a line, which is none where the line is skipped. A line that is too long is bad.
-abbrev pub Serves : Live → ℕ → Option Bytes → Bytes → Live → Type 0
-Serves old n None text new = IsBadLine n old text new
-Serves old n (Some line) text new =
-    (IsSkipped line × (text ≡ []) × (new ≡ old)) ⊎ ((IsSkipped line → ⊥) × IsLineAnswered n line old text new)
+-- What a line is answered: its block, which is none where the line is skipped, and whether it is kept. A line that is too
+-- long is bad.
+abbrev pub Serves : Serving Live
+Serves old n None a new = IsBadLine n old a new
+Serves old n (Some line) a new =
+    (IsSkipped line × (a ≡ unanswered) × (new ≡ old)) ⊎ ((IsSkipped line → ⊥) × IsLineAnswered n line old a new)

@@ -1,20 +1,20 @@
 //! A live host, and what it answers to its lines.
 
-ghost use Rattle.std.specs.Prelude.{◌≡◌, [], IfOk, OnOk, Some, map, option_map, string_bytes};
-ghost use Rattle.feed.specs.Served.{block_bytes};
+ghost use Rattle.std.specs.Prelude.{◌≡◌, [], IfOk, OnOk, Some, false, map, string_bytes};
+ghost use Rattle.feed.specs.Served.{reply_of};
 ghost use Rattle.std.specs.BTreeMap.{insert_entry};
 ghost use Rattle.std.specs.Ordering.{nat_cmp};
 ghost use Rattle.configuration.specs.Configs.{names_of};
 ghost use Rattle.requests.specs.Outlines.{waiting_at};
 ghost use Rattle.requests.specs.Preparing.{Prepares};
 ghost use Rattle.serving.specs.Blocks.{closing_line};
-ghost use Rattle.serving.specs.Hosts.{AreAllAnswered, AreFieldsAnswered, IsAnswer, IsBadLine, IsBegun, IsDeclared, IsDropped, IsEventAnswered, IsLeftText, IsShown, IsShownOf, Serves, begun, left_at, not_shown, not_there, takes};
+ghost use Rattle.serving.specs.Hosts.{AreAllAnswered, AreFieldsAnswered, IsAnswer, IsBegun, IsDeclared, IsDropped, IsEventAnswered, IsLeftText, IsShown, IsShownOf, Serves, begun, left_at, not_shown, not_there, one_line, takes};
 
 use crate::all::{closing_of_answers, push_answers, serve_each};
 use crate::block::{Closing, Place, push_closing, push_served};
 use configuration::NetConfig;
 use envstore::{Shelf, VecShelf};
-use feed::LineServer;
+use feed::{Answer, LineServer};
 use live::ServedNetwork;
 use questions::{Left, all_left, left_of, push_left, push_node};
 use requests::{Ask, Declaration, Waiting, ask_of};
@@ -64,39 +64,39 @@ impl LiveHost {
         }
     }
 
-    /// The block of a line that is not too long; `None` where it is empty or a comment.
+    /// The answer to a line that is not too long; `None` where it is empty or a comment.
     fn serve_line(
         &mut self,
         alloc: Global,
         number: u64,
         line: &[u8],
-    ) -> Result<Option<String>, AllocError>
-        ensures { IfOk result (λ block. Serves self.old number (Some line.now) (block_bytes (option_map string_bytes block)) self.new) }
+    ) -> Result<Option<Answer>, AllocError>
+        ensures { IfOk result (λ answer. Serves self.old number (Some line.now) (reply_of answer) self.new) }
     {
         match fields_of(alloc, line) {
             Ok(None) => Ok(None),
             Ok(Some(fields)) => self.answer_fields(number, fields),
-            Err(LineError::Bad) => Ok(Some(closed(alloc, number, Closing::Bad)?)),
+            Err(LineError::Bad) => Ok(Some(bad_line(alloc, number)?)),
             Err(LineError::NoMemory) => Err(AllocError),
         }
     }
 
-    /// The block of a line with these fields, which are let go.
+    /// The answer to a line with these fields, which are let go.
     fn answer_fields(
         &mut self,
         number: u64,
         fields: Vec<&[u8]>,
-    ) -> Result<Option<String>, AllocError>
-        ensures { IfOk result (λ block. AreFieldsAnswered number (map (λ field. field.now) fields.entry.items) self.old (block_bytes (option_map string_bytes block)) self.new) }
+    ) -> Result<Option<Answer>, AllocError>
+        ensures { IfOk result (λ answer. AreFieldsAnswered number (map (λ field. field.now) fields.entry.items) self.old (reply_of answer) self.new) }
     {
-        let block = self.answer(number, fields.as_slice());
+        let answer = self.answer(number, fields.as_slice());
         drop(fields);
-        Ok(Some(block?))
+        Ok(Some(answer?))
     }
 
-    /// The block of a line with these fields.
-    fn answer(&mut self, line: u64, fields: &[&[u8]]) -> Result<String, AllocError>
-        ensures { IfOk result (λ text. AreFieldsAnswered line (map (λ field. field.now) fields.now) self.old (string_bytes text) self.new) }
+    /// The answer to a line with these fields.
+    fn answer(&mut self, line: u64, fields: &[&[u8]]) -> Result<Answer, AllocError>
+        ensures { IfOk result (λ answer. AreFieldsAnswered line (map (λ field. field.now) fields.now) self.old (reply_of (Some answer)) self.new) }
     {
         match ask_of(self.alloc, fields)? {
             Some((network, ask)) => {
@@ -107,72 +107,69 @@ impl LiveHost {
                 };
                 self.answer_ask(place, ask)
             }
-            None => closed(self.alloc, line, Closing::Bad),
+            None => bad_line(self.alloc, line),
         }
     }
 
-    /// The block of what a line asks.
-    fn answer_ask(&mut self, place: Place, ask: Ask) -> Result<String, AllocError>
+    /// The answer to what a line asks.
+    fn answer_ask(&mut self, place: Place, ask: Ask) -> Result<Answer, AllocError>
         requires { place.bytes ≡ self.old.bytes }
-        ensures { IfOk result (λ text. IsAnswer place.line place.network ask self.old (string_bytes text) self.new) }
+        ensures { IfOk result (λ answer. IsAnswer place.line place.network ask self.old (reply_of (Some answer)) self.new) }
     {
         match ask {
             Ask::Declare(declaration) => self.answer_declaration(place, declaration),
             Ask::Serve(event) => {
-                let block = self.answer_event(place, &event);
+                let answer = self.answer_event(place, &event);
                 drop(event);
-                block
+                answer
             }
             Ask::ForAll(bytes) => {
-                let block = self.answer_for_all(place, &bytes);
+                let answer = self.answer_for_all(place, &bytes);
                 drop(bytes);
-                block
+                answer
             }
-            Ask::Left => self.answer_left(place),
-            Ask::Show(slot, node) => self.answer_show(place, slot, &node),
-            Ask::Drop => {
-                let closing = self.take_back(place.network);
-                closed(self.alloc, place.line, closing)
-            }
+            Ask::Left => Ok(not_kept(self.answer_left(place)?)),
+            Ask::Show(slot, node) => Ok(not_kept(self.answer_show(place, slot, &node)?)),
+            Ask::Drop => self.answer_drop(place),
         }
     }
 
-    /// The block of a declaration.
+    /// The answer to a declaration, which is kept where it is taken.
     fn answer_declaration(
         &mut self,
         place: Place,
         declaration: Declaration,
-    ) -> Result<String, AllocError>
-        ensures { IfOk result (λ text. IsAnswer place.line place.network (Ask.Declare declaration) self.old (string_bytes text) self.new) }
+    ) -> Result<Answer, AllocError>
+        ensures { IfOk result (λ answer. IsAnswer place.line place.network (Ask.Declare declaration) self.old (reply_of (Some answer)) self.new) }
     {
-        let closing = match self.declare(place.network, declaration)? {
-            true => Closing::Taken,
-            false => Closing::Bad,
-        };
-        closed(self.alloc, place.line, closing)
+        if self.declare(place.network, declaration)? {
+            one_line(self.alloc, place.line, Closing::Taken, true)
+        } else {
+            bad_line(self.alloc, place.line)
+        }
     }
 
-    /// The block of an event of a network.
-    fn answer_event(&mut self, place: Place, event: &Event) -> Result<String, AllocError>
+    /// The answer to an event of a network.
+    fn answer_event(&mut self, place: Place, event: &Event) -> Result<Answer, AllocError>
         requires { place.bytes ≡ self.old.bytes }
-        ensures { IfOk result (λ text. IsAnswer place.line place.network (Ask.Serve event.now) self.old (string_bytes text) self.new) }
+        ensures { IfOk result (λ answer. IsAnswer place.line place.network (Ask.Serve event.now) self.old (reply_of (Some answer)) self.new) }
     {
         if self.begin(place.network)? {
             self.serve_event(place, event)
         } else {
-            closed(self.alloc, place.line, Closing::Bad)
+            bad_line(self.alloc, place.line)
         }
     }
 
-    /// The block of bytes for all hosted nodes of a network.
-    fn answer_for_all(&mut self, place: Place, bytes: &Bytes) -> Result<String, AllocError>
+    /// The answer to bytes for all hosted nodes of a network.
+    fn answer_for_all(&mut self, place: Place, bytes: &Bytes) -> Result<Answer, AllocError>
         requires { place.bytes ≡ self.old.bytes }
-        ensures { IfOk result (λ text. IsAnswer place.line place.network (Ask.ForAll bytes.now) self.old (string_bytes text) self.new) }
+        ensures { IfOk result (λ answer. IsAnswer place.line place.network (Ask.ForAll bytes.now) self.old (reply_of (Some answer)) self.new) }
     {
         if self.begin(place.network)? {
             self.serve_for_all(place, bytes)
         } else {
-            closed(self.alloc, place.line, Closing::Bad)
+            bad_line(self.alloc, place.line)
         }
     }
 
@@ -259,46 +256,41 @@ impl LiveHost {
         }
     }
 
-    /// The block of an event of a network that runs, if it does.
-    fn serve_event(&mut self, place: Place, event: &Event) -> Result<String, AllocError>
+    /// The answer to an event of a network that runs, if it does; then the line is kept.
+    fn serve_event(&mut self, place: Place, event: &Event) -> Result<Answer, AllocError>
         requires { place.bytes ≡ self.old.bytes }
-        ensures { IfOk result (λ text. IsEventAnswered place.line place.network event.now self.old (string_bytes text) self.new) }
+        ensures { IfOk result (λ answer. IsEventAnswered place.line place.network event.now self.old (reply_of (Some answer)) self.new) }
     {
         let Some(network) = self.running.get_mut(&place.network) else {
-            return closed(
-                self.alloc,
-                place.line,
-                Closing::Refused(Refusal::NoSuchNetwork),
-            );
+            return no_network(self.alloc, place.line);
         };
         let served = network.serve(event)?;
         let mut text = String::new(self.alloc);
         let pushed = push_served(&mut text, place, &served);
         drop(served);
         pushed?;
-        Ok(text)
+        Ok(Answer {
+            block: text,
+            kept: true,
+        })
     }
 
-    /// The block of bytes for all hosted nodes of a network that runs, if it does.
-    fn serve_for_all(&mut self, place: Place, bytes: &Bytes) -> Result<String, AllocError>
+    /// The answer to bytes for all hosted nodes of a network that runs, if it does; then the line is kept.
+    fn serve_for_all(&mut self, place: Place, bytes: &Bytes) -> Result<Answer, AllocError>
         requires { place.bytes ≡ self.old.bytes }
-        ensures { IfOk result (λ text. AreAllAnswered place.line place.network bytes.now self.old (string_bytes text) self.new) }
+        ensures { IfOk result (λ answer. AreAllAnswered place.line place.network bytes.now self.old (reply_of (Some answer)) self.new) }
     {
         let Some(network) = self.running.get_mut(&place.network) else {
-            return closed(
-                self.alloc,
-                place.line,
-                Closing::Refused(Refusal::NoSuchNetwork),
-            );
+            return no_network(self.alloc, place.line);
         };
         let names = names_of(self.alloc, network.config())?;
         let mut answers = Vec::new(self.alloc);
         serve_each(self.alloc, network, &names, bytes, &mut answers)?;
-        let mut text = String::new(self.alloc);
-        push_answers(&mut text, place, &answers)?;
-        push_closing(&mut text, place.line, closing_of_answers(&answers))?;
+        let mut block = String::new(self.alloc);
+        push_answers(&mut block, place, &answers)?;
+        push_closing(&mut block, place.line, closing_of_answers(&answers))?;
         drop(answers);
-        Ok(text)
+        Ok(Answer { block, kept: true })
     }
 
     /// The block of what is left of the budgets of a network.
@@ -358,21 +350,32 @@ impl LiveHost {
         }
     }
 
-    /// The network of a number is taken back, and how the answer ends.
-    fn take_back(&mut self, number: u32) -> Closing
+    /// The answer to a line that takes a network back, which is kept where there is one.
+    fn answer_drop(&mut self, place: Place) -> Result<Answer, AllocError>
+        ensures { IfOk result (λ answer. IsAnswer place.line place.network Ask.Drop self.old (reply_of (Some answer)) self.new) }
+    {
+        if self.take_back(place.network) {
+            one_line(self.alloc, place.line, Closing::Taken, true)
+        } else {
+            no_network(self.alloc, place.line)
+        }
+    }
+
+    /// The network of a number is taken back, whether it waits or runs, and whether there was one.
+    fn take_back(&mut self, number: u32) -> bool
         ensures { IsDropped number self.old result self.new }
     {
         match self.waiting.take(number) {
             Some(outline) => {
                 drop(outline);
-                Closing::Taken
+                true
             }
             None => match self.running.remove(&number) {
                 Some(network) => {
                     drop(network);
-                    Closing::Taken
+                    true
                 }
-                None => Closing::Refused(Refusal::NoSuchNetwork),
+                None => false,
             },
         }
     }
@@ -380,19 +383,26 @@ impl LiveHost {
 
 impl LineServer for LiveHost {
     ghost use Rattle.serving.specs.Hosts.{Serves};
+    ghost use Rattle.serving.specs.Keeping.{empty_lines_are_skipped, kept_lines_are_whole, only_kept_lines_count};
 
     ghost serves = { Serves };
 
-    /// The block of a line, which is none where the line is empty or a comment. An error says that memory is short; then
-    /// the line has no block, and some of it may have happened.
+    ghost only_kept = { only_kept_lines_count };
+
+    ghost skipped = { empty_lines_are_skipped };
+
+    ghost whole = { kept_lines_are_whole };
+
+    /// The answer to a line. An error says that memory is short; then the line has no answer, and some of it may have
+    /// happened.
     fn serve(
         &mut self,
         alloc: Global,
         number: u64,
         line: Option<&[u8]>,
-    ) -> Result<Option<String>, AllocError> {
+    ) -> Result<Option<Answer>, AllocError> {
         match line {
-            None => Ok(Some(closed(alloc, number, Closing::Bad)?)),
+            None => Ok(Some(bad_line(alloc, number)?)),
             Some(line) => self.serve_line(alloc, number, line),
         }
     }
@@ -451,4 +461,34 @@ fn closed(alloc: Global, line: u64, closing: Closing) -> Result<String, AllocErr
     let mut text = String::new(alloc);
     push_closing(&mut text, line, closing)?;
     Ok(text)
+}
+
+/// The answer to a bad line, which is not kept.
+fn bad_line(alloc: Global, line: u64) -> Result<Answer, AllocError>
+    ensures { IfOk result (λ answer. reply_of (Some answer) ≡ one_line line Closing.Bad false) }
+{
+    one_line(alloc, line, Closing::Bad, false)
+}
+
+/// The answer to a line on a network that no line has declared, which is not kept.
+fn no_network(alloc: Global, line: u64) -> Result<Answer, AllocError>
+    ensures { IfOk result (λ answer. reply_of (Some answer) ≡ one_line line (Closing.Refused Refusal.NoSuchNetwork) false) }
+{
+    one_line(alloc, line, Closing::Refused(Refusal::NoSuchNetwork), false)
+}
+
+/// The answer that is one line.
+fn one_line(alloc: Global, line: u64, closing: Closing, kept: bool) -> Result<Answer, AllocError>
+    ensures { IfOk result (λ answer. reply_of (Some answer) ≡ one_line line closing kept) }
+{
+    let block = closed(alloc, line, closing)?;
+    Ok(Answer { block, kept })
+}
+
+/// The answer with this block to a line that is not kept.
+fn not_kept(block: String) -> Answer
+    ensures block { string_bytes result.block ≡ string_bytes block }
+    ensures kept { result.kept ≡ false }
+{
+    Answer { block, kept: false }
 }

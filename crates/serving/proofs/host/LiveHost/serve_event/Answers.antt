@@ -1,4 +1,6 @@
-use Rattle.std.proofs.Common.{◌∙◌, ◌++◌, Bool, List, ℕ, Some, sym, ap, rules}
+use Rattle.std.proofs.Common.{◌∙◌, ◌++◌, Bool, true, Some, sym, ap, rules}
+use Rattle.scripts.specs.Script.{Bytes}
+use Rattle.feed.specs.Served.{Reply}
 use Rattle.live.specs.Telling.{ending_of, tellings_of}
 use Rattle.serving.specs.Blocks.{block_of}
 use Rattle.serving.specs.Hosts.{Live, live_at}
@@ -7,7 +9,8 @@ use Rattle.serving.proofs.host.LiveHost.serve_event.Goals as goal
 pub returns : goal.returns
 returns c =
     let s = c.in_ok-served.served in
-    let block : Bool → List ℕ = λ b. block_of b c.args.place.line c.args.place.network s.slot (tellings_of s.told.items) (ending_of s) in (
+    let block : Bool → Bytes = λ b. block_of b c.args.place.line c.args.place.network s.slot (tellings_of s.told.items) (ending_of s) in
+    let kept : Bytes → Reply = λ text. record { text = text; kept = true } in (
       Some c.in-Some.network.now,
       ap (λ (l : Live). live_at l c.args.place.network) (sym c.self.view_is) ∙ sym c.in-Some.ensures.value,
       (
@@ -15,6 +18,6 @@ returns c =
         s,
         c.in_ok-served.ensures,
         search rules,
-        c.in_ok-pushed.ensures ∙ ap (λ l. l ++ block c.args.place.bytes) c.new-text.ensures.bytes ∙ ap block c.requires,
+        ap kept (c.in_ok-pushed.ensures ∙ ap (λ l. l ++ block c.args.place.bytes) c.new-text.ensures.bytes ∙ ap block c.requires),
       ),
     )

@@ -1,0 +1,10 @@
+-- What ends a live host early.
+use Rattle.scripts.specs.declared.input.ReadError.{ReadError}
+use Rattle.scripts.specs.declared.input.ReadError.TheVariants as read
+use Rattle.feed.specs.declared.fault.Fault.{Fault}
+use Rattle.feed.specs.declared.fault.Fault.TheVariants as fault
+
+abbrev pub fault_of_read : ReadError → Fault
+fault_of_read read.CannotRead = fault.CannotRead
+fault_of_read read.TooLong = fault.TooLong
+fault_of_read read.NoMemory = fault.NoMemory

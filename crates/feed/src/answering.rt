@@ -1,0 +1,89 @@
+//! What answers the lines of a live host, and what is done with its answers.
+
+ghost use Rattle.std.specs.Prelude.{◌≡◌, true};
+ghost use Rattle.std.specs.Io.KnownBytes.{Appends};
+
+use std::alloc::{AllocError, Global};
+use std::io::Write;
+
+/// What a line is answered.
+#[derive(Drop)]
+pub struct Answer {
+    /// What is told of it: whole lines with their line feeds.
+    pub block: String,
+    /// Whether a journal keeps the line: where it does not, the line has changed nothing.
+    pub kept: bool,
+}
+
+/// What answers the lines of a live host.
+///
+/// `serves` says what a line is answered, and which state it leaves.
+pub trait LineServer {
+    ghost use Rattle.std.specs.Prelude.{IfOk, option_map};
+    ghost use Rattle.feed.specs.Served.{EmptyLinesAreSkipped, KeptLinesAreWhole, OnlyKeptLinesCount, Serving, reply_of};
+
+    ghost serves: { Serving Self };
+
+    ghost only_kept: { OnlyKeptLinesCount serves };
+
+    ghost skipped: { EmptyLinesAreSkipped serves };
+
+    ghost whole: { KeptLinesAreWhole serves };
+
+    /// Answers a line with its number; `None` is a line that is too long. Nothing is told of an empty line or a comment.
+    /// An error says that memory is short; then nothing is served any more.
+    fn serve(
+        &mut self,
+        alloc: Global,
+        number: u64,
+        line: Option<&[u8]>,
+    ) -> Result<Option<Answer>, AllocError>
+        ensures { IfOk result (λ answer.
+            serves self.old number (option_map (λ bytes. bytes.now) line.entry) (reply_of answer) self.new) };
+}
+
+/// Where a live host keeps its journal and tells what lines are answered.
+///
+/// `acts` says what was done, one after the other, where that is known, and `told` what was told. What a stop leaves of a
+/// journal rests on what a sync promises: bytes that it found in the file stay, and each byte that was written later is as
+/// it was written, or is 0, or the file ends before it.
+pub trait Desk {
+    ghost use Rattle.std.specs.Prelude.{◌≡◌, ◌∷◌, [], true, List, Option};
+    ghost use Rattle.std.specs.Io.KnownBytes.{Appends, Keeps};
+    ghost use Rattle.scripts.specs.Script.{Bytes};
+    ghost use Rattle.feed.specs.Acts.{Act, Did, SyncedIf, WroteLine};
+    ghost use Rattle.feed.specs.Acts.Act.{Told};
+
+    ghost acts: { Self → Option (List Act) };
+
+    ghost told: { Self → Option Bytes };
+
+    /// Writes a line and a line feed behind what the journal has, and answers whether they stand there. If not, a beginning
+    /// of the line may.
+    fn append(&mut self, line: &[u8]) -> bool
+        ensures done { WroteLine result line.now (acts self.old) (acts self.new) }
+        ensures told { Keeps (told self.old) (told self.new) };
+
+    /// Brings the journal to the disk, and answers whether it is there.
+    fn sync(&mut self) -> bool
+        ensures done { SyncedIf result (acts self.old) (acts self.new) }
+        ensures told { Keeps (told self.old) (told self.new) };
+
+    /// Tells these bytes, and answers whether they were written. If not, some of them may have been.
+    fn tell(&mut self, text: &[u8]) -> bool
+        ensures done { Did (acts self.old) (acts self.new) (Told text.now ∷ []) }
+        ensures told { result ≡ true → Appends (told self.old) (told self.new) text.now };
+
+    /// A line with its number, which is `None` where it is too long, was answered by the block with which `waiting` ends. If
+    /// it is bad, and that is asked for, it is said elsewhere why.
+    fn explain(&mut self, number: u64, line: Option<&[u8]>, waiting: &[u8])
+        ensures done { acts self.new ≡ acts self.old }
+        ensures told { told self.new ≡ told self.old };
+}
+
+/// Writes bytes and hands them on, and answers whether both were done.
+pub fn write_and_flush<W: Write>(out: &mut W, text: &[u8]) -> bool
+    ensures { result ≡ true → Appends (W.contents out.old) (W.contents out.new) text.now }
+{
+    out.write_all(text).is_ok() && out.flush().is_ok()
+}

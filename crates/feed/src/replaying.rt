@@ -1,0 +1,159 @@
+//! Running the lines of a journal again, up to its end.
+
+ghost use Rattle.std.specs.Prelude.{◌≡◌, ◌+◌, ◌||◌, false, is_none, length, Err, IfErr, IfOk, IsOkUnless, OnOk};
+ghost use Rattle.std.specs.Io.KnownBytes.{Appends};
+ghost use Rattle.feed.specs.Served.{reply_of};
+ghost use Rattle.feed.specs.Replayed.{HasReplayed, HasReplayedLine, IsTaken, is_told, told_if};
+
+use crate::answering::{Answer, LineServer};
+use crate::reading::{KeptLine, LONGEST_LINE, next_line};
+use scripts::Stop;
+use std::alloc::Global;
+use std::io::{BufRead, Write};
+use std::sync::Wait;
+
+/// Where a journal ends.
+#[derive(Clone, Copy, Debug, PartialEq, Eq)]
+pub struct JournalEnd {
+    /// How many lines it has before its end.
+    pub lines: u64,
+    /// How many bytes these lines have, with their line feeds.
+    pub bytes: u64,
+}
+
+/// Has the lines of a journal answered again, up to its end, which is before the first line that has a byte 0 in it or
+/// lacks its line feed. What lines from a number on are answered is written; of the others, and without a number,
+/// nothing is. No more than a line is kept.
+///
+/// It stops early where a line is no line of a journal ([`Stop::BadLine`], with its number), because it is too long, or
+/// because its answer says that a journal does not keep it; where a read fails, memory is short, a write fails, or no
+/// number below 2^64 is left ([`Stop::TooLong`]).
+pub fn replay<X: Wait + AllocGlobal, S: LineServer, R: BufRead, W: Write>(
+    rt: &X,
+    server: &mut S,
+    journal: &mut R,
+    from: Option<u64>,
+    out: &mut W,
+) -> Result<JournalEnd, Stop>
+    ensures { HasReplayed S.serves LONGEST_LINE from server.old (R.remaining journal.old) (W.contents out.old) (W.contents out.new) result server.new }
+{
+    let alloc = rt.alloc();
+    let mut line = KeptLine::new(alloc);
+    let mut end = JournalEnd { lines: 0, bytes: 0 };
+    for _ in rt.forever() {
+        let read = next_line(rt, journal, &mut line)?;
+        if is_end(read, &line) {
+            return Ok(end);
+        }
+        end = replay_line(alloc, server, &line, Place { from, end }, out)?;
+    }
+    unreachable!()
+}
+
+/// Whether a journal ends before what was read: it was no line, or one with a byte 0 in it.
+fn is_end(read: Option<bool>, line: &KeptLine) -> bool
+    ensures { result ≡ (is_none read || line.now.hole) }
+{
+    read.is_none() || line.has_hole()
+}
+
+/// Where a line stands: behind so much of a journal; and from which line on answers are told.
+#[derive(Clone, Copy)]
+struct Place {
+    from: Option<u64>,
+    end: JournalEnd,
+}
+
+/// Has a line answered again, and tells that if it is asked for. It answers where the journal ends behind the line.
+fn replay_line<S: LineServer, W: Write>(
+    alloc: Global,
+    server: &mut S,
+    line: &KeptLine,
+    place: Place,
+    out: &mut W,
+) -> Result<JournalEnd, Stop>
+    ensures { HasReplayedLine S.serves place.from server.old place.end line.now.given (W.contents out.old) (W.contents out.new) result server.new }
+{
+    let number = number_behind(place.end)?;
+    let Some(bytes) = line.given() else {
+        return Err(Stop::BadLine(number as usize));
+    };
+    let Ok(answer) = server.serve(alloc, number, Some(bytes)) else {
+        return Err(Stop::NoMemory);
+    };
+    tell_again(answer, number, place.from, out)?;
+    end_behind(place.end, number, bytes)
+}
+
+/// Tells what a line of a journal was answered, if that is asked for.
+fn tell_again<W: Write>(
+    answer: Option<Answer>,
+    number: u64,
+    from: Option<u64>,
+    out: &mut W,
+) -> Result<(), Stop>
+    ensures told { OnOk result (IsTaken (reply_of answer) × Appends (W.contents out.old) (W.contents out.new) (told_if (is_told from number) (reply_of answer).text)) }
+    ensures bad { (n : _) → result ≡ Err (Stop.BadLine n) → (n ≡ number) × ((reply_of answer).kept ≡ false) }
+{
+    let Some(Answer { block, kept }) = answer else {
+        return Ok(());
+    };
+    let told = if !kept {
+        Err(Stop::BadLine(number as usize))
+    } else if is_told(from, number) {
+        write_block(out, block.as_str())
+    } else {
+        Ok(())
+    };
+    drop(block);
+    told
+}
+
+/// The number of the line behind the end. The error says that there is none.
+fn number_behind(end: JournalEnd) -> Result<u64, Stop>
+    ensures number { IfOk result (λ number. number ≡ end.lines + 1) }
+    ensures none { IfErr result (λ why. why ≡ Stop.TooLong) }
+{
+    match end.lines.checked_add(1) {
+        Some(number) => Ok(number),
+        None => Err(Stop::TooLong),
+    }
+}
+
+/// The end behind a line with this number. The error says that there are too many bytes.
+fn end_behind(end: JournalEnd, number: u64, line: &[u8]) -> Result<JournalEnd, Stop>
+    ensures behind { IfOk result (λ now. (now.lines ≡ number) × (now.bytes ≡ end.bytes + length line.now + 1)) }
+    ensures none { IfErr result (λ why. why ≡ Stop.TooLong) }
+{
+    let Some(bytes) = end.bytes.checked_add(line.len() as u64) else {
+        return Err(Stop::TooLong);
+    };
+    match bytes.checked_add(1) {
+        Some(bytes) => Ok(JournalEnd {
+            lines: number,
+            bytes,
+        }),
+        None => Err(Stop::TooLong),
+    }
+}
+
+/// Whether a line with this number is told.
+fn is_told(from: Option<u64>, number: u64) -> bool
+    ensures { result ≡ is_told from number }
+{
+    match from {
+        Some(first) => first <= number,
+        None => false,
+    }
+}
+
+/// Writes what a line was answered.
+fn write_block<W: Write>(out: &mut W, block: &str) -> Result<(), Stop>
+    ensures written { OnOk result (Appends (W.contents out.old) (W.contents out.new) block.now) }
+    ensures failed { IsOkUnless result Stop.CannotWrite }
+{
+    match out.write_all(block.as_bytes()) {
+        Ok(()) => Ok(()),
+        Err(_) => Err(Stop::CannotWrite),
+    }
+}

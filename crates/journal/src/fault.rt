@@ -1,0 +1,46 @@
+//! What is wrong with a journal.
+
+ghost use Rattle.std.specs.Prelude.{◌≡◌};
+ghost use Rattle.journal.specs.declared.fault.JournalFault.TheVariants.{NoMemory};
+ghost use Rattle.journal.specs.Faults.{fault_of_stop};
+
+use scripts::Stop;
+use std::alloc::AllocError;
+
+/// Why a live host does not start from a journal.
+#[derive(Clone, Copy, Debug, PartialEq, Eq)]
+pub enum JournalFault {
+    /// The file cannot be opened, made, locked or read, or it is no regular file.
+    CannotRead,
+    /// Another process has the file.
+    InUse,
+    /// The line with this number is no line of a journal. The file is as it was.
+    BadLine(usize),
+    /// The file or its name cannot be brought to the disk, or the file not cut to its end.
+    CannotWrite,
+    /// What lines were answered cannot be written.
+    CannotTell,
+    /// There was no memory.
+    NoMemory,
+}
+
+impl From<AllocError> for JournalFault {
+    ghost from_gives = { λ _ fault. fault ≡ NoMemory };
+
+    fn from(_error: AllocError) -> JournalFault {
+        JournalFault::NoMemory
+    }
+}
+
+impl From<Stop> for JournalFault {
+    ghost from_gives = { λ stop fault. fault ≡ fault_of_stop stop };
+
+    fn from(stop: Stop) -> JournalFault {
+        match stop {
+            Stop::CannotRead | Stop::TooLong => JournalFault::CannotRead,
+            Stop::BadLine(number) => JournalFault::BadLine(number),
+            Stop::NoMemory => JournalFault::NoMemory,
+            Stop::CannotWrite => JournalFault::CannotTell,
+        }
+    }
+}

@@ -1,0 +1,86 @@
+//! Going on from a journal.
+
+ghost use Rattle.std.specs.Prelude.{◌≡◌, IfErr, IfOk};
+ghost use Rattle.std.specs.Io.KnownBytes.{Appends};
+ghost use Rattle.journal.specs.Resuming.{HasFirst, HasReplayedFile, HasResumed, resumed_line};
+
+use crate::fault::JournalFault;
+use feed::{JournalEnd, LONGEST_LINE, LineServer, OpenSlots, replay};
+use std::fs::File;
+use std::io::{BufReader, Seek, SeekFrom, Write, sink};
+use std::sync::Wait;
+
+/// Has the lines of a journal answered, up to its end, cuts the file there, brings it to the disk, and writes
+/// `resumed L`, L being how many lines the file has, which is answered too. What the lines from a number on are answered
+/// is written before that; of the others, and without a number, nothing is.
+///
+/// After an error the file is as it was, but for a cut that may not be on the disk ([`JournalFault::CannotWrite`]).
+pub fn resume<X: Wait + AllocGlobal, S: LineServer, W: Write>(
+    rt: &X,
+    file: &File,
+    server: &mut S,
+    from: Option<u64>,
+    out: &mut W,
+) -> Result<u64, JournalFault>
+    ensures { HasResumed S.serves LONGEST_LINE from server.old (W.contents out.old) (W.contents out.new) result server.new }
+{
+    let end = replay_file(rt, file, server, from, out)?;
+    if file.set_len(end.bytes).is_err() || file.sync_all().is_err() {
+        return Err(JournalFault::CannotWrite);
+    }
+    write_resumed(end.lines, out)
+}
+
+/// The least line of a journal on that opened a slot which is still open at its end, as a server with no networks answers
+/// the lines; `None` where no slot is open. The file is as it was.
+pub fn first_open_line<X: Wait + AllocGlobal, S: LineServer + Drop>(
+    rt: &X,
+    file: &File,
+    server: S,
+) -> Result<Option<u64>, JournalFault>
+    ensures { HasFirst S.serves LONGEST_LINE server result }
+{
+    let mut slots = OpenSlots::new(rt.alloc(), server);
+    let replayed = replay_file(rt, file, &mut slots, None, &mut sink());
+    let first = slots.first_line();
+    drop(slots);
+    match replayed {
+        Ok(_) => Ok(first),
+        Err(fault) => Err(fault),
+    }
+}
+
+/// Has the lines of a file answered, from its beginning up to its end.
+fn replay_file<X: Wait + AllocGlobal, S: LineServer, W: Write>(
+    rt: &X,
+    file: &File,
+    server: &mut S,
+    from: Option<u64>,
+    out: &mut W,
+) -> Result<JournalEnd, JournalFault>
+    ensures { HasReplayedFile S.serves LONGEST_LINE from server.old (W.contents out.old) (W.contents out.new) result server.new }
+{
+    let mut start = file;
+    if start.seek(SeekFrom::Start(0)).is_err() {
+        return Err(JournalFault::CannotRead);
+    }
+    let Ok(mut reader) = BufReader::new(rt.alloc(), file) else {
+        return Err(JournalFault::NoMemory);
+    };
+    let replayed = replay(rt, server, &mut reader, from, out);
+    drop(reader);
+    Ok(replayed?)
+}
+
+/// Writes how many lines a journal has, and hands it on.
+fn write_resumed<W: Write>(lines: u64, out: &mut W) -> Result<u64, JournalFault>
+    ensures written { IfOk result (λ n. (n ≡ lines) × Appends (W.contents out.old) (W.contents out.new) (resumed_line lines)) }
+    ensures failed { IfErr result (λ why. why ≡ JournalFault.CannotTell) }
+{
+    let written = writeln!(out, "resumed {lines}");
+    if written.is_ok() && out.flush().is_ok() {
+        Ok(lines)
+    } else {
+        Err(JournalFault::CannotTell)
+    }
+}

@@ -1,0 +1,46 @@
+-- What a live host does with what it is sent.
+use Rattle.std.specs.Prelude.{◌≡◌, ◌⊎◌, ◌+◌, ℕ, Bool, Option, Some, None, Result, Ok, Err}
+use Rattle.scripts.specs.Script.{Bytes}
+use Rattle.feed.specs.Hosted.{HasDone, HasHostedStream}
+use Rattle.feed.specs.declared.fault.Fault.{Fault}
+use Rattle.feed.specs.declared.reading.TheConstants.{LONGEST_LINE}
+use Rattle.journal.specs.Resuming.{HasFirst, HasResumed}
+use Rattle.journal.specs.declared.fault.JournalFault.{JournalFault}
+use Rattle.serving.specs.Hosts.{Live, Serves, new_live}
+use Rattle.command_line.specs.declared.replay.ReplayFrom.{ReplayFrom}
+use Rattle.command_line.specs.declared.replay.ReplayFrom.TheVariants.{Line, Open}
+use Rattle.scphost.specs.Stops.{End, IsEndOfHost, IsEndOfJournal}
+
+-- from a state on, a live host served what it was sent line by line as it came, the first line with this number, and what
+-- it answered is written; it is told how that ended
+abbrev pub HasServedFrom : Live → ℕ → Option Bytes → Option Bytes → Option Bytes → End → Type 0
+HasServedFrom start n input old new end =
+    (ran : Result (Unit {0}) Fault) × (left : Option Bytes) × (last : Live) × IsEndOfHost ran end
+    × HasHostedStream Serves LONGEST_LINE start n input left (HasDone None None old new) ran last
+
+-- from which line of a journal on answers are told: from none, from this one, or from the first that opened a slot which
+-- is still open; or why that cannot be said
+abbrev pub IsFrom : Bool → Option ReplayFrom → Result (Option ℕ) JournalFault → Type 0
+IsFrom bytes None from = from ≡ Ok None
+IsFrom bytes (Some (Line n)) from = from ≡ Ok (Some n)
+IsFrom bytes (Some Open) from = HasFirst Serves LONGEST_LINE (new_live bytes) from
+
+-- a host went on from its journal, which has so many lines; or why not
+abbrev pub HasGoneOn : Bool → Option ReplayFrom → Option Bytes → Option Bytes → ℕ → Live → Type 0
+HasGoneOn bytes from old new n t =
+    (first : Option ℕ) × IsFrom bytes from (Ok first) × HasResumed Serves LONGEST_LINE first (new_live bytes) old new (Ok n) t
+
+-- the same, as a file and a number; of a host that did not go on nothing is said
+abbrev pub HasStarted : {F : Type 0} → Bool → Option ReplayFrom → Option Bytes → Option Bytes → Result (F × ℕ) JournalFault
+    → Live → Type 0
+HasStarted bytes from old new (Ok started) t = HasGoneOn bytes from old new started.1 t
+HasStarted bytes from old new (Err why) t = Unit {0}
+
+-- a host that has no networks at first, and prints envelopes as bytes if that is asked for, served what it was sent; with
+-- a journal, from where that ends. Or it did not start, for a reason that is told.
+abbrev pub HasServed : Bool → Option Bytes → Option ReplayFrom → Option Bytes → Option Bytes → Option Bytes → End → Type 0
+HasServed bytes None from input old new end = HasServedFrom (new_live bytes) 1 input old new end
+HasServed bytes (Some name) from input old new end =
+    ((why : JournalFault) × IsEndOfJournal why end)
+    ⊎ ((n : ℕ) × (t : Live) × (mid : Option Bytes) × HasGoneOn bytes from old mid n t
+    × HasServedFrom t (n + 1) input mid new end)
