@@ -1,9 +1,12 @@
-//! Tests of values, words, runs of lines, bytes and slices, by what `types`, `scripts`, `codec` and `flat_slices` show to
-//! anybody: they stand here so that those crates are proved once. It holds nothing else.
+//! Tests of values, words, runs of lines, bytes, slices and live hosts, by what `types`, `scripts`, `codec`, `flat_slices`
+//! and `feed` show to anybody: they stand here so that those crates are proved once. It holds nothing else.
 #![tactic(auto)]
 
+pub mod deeds;
 #[cfg(test)]
 mod of_codec;
+#[cfg(test)]
+mod of_feed;
 #[cfg(test)]
 mod of_running;
 #[cfg(test)]
