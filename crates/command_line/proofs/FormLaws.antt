@@ -82,6 +82,7 @@ ended_plain command.Compare asked word rest e = rw (no_option word (codes "expla
 ended_plain command.Crowd asked word rest e = refl
 ended_plain command.Serve asked word rest e =
     rw (plain_workers word e, plain_replay asked word rest e, no_option word (codes "bytes") e, no_option word (codes "explain") e) refl
+ended_plain command.Compact asked word rest e = refl
 
 ended_dashes : (c : Command) (asked : Options) (rest : List Text) → option_in c asked (codes "--" ∷ rest) ≡ None
 ended_dashes command.Table asked rest = refl
@@ -90,6 +91,7 @@ ended_dashes command.Closure asked rest = refl
 ended_dashes command.Compare asked rest = refl
 ended_dashes command.Crowd asked rest = refl
 ended_dashes command.Serve asked rest = refl
+ended_dashes command.Compact asked rest = refl
 
 ended_empty : (c : Command) (asked : Options) → option_in c asked [] ≡ None
 ended_empty command.Table asked = refl
@@ -98,6 +100,7 @@ ended_empty command.Closure asked = refl
 ended_empty command.Compare asked = refl
 ended_empty command.Crowd asked = refl
 ended_empty command.Serve asked = refl
+ended_empty command.Compact asked = refl
 
 ended_operands : (c : Command) (asked : Options) (words operands : List Text) → AreOperands words operands → option_in c asked words ≡ None
 ended_operands c asked words [] (inl p) = subst (λ ws. option_in c asked ws ≡ None) (sym p.0) (ended_empty c asked)

@@ -13,4 +13,5 @@ command_in name =
     else (if bytes_eq name (codes "closure") then Some command.Closure
     else (if bytes_eq name (codes "compare") then Some command.Compare
     else (if bytes_eq name (codes "crowd") then Some command.Crowd
-    else (if bytes_eq name (codes "serve") then Some command.Serve else None)))))
+    else (if bytes_eq name (codes "serve") then Some command.Serve
+    else (if bytes_eq name (codes "compact") then Some command.Compact else None))))))

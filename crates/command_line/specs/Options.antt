@@ -101,6 +101,7 @@ option_in command.Closure asked words = option_and_then (with_format asked) (val
 option_in command.Compare asked words = with_explanation asked words
 option_in command.Crowd asked words = None
 option_in command.Serve asked words = serving_in asked words
+option_in command.Compact asked words = None
 
 -- ---- all of them
 

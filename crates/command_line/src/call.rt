@@ -79,6 +79,11 @@ pub enum Call {
         /// with a file alone.
         from: Option<ReplayFrom>,
     },
+    /// `compact FILE`: print a shorter journal with the same future.
+    Compact {
+        /// The name of the journal; `-` is the standard input.
+        file: Word,
+    },
 }
 
 /// What is answered to words that are no call.
@@ -185,6 +190,7 @@ fn made_call<S: AsStr>(
         Command::Compare => compare_call(alloc, asked, operands),
         Command::Crowd => crowd_call(alloc, asked, operands),
         Command::Serve => serve_call(alloc, asked, operands),
+        Command::Compact => compact_call(alloc, asked, operands),
     }
 }
 
@@ -324,5 +330,22 @@ fn serve_call<S: AsStr>(
             }))
         }
         [_, ..] => Ok(None),
+    }
+}
+
+/// The call of `compact` with these operands, if they are one file.
+fn compact_call<S: AsStr>(
+    alloc: Global,
+    asked: &Options<'_>,
+    operands: &[S],
+) -> Result<Option<Call>, AllocError>
+    ensures { IfOk result (λ call. call ≡ call_of Command.Compact asked.now (map S.text operands.now)) }
+{
+    match operands {
+        [file] => {
+            let file = Word::new(alloc, file.as_str())?;
+            Ok(Some(Call::Compact { file }))
+        }
+        _ => Ok(None),
     }
 }

@@ -18,6 +18,8 @@ pub enum Command {
     Crowd,
     /// `serve`: hosts what the lines of the standard input declare, live.
     Serve,
+    /// `compact`: prints a shorter journal with the same future.
+    Compact,
 }
 
 impl Command {
@@ -32,6 +34,7 @@ impl Command {
             "compare" => Some(Command::Compare),
             "crowd" => Some(Command::Crowd),
             "serve" => Some(Command::Serve),
+            "compact" => Some(Command::Compact),
             _ => None,
         }
     }

@@ -4,13 +4,14 @@ use crate::command::Command;
 use crate::options::Options;
 
 /// The commands in the order in which they are told.
-pub const COMMANDS: [Command; 6] = [
+pub const COMMANDS: [Command; 7] = [
     Command::Table,
     Command::Run,
     Command::Closure,
     Command::Compare,
     Command::Crowd,
     Command::Serve,
+    Command::Compact,
 ];
 
 /// A command, an operand or an option as it is spelled, and what is said of it.
@@ -68,6 +69,11 @@ const SECOND: Part<'static> = Part {
 const FILE: Part<'static> = Part {
     name: "<FILE>",
     about: "The table file, or - for the standard input",
+};
+
+const JOURNAL_FILE: Part<'static> = Part {
+    name: "<FILE>",
+    about: "The journal, or - for the standard input",
 };
 
 const WORKERS: Part<'static> = Part {
@@ -243,6 +249,20 @@ if it cannot be written. For example:
   scphost serve --journal host.txt --from open < lines.txt",
 };
 
+/// `compact FILE`.
+const COMPACT: Form<'static> = Form {
+    command: Part {
+        name: "compact",
+        about: "Prints a shorter journal with the same future",
+    },
+    operands: &[JOURNAL_FILE],
+    options: &[],
+    more: "What is printed has the same future as the journal FILE: a live host that starts from it answers
+all further lines alike, but for their numbers. FILE is not changed. For example:
+  scphost compact host.txt > shorter.txt
+  scphost compact - < host.txt > shorter.txt",
+};
+
 /// The form of a command.
 pub fn form_of(command: Command) -> Form<'static> {
     match command {
@@ -252,5 +272,6 @@ pub fn form_of(command: Command) -> Form<'static> {
         Command::Compare => COMPARE,
         Command::Crowd => CROWD,
         Command::Serve => SERVE,
+        Command::Compact => COMPACT,
     }
 }

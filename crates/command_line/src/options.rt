@@ -163,6 +163,7 @@ fn option_before<'a, S: AsStr>(
         Command::Compare => with_explanation(asked, words),
         Command::Crowd => None,
         Command::Serve => serving_before(asked, words),
+        Command::Compact => None,
     }
 }
 

@@ -5,4 +5,4 @@ pub mod ServesLaws
 pub mod StopLaws
 pub mod ServingLaws
 pub mod ReplayLaws
-pub mod FirstLines
+pub mod LastingLines

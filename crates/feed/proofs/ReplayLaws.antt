@@ -167,9 +167,9 @@ pub line_replayed : {S : Type 0} (serves : Serving S) (from : Option ℕ) (s t :
     → HasReplayedLine serves from s end g old new result t
 line_replayed serves from s t end g old new line a n (Ok now) is place one taken told ends other = (
   line,
-  record { text = told_if (is_told from n) a.text; kept = a.kept },
+  record { text = told_if (is_told from n) a.text; done = a.done },
   is,
-  subst (λ (k : ℕ). Replaying from serves s k (Some line) (record { text = told_if (is_told from n) a.text; kept = a.kept }) t) place (a, one, taken, refl),
+  subst (λ (k : ℕ). Replaying from serves s k (Some line) (record { text = told_if (is_told from n) a.text; done = a.done }) t) place (a, one, taken, refl),
   told,
   ends.0 ∙ place,
   ends.1,

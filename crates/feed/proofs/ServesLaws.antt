@@ -5,7 +5,7 @@ use Rattle.std.proofs.lemmas.Bool.Decides.{nat_tests}
 use Rattle.std.proofs.lemmas.List.{append-nil}
 use Rattle.scripts.specs.Script.{Bytes, has_no_feed}
 use Rattle.feed.specs.WholeLines.{given, has_no_hole, is_plain}
-use Rattle.feed.specs.Served.{EmptyLinesAreSkipped, KeptLinesAreWhole, OnlyKeptLinesCount, Reply, Serves, Serving, journal_line, kept_as, unanswered}
+use Rattle.feed.specs.Served.{EmptyLinesAreSkipped, KeptLinesAreWhole, OnlyKeptLinesCount, Reply, Serves, Serving, is_kept, journal_line, kept_as, unanswered}
 use Rattle.feed.specs.Served.Serves.{none, next}
 
 -- ---- one behind the other
@@ -105,7 +105,7 @@ empty_again {S} serves longest skipped s t n line e f = subst (λ l. Again serve
     }
 
 line_again : {S : Type 0} (serves : Serving S) (longest : ℕ) → OnlyKeptLinesCount serves → EmptyLinesAreSkipped serves
-    → (s t : S) (n : ℕ) (line : Bytes) (a : Reply) (g : Option Bytes) (kept : Bool) → given longest line ≡ g → a.kept ≡ kept
+    → (s t : S) (n : ℕ) (line : Bytes) (a : Reply) (g : Option Bytes) (kept : Bool) → given longest line ≡ g → is_kept a ≡ kept
     → serves s n (given longest line) a t → Again serves longest s n (journal_line (given longest line) a) t
 line_again serves longest only skipped s t n line a None kept e f one =
     let empty : journal_line (given longest line) a ≡ [] = ap (λ g. journal_line g a) e in
@@ -132,13 +132,13 @@ pub replays : {S : Type 0} (serves : Serving S) (longest : ℕ) → OnlyKeptLine
     → (s t : S) (n : ℕ) (lines journal : List Bytes) (text : Bytes) → Serves serves longest s n lines journal text t → Replayed serves longest s n journal t
 replays serves longest only skipped s t n lines journal text none = record { text = []; served = none }
 replays serves longest only skipped s t n lines journal text (next {t = m} {line = line} {more = more} {journal = after} {others = others} a one many) =
-    again_more serves longest s m t n (journal_line (given longest line) a) after (line_again serves longest only skipped s m n line a (given longest line) a.kept refl refl one)
+    again_more serves longest s m t n (journal_line (given longest line) a) after (line_again serves longest only skipped s m n line a (given longest line) (is_kept a) refl refl one)
     (replays serves longest only skipped m t (n + 1) more after others many)
 
 -- ---- lines of the journal are plain
 
 plain_line : {S : Type 0} (serves : Serving S) (longest : ℕ) → KeptLinesAreWhole serves
-    → (s t : S) (n : ℕ) (line : Bytes) (a : Reply) (g : Option Bytes) (kept : Bool) → given longest line ≡ g → a.kept ≡ kept
+    → (s t : S) (n : ℕ) (line : Bytes) (a : Reply) (g : Option Bytes) (kept : Bool) → given longest line ≡ g → is_kept a ≡ kept
     → has_no_feed line ≡ true → serves s n (given longest line) a t → is_plain (journal_line (given longest line) a) ≡ true
 plain_line serves longest whole s t n line a None kept e f plain one = ap (λ g. is_plain (journal_line g a)) e
 plain_line serves longest whole s t n line a (Some l) false e f plain one = ap is_plain (ap₂ kept_as e f)
@@ -150,4 +150,4 @@ plain_line serves longest whole s t n line a (Some l) true e f plain one =
 pub plain_journal_line : {S : Type 0} (serves : Serving S) (longest : ℕ) → KeptLinesAreWhole serves
     → (s t : S) (n : ℕ) (line : Bytes) (a : Reply) → has_no_feed line ≡ true → serves s n (given longest line) a t
     → is_plain (journal_line (given longest line) a) ≡ true
-plain_journal_line serves longest whole s t n line a plain one = plain_line serves longest whole s t n line a (given longest line) a.kept refl refl plain one
+plain_journal_line serves longest whole s t n line a plain one = plain_line serves longest whole s t n line a (given longest line) (is_kept a) refl refl plain one

@@ -6,5 +6,6 @@ pub mod Acts
 pub mod Hosted
 pub mod Steps
 pub mod Replayed
-pub mod Openings
-pub mod OpeningLaws
+pub mod Lasting
+pub mod LastingLaws
+pub mod Compacting

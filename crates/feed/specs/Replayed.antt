@@ -5,7 +5,7 @@ use Rattle.scripts.specs.Script.{Bytes, lines_with_feeds}
 use Rattle.scripts.specs.declared.run.Stop.{Stop}
 use Rattle.scripts.specs.declared.run.Stop.TheVariants as stop
 use Rattle.feed.specs.WholeLines.{BeginsWithLines, given}
-use Rattle.feed.specs.Served.{Reply, Serves, Serving, unanswered}
+use Rattle.feed.specs.Served.{Reply, Serves, Serving, is_kept, unanswered}
 use Rattle.feed.specs.Acts.{lines_run}
 use Rattle.feed.specs.declared.replaying.JournalEnd.{JournalEnd}
 
@@ -20,17 +20,17 @@ told_if false text = []
 
 -- the line is one of a journal: it is kept, or it is not answered
 abbrev pub IsTaken : Reply → Type 0
-IsTaken a = (a.kept ≡ true) ⊎ (a ≡ unanswered)
+IsTaken a = (is_kept a ≡ true) ⊎ (a ≡ unanswered)
 
 -- a line is answered as it was, if it is one of a journal; what is told of it is told only from that line on
 abbrev pub Replaying : {S : Type 0} → Option ℕ → Serving S → Serving S
 Replaying from serves s n line told t =
-    (a : Reply) × serves s n line a t × IsTaken a × (told ≡ record { text = told_if (is_told from n) a.text; kept = a.kept })
+    (a : Reply) × serves s n line a t × IsTaken a × (told ≡ record { text = told_if (is_told from n) a.text; done = a.done })
 
 -- a line is none of a journal: it is too long, or its answer says that it is not kept
 abbrev pub IsNoLine : {S : Type 0} → Serving S → S → ℕ → Option Bytes → Type 0
 IsNoLine {S} serves s n None = Unit {0}
-IsNoLine {S} serves s n (Some line) = (a : Reply) × (t : S) × serves s n (Some line) a t × (a.kept ≡ false)
+IsNoLine {S} serves s n (Some line) = (a : Reply) × (t : S) × serves s n (Some line) a t × (is_kept a ≡ false)
 
 -- one line was answered again, and the journal ends behind it; or why not
 abbrev pub HasReplayedLine : {S : Type 0} → Serving S → Option ℕ → S → JournalEnd → Option Bytes → Option Bytes → Option Bytes

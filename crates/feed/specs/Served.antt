@@ -1,21 +1,26 @@
 -- What a live host answers to the lines that it is sent, and what its journal has of them.
-use Rattle.std.specs.Prelude.{◌≡◌, ◌++◌, ◌+◌, ℕ, Bool, true, false, List, [], ◌∷◌, Option, Some, None, IsTrue, string_bytes}
+use Rattle.std.specs.Prelude.{◌≡◌, ◌++◌, ◌+◌, ℕ, Bool, true, false, List, [], ◌∷◌, Option, Some, None, is_some, IsTrue, string_bytes}
 use Rattle.scripts.specs.Script.{Bytes}
 use Rattle.feed.specs.WholeLines.{given, has_no_hole}
 use Rattle.feed.specs.declared.answering.Answer.{Answer}
+use Rattle.feed.specs.declared.answering.Done.{Done}
 
--- what a line is answered: what is told of it, and whether the journal keeps it
+-- what a line is answered: what is told of it; and what it did, where the journal keeps it
 pub record Reply : Type 0 where
   pub text : Bytes
-  pub kept : Bool
+  pub done : Option Done
+
+-- the journal keeps the line
+abbrev pub is_kept : Reply → Bool
+is_kept a = is_some a.done
 
 -- of an empty line, or of a comment, nothing is told
 abbrev pub unanswered : Reply
-unanswered = record { text = []; kept = false }
+unanswered = record { text = []; done = None }
 
 abbrev pub reply_of : Option Answer → Reply
 reply_of None = unanswered
-reply_of (Some a) = record { text = string_bytes a.block; kept = a.kept }
+reply_of (Some a) = record { text = string_bytes a.block; done = a.done }
 
 -- what may be answered in a state to the line with this number, or to `None`, which is a line that is too long; and the
 -- state that is left
@@ -29,7 +34,7 @@ kept_as (Some line) true = line
 kept_as (Some line) false = []
 
 abbrev pub journal_line : Option Bytes → Reply → Bytes
-journal_line line a = kept_as line a.kept
+journal_line line a = kept_as line (is_kept a)
 
 -- what the journal does not keep of a line changes nothing
 abbrev pub OnlyKeptLinesCount : {S : Type 0} → Serving S → Type 0
@@ -43,7 +48,7 @@ EmptyLinesAreSkipped {S} serves = (s : S) (n : ℕ) → serves s n (Some []) una
 -- a line that the journal keeps has no byte 0
 abbrev pub KeptLinesAreWhole : {S : Type 0} → Serving S → Type 0
 KeptLinesAreWhole {S} serves =
-    (s t : S) (n : ℕ) (line : Bytes) (a : Reply) → serves s n (Some line) a t → a.kept ≡ true → IsTrue (has_no_hole line)
+    (s t : S) (n : ℕ) (line : Bytes) (a : Reply) → serves s n (Some line) a t → is_kept a ≡ true → IsTrue (has_no_hole line)
 
 -- lines were served one after the other, the first with this number: the lines of the journal that stand for them, what
 -- is told of them, and the state that is left

@@ -2,7 +2,7 @@
 use Rattle.std.specs.Prelude.{◌≡◌, ◌++◌, ◌+◌, ◌^◌, ℕ, Bool, List, [], ◌∷◌, Option, Result, Ok, Err}
 use Rattle.std.specs.Io.KnownBytes.{Appends, Keeps}
 use Rattle.scripts.specs.Script.{Bytes}
-use Rattle.feed.specs.Served.{Reply, Serving, journal_line, kept_as}
+use Rattle.feed.specs.Served.{Reply, Serving, is_kept, journal_line, kept_as}
 use Rattle.feed.specs.Acts.{Act, Did}
 use Rattle.feed.specs.Acts.Act.{Synced, Told, Wrote}
 use Rattle.feed.specs.declared.fault.Fault.{Fault}
@@ -11,7 +11,7 @@ use Rattle.feed.specs.declared.fault.Fault.TheVariants as fault
 -- a line was answered, which waits to be told behind what waited
 abbrev pub HasAnsweredLine : {S : Type 0} → Serving S → S → ℕ → Option Bytes → Bytes → Bool → Bytes → S → Type 0
 HasAnsweredLine serves s n given waits kept new t =
-    (a : Reply) × serves s n given a t × (kept ≡ a.kept) × (new ≡ waits ++ a.text)
+    (a : Reply) × serves s n given a t × (kept ≡ is_kept a) × (new ≡ waits ++ a.text)
 
 -- the line behind so many was answered and written; or why not
 abbrev pub HasServedLine : {S : Type 0} → Serving S → S → ℕ → Option Bytes → Bytes → Option (List Act) → Option (List Act)

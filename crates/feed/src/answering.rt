@@ -11,8 +11,43 @@ use std::io::Write;
 pub struct Answer {
     /// What is told of it: whole lines with their line feeds.
     pub block: String,
-    /// Whether a journal keeps the line: where it does not, the line has changed nothing.
-    pub kept: bool,
+    /// What it did, where a journal keeps it: a line that none keeps has changed nothing.
+    pub done: Option<Done>,
+}
+
+/// What a line that a journal keeps did to a network.
+#[derive(Clone, Copy)]
+pub struct Done {
+    /// The number of the network.
+    pub network: u32,
+    /// What it did there.
+    pub deed: Deed,
+}
+
+/// What a line did to its network.
+#[derive(Clone, Copy)]
+pub enum Deed {
+    /// It declared the network, or a node or the roster of it.
+    Declared,
+    /// It was an event that was refused, and declarations end with the first event.
+    Refused,
+    /// It was applied at this slot, and drew so much. The first such line opened the slot.
+    Applied(u64, Drawn),
+    /// It closed this slot, and drew so much.
+    Closed(u64, Drawn),
+    /// It took the network back.
+    Dropped,
+}
+
+/// How much a line drew on the budgets of its network, with all that came of it.
+#[derive(Clone, Copy)]
+pub struct Drawn {
+    /// Events.
+    pub events: u64,
+    /// Bytes of deliveries.
+    pub bytes: u64,
+    /// Openings and closings, of a network with a roster.
+    pub opens: u64,
 }
 
 /// What answers the lines of a live host.

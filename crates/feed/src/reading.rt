@@ -142,10 +142,10 @@ fn read_piece<R: BufRead>(reader: &mut R, line: &mut KeptLine) -> Result<Piece, 
     if available.is_empty() {
         return Ok(Piece::End);
     }
-    match feed_in(available) {
+    match first_place(available, b'\n') {
         Some(end) => {
             add_piece(line, &available[..end])?;
-            let more = feed_in(&available[end + 1..]).is_some();
+            let more = first_place(&available[end + 1..], b'\n').is_some();
             reader.consume(end + 1);
             Ok(Piece::Last(more))
         }
@@ -181,9 +181,9 @@ fn add_piece(line: &mut KeptLine, more: &[u8]) -> Result<(), ReadError>
     }
 }
 
-/// The place of the first line feed.
-fn feed_in(bytes: &[u8]) -> Option<usize>
-    ensures { result ≡ position (λ byte. byte == 10) bytes.now }
+/// The place of the first such byte.
+pub(crate) fn first_place(bytes: &[u8], at: u8) -> Option<usize>
+    ensures { result ≡ position (λ byte. byte == at) bytes.now }
 {
-    bytes.iter().position(|byte| *byte == b'\n')
+    bytes.iter().position(|byte| *byte == at)
 }

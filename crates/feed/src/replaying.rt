@@ -2,7 +2,7 @@
 
 ghost use Rattle.std.specs.Prelude.{◌≡◌, ◌+◌, ◌||◌, false, is_none, length, Err, IfErr, IfOk, IsOkUnless, OnOk};
 ghost use Rattle.std.specs.Io.KnownBytes.{Appends};
-ghost use Rattle.feed.specs.Served.{reply_of};
+ghost use Rattle.feed.specs.Served.{is_kept, reply_of};
 ghost use Rattle.feed.specs.Replayed.{HasReplayed, HasReplayedLine, IsTaken, is_told, told_if};
 
 use crate::answering::{Answer, LineServer};
@@ -93,12 +93,12 @@ fn tell_again<W: Write>(
     out: &mut W,
 ) -> Result<(), Stop>
     ensures told { OnOk result (IsTaken (reply_of answer) × Appends (W.contents out.old) (W.contents out.new) (told_if (is_told from number) (reply_of answer).text)) }
-    ensures bad { (n : _) → result ≡ Err (Stop.BadLine n) → (n ≡ number) × ((reply_of answer).kept ≡ false) }
+    ensures bad { (n : _) → result ≡ Err (Stop.BadLine n) → (n ≡ number) × (is_kept (reply_of answer) ≡ false) }
 {
-    let Some(Answer { block, kept }) = answer else {
+    let Some(Answer { block, done }) = answer else {
         return Ok(());
     };
-    let told = if !kept {
+    let told = if done.is_none() {
         Err(Stop::BadLine(number as usize))
     } else if is_told(from, number) {
         write_block(out, block.as_str())

@@ -13,6 +13,9 @@ use std::alloc::{AllocError, Global};
 use std::io::BufRead;
 use std::sync::Wait;
 
+/// After so many bytes of answers no further line is taken before they are told (this host's profile).
+const MOST_WAITING: usize = 65_536;
+
 /// A live host at work: what answers its lines, and how many there were.
 #[derive(Drop)]
 pub struct Feed<S: LineServer> {
@@ -65,7 +68,8 @@ impl<S: LineServer> Feed<S> {
                         self.tell(desk)?;
                         return Err(fault);
                     }
-                    if !more {
+                    let waits = self.may_wait(more);
+                    if !waits {
                         self.tell(desk)?;
                     }
                 }
@@ -77,6 +81,11 @@ impl<S: LineServer> Feed<S> {
             }
         }
         unreachable!()
+    }
+
+    /// Whether what lines were answered may wait for that of a further line: one is at hand, and not too much waits.
+    fn may_wait(&self, more: bool) -> bool {
+        more && self.waiting.len() < MOST_WAITING
     }
 
     /// Has the line answered, and writes it to the journal.
@@ -109,11 +118,11 @@ impl<S: LineServer> Feed<S> {
     {
         match self.server.serve(self.alloc, number, self.line.given())? {
             None => Ok(false),
-            Some(Answer { block, kept }) => {
+            Some(Answer { block, done }) => {
                 let waits = self.waiting.extend_from_slice(block.as_str().as_bytes());
                 drop(block);
                 waits?;
-                Ok(kept)
+                Ok(done.is_some())
             }
         }
     }

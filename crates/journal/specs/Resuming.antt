@@ -4,7 +4,7 @@ use Rattle.std.specs.Fmt.{decimal}
 use Rattle.std.specs.Io.KnownBytes.{Appends}
 use Rattle.scripts.specs.Script.{Bytes}
 use Rattle.scripts.specs.declared.run.Stop.TheVariants as stop
-use Rattle.feed.specs.Openings.{IsLeast, Watched, Watching, opening_lines}
+use Rattle.feed.specs.Lasting.{Watched, Watching, first_line, unwatched}
 use Rattle.feed.specs.Served.{Serving}
 use Rattle.feed.specs.Replayed.{HasReplayed}
 use Rattle.feed.specs.declared.replaying.JournalEnd.{JournalEnd}
@@ -44,17 +44,13 @@ HasResumed serves longest from s old new (Err fault.CannotWrite) t = Unit {0}
 HasResumed serves longest from s old new (Err fault.CannotTell) t = Unit {0}
 HasResumed serves longest from s old new (Err fault.NoMemory) t = Unit {0}
 
--- a server, of whose slots none is open
-abbrev pub unopened : {S : Type 0} → S → Watched S
-unopened s = record { server = s; openings = [] }
-
--- the least line of what a file has that opened a slot which is still open behind all of them; or why there is no answer
+-- the first line of what a file has that concerns a slot which is still open behind all of them; or why there is no answer
 abbrev pub HasFirst : {S : Type 0} → Serving S → ℕ → S → Result (Option ℕ) JournalFault → Type 0
 HasFirst {S} serves longest s (Ok first) =
     (file : Option Bytes) × (end : JournalEnd) × (t : Watched S)
-    × HasReplayed (Watching serves) longest None (unopened s) file None None (Ok end) t
-    × IsLeast (opening_lines t.openings) first
-HasFirst {S} serves longest s (Err (fault.BadLine n)) = (t : Watched S) × HasBadLine (Watching serves) longest None (unopened s) n t
+    × HasReplayed (Watching serves) longest None (unwatched s) file None None (Ok end) t
+    × (first ≡ first_line t.lines.lasting)
+HasFirst {S} serves longest s (Err (fault.BadLine n)) = (t : Watched S) × HasBadLine (Watching serves) longest None (unwatched s) n t
 HasFirst serves longest s (Err fault.CannotRead) = Unit {0}
 HasFirst serves longest s (Err fault.InUse) = Unit {0}
 HasFirst serves longest s (Err fault.CannotWrite) = Unit {0}

@@ -1,11 +1,9 @@
 //! What is wrong with a journal.
 
 ghost use Rattle.std.specs.Prelude.{◌≡◌};
-ghost use Rattle.journal.specs.declared.fault.JournalFault.TheVariants.{NoMemory};
 ghost use Rattle.journal.specs.Faults.{fault_of_stop};
 
 use scripts::Stop;
-use std::alloc::AllocError;
 
 /// Why a live host does not start from a journal.
 #[derive(Clone, Copy, Debug, PartialEq, Eq)]
@@ -22,14 +20,6 @@ pub enum JournalFault {
     CannotTell,
     /// There was no memory.
     NoMemory,
-}
-
-impl From<AllocError> for JournalFault {
-    ghost from_gives = { λ _ fault. fault ≡ NoMemory };
-
-    fn from(_error: AllocError) -> JournalFault {
-        JournalFault::NoMemory
-    }
 }
 
 impl From<Stop> for JournalFault {

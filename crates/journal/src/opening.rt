@@ -1,5 +1,7 @@
 //! Opening the file of a journal.
 
+ghost use Rattle.std.specs.Prelude.{◌≢◌, IfErr};
+
 use crate::fault::JournalFault;
 use std::fs::{File, Files, OpenOptions, TryLockError};
 use std::path::Path;
@@ -10,7 +12,9 @@ use std::path::Path;
 /// It is refused where it cannot be opened, made or locked or is no regular file ([`JournalFault::CannotRead`]), where
 /// another process has it ([`JournalFault::InUse`]), and where it or its name cannot be brought to the disk
 /// ([`JournalFault::CannotWrite`]).
-pub fn open_journal<R: Files<File = File>>(rt: &R, name: &str) -> Result<File, JournalFault> {
+pub fn open_journal<R: Files<File = File>>(rt: &R, name: &str) -> Result<File, JournalFault>
+    ensures { IfErr result (λ why. (n : _) → why ≢ JournalFault.BadLine n) }
+{
     let file = open_file(rt, name)?;
     match file.metadata() {
         Ok(metadata) if metadata.is_file() => {}
@@ -30,7 +34,9 @@ pub fn open_journal<R: Files<File = File>>(rt: &R, name: &str) -> Result<File, J
 
 /// Opens or makes the file of this name. Where a standard stream is closed the system gives its number to the file, which
 /// would then get what is meant for the stream: the number of a copy is another.
-fn open_file<R: Files<File = File>>(rt: &R, name: &str) -> Result<File, JournalFault> {
+fn open_file<R: Files<File = File>>(rt: &R, name: &str) -> Result<File, JournalFault>
+    ensures { IfErr result (λ why. (n : _) → why ≢ JournalFault.BadLine n) }
+{
     let opened = OpenOptions::new()
         .read(true)
         .append(true)

@@ -5,7 +5,7 @@ ghost use Rattle.std.specs.Io.KnownBytes.{Appends};
 ghost use Rattle.journal.specs.Resuming.{HasFirst, HasReplayedFile, HasResumed, resumed_line};
 
 use crate::fault::JournalFault;
-use feed::{JournalEnd, LONGEST_LINE, LineServer, OpenSlots, replay};
+use feed::{JournalEnd, LONGEST_LINE, Lasting, LineServer, replay};
 use std::fs::File;
 use std::io::{BufReader, Seek, SeekFrom, Write, sink};
 use std::sync::Wait;
@@ -14,7 +14,8 @@ use std::sync::Wait;
 /// `resumed L`, L being how many lines the file has, which is answered too. What the lines from a number on are answered
 /// is written before that; of the others, and without a number, nothing is.
 ///
-/// After an error the file is as it was, but for a cut that may not be on the disk ([`JournalFault::CannotWrite`]).
+/// After an error the file has the lines that it had; behind their end it may have been cut ([`JournalFault::CannotWrite`],
+/// [`JournalFault::CannotTell`]).
 pub fn resume<X: Wait + AllocGlobal, S: LineServer, W: Write>(
     rt: &X,
     file: &File,
@@ -31,8 +32,8 @@ pub fn resume<X: Wait + AllocGlobal, S: LineServer, W: Write>(
     write_resumed(end.lines, out)
 }
 
-/// The least line of a journal on that opened a slot which is still open at its end, as a server with no networks answers
-/// the lines; `None` where no slot is open. The file is as it was.
+/// The first line of a journal that concerns a slot which is still open at its end, as a server with no networks answers the
+/// lines; `None` where no slot is open. The file is as it was.
 pub fn first_open_line<X: Wait + AllocGlobal, S: LineServer + Drop>(
     rt: &X,
     file: &File,
@@ -40,10 +41,10 @@ pub fn first_open_line<X: Wait + AllocGlobal, S: LineServer + Drop>(
 ) -> Result<Option<u64>, JournalFault>
     ensures { HasFirst S.serves LONGEST_LINE server result }
 {
-    let mut slots = OpenSlots::new(rt.alloc(), server);
-    let replayed = replay_file(rt, file, &mut slots, None, &mut sink());
-    let first = slots.first_line();
-    drop(slots);
+    let mut lasting = Lasting::new(rt.alloc(), server);
+    let replayed = replay_file(rt, file, &mut lasting, None, &mut sink());
+    let first = lasting.first_line();
+    drop(lasting);
     match replayed {
         Ok(_) => Ok(first),
         Err(fault) => Err(fault),

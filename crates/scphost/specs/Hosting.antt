@@ -1,15 +1,19 @@
 -- What a live host does with what it is sent.
-use Rattle.std.specs.Prelude.{◌≡◌, ◌⊎◌, ◌+◌, ℕ, Bool, Option, Some, None, Result, Ok, Err}
+use Rattle.std.specs.Prelude.{◌≡◌, ◌⊎◌, ◌+◌, ℕ, Bool, false, Option, Some, None, Result, Ok, Err}
 use Rattle.scripts.specs.Script.{Bytes}
+use Rattle.feed.specs.Compacting.{HasCompacted}
 use Rattle.feed.specs.Hosted.{HasDone, HasHostedStream}
 use Rattle.feed.specs.declared.fault.Fault.{Fault}
 use Rattle.feed.specs.declared.reading.TheConstants.{LONGEST_LINE}
-use Rattle.journal.specs.Resuming.{HasFirst, HasResumed}
+use Rattle.feed.specs.Lasting.{Watched, Watching, unwatched}
+use Rattle.journal.specs.Resuming.{HasBadLine, HasFirst, HasResumed}
 use Rattle.journal.specs.declared.fault.JournalFault.{JournalFault}
+use Rattle.journal.specs.declared.fault.JournalFault.TheVariants as journal
 use Rattle.serving.specs.Hosts.{Live, Serves, new_live}
 use Rattle.command_line.specs.declared.replay.ReplayFrom.{ReplayFrom}
 use Rattle.command_line.specs.declared.replay.ReplayFrom.TheVariants.{Line, Open}
-use Rattle.scphost.specs.Stops.{End, IsEndOfHost, IsEndOfJournal}
+use Rattle.scripts.specs.declared.run.Stop.{Stop}
+use Rattle.scphost.specs.Stops.{End, IsEndOfCompacting, IsEndOfHost, IsEndOfJournal}
 
 -- from a state on, a live host served what it was sent line by line as it came, the first line with this number, and what
 -- it answered is written; it is told how that ended
@@ -30,17 +34,35 @@ abbrev pub HasGoneOn : Bool → Option ReplayFrom → Option Bytes → Option By
 HasGoneOn bytes from old new n t =
     (first : Option ℕ) × IsFrom bytes from (Ok first) × HasResumed Serves LONGEST_LINE first (new_live bytes) old new (Ok n) t
 
--- the same, as a file and a number; of a host that did not go on nothing is said
+-- why a host did not go on from its journal: where a line is named, it is none of a journal, behind lines that are; of other
+-- reasons nothing is said
+abbrev pub IsNotGoneOn : Bool → JournalFault → Type 0
+IsNotGoneOn bytes (journal.BadLine n) =
+    ((first : Option ℕ) × (t : Live) × HasBadLine Serves LONGEST_LINE first (new_live bytes) n t)
+    ⊎ ((t : Watched Live) × HasBadLine (Watching Serves) LONGEST_LINE None (unwatched (new_live bytes)) n t)
+IsNotGoneOn bytes journal.CannotRead = Unit {0}
+IsNotGoneOn bytes journal.InUse = Unit {0}
+IsNotGoneOn bytes journal.CannotWrite = Unit {0}
+IsNotGoneOn bytes journal.CannotTell = Unit {0}
+IsNotGoneOn bytes journal.NoMemory = Unit {0}
+
+-- a host went on, which is told as a file and a number; or why not
 abbrev pub HasStarted : {F : Type 0} → Bool → Option ReplayFrom → Option Bytes → Option Bytes → Result (F × ℕ) JournalFault
     → Live → Type 0
 HasStarted bytes from old new (Ok started) t = HasGoneOn bytes from old new started.1 t
-HasStarted bytes from old new (Err why) t = Unit {0}
+HasStarted bytes from old new (Err why) t = IsNotGoneOn bytes why
 
 -- a host that has no networks at first, and prints envelopes as bytes if that is asked for, served what it was sent; with
 -- a journal, from where that ends. Or it did not start, for a reason that is told.
 abbrev pub HasServed : Bool → Option Bytes → Option ReplayFrom → Option Bytes → Option Bytes → Option Bytes → End → Type 0
 HasServed bytes None from input old new end = HasServedFrom (new_live bytes) 1 input old new end
 HasServed bytes (Some name) from input old new end =
-    ((why : JournalFault) × IsEndOfJournal why end)
+    ((why : JournalFault) × IsNotGoneOn bytes why × IsEndOfJournal why end)
     ⊎ ((n : ℕ) × (t : Live) × (mid : Option Bytes) × HasGoneOn bytes from old mid n t
     × HasServedFrom t (n + 1) input mid new end)
+
+-- what lasts of a journal was written as a shorter one, or why not, and it is told how that ended
+abbrev pub HasMadeShorter : Option Bytes → Option Bytes → Option Bytes → End → Type 0
+HasMadeShorter journal old new end =
+    (made : Result (Unit {0}) Stop) × IsEndOfCompacting made end
+    × HasCompacted Serves LONGEST_LINE (new_live false) journal old new made

@@ -14,14 +14,14 @@ use Rattle.runs.specs.Submitting.{Submitting}
 use Rattle.pooled.specs.Pooling.{IsPoolText}
 use Rattle.answers.specs.Comparisons.{IsComparison}
 use Rattle.answers.specs.Crowding.{TellsCrowd}
-use Rattle.scphost.specs.Hosting.{HasServed}
+use Rattle.scphost.specs.Hosting.{HasMadeShorter, HasServed}
 use Rattle.scphost.specs.Reporting.{IsReport}
 use Rattle.answers.specs.Scripts.{IsPlannedBy, IsSubmittedBy, IsStoryOf, Story, longest_script}
 use Rattle.answers.specs.Scripts.{StopsPlan, StopsStories, StopsStory, StopsSubmissions}
 use Rattle.scphost.specs.Stops.{End, IsEndOf}
 use Rattle.answers.specs.declared.answer.Answer.{Answer}
 use Rattle.command_line.specs.declared.call.Call.{Call}
-use Rattle.command_line.specs.declared.call.Call.TheVariants.{Table, Run, Closure, Compare, Crowd, Serve}
+use Rattle.command_line.specs.declared.call.Call.TheVariants.{Table, Run, Closure, Compare, Crowd, Serve, Compact}
 use Rattle.command_line.specs.declared.call.Usage.{Usage}
 use Rattle.command_line.specs.declared.call.Usage.TheVariants.{Help, Bad, NoMemory}
 use Rattle.command_line.specs.declared.subject.Format.{Format}
@@ -76,8 +76,8 @@ abbrev pub names_files : Call → Bool
 names_files (Serve workers bytes explain journal from) = false
 names_files _ = true
 
--- what a call does with its files: it runs the lines of one, or prints the answer; a call that names none is not
--- performed so
+-- what a call does with its files: it runs the lines of one, prints the answer, or makes one shorter; a call that names none
+-- is not performed so
 abbrev pub IsPerformed : Call → Option Bytes → Option Bytes → Option Bytes → Option Bytes → End → Type 0
 IsPerformed (Table file) first second old new end =
     HasRunLines TableLines.Tells TableLines.Refuses None first old new end
@@ -92,6 +92,7 @@ IsPerformed (Compare one other subject explain) first second old new end =
 IsPerformed (Crowd one other subject) first second old new end =
     HasAnswered (IsCrowd subject first second) (StopsSubmissions first second) old new end
 IsPerformed (Serve workers bytes explain journal from) first second old new end = ⊥
+IsPerformed (Compact file) first second old new end = HasMadeShorter first old new end
 
 -- the same of lines each of which is answered before the next one is read
 abbrev pub HasRunAsTheyCome : {S : Type 0} → Telling S → Refusing S → S → Option Bytes → Option Bytes → Option Bytes
@@ -116,6 +117,7 @@ IsPerformedAsItComes (Crowd one other subject) input old new end =
     IsPerformed (Crowd one other subject) input (Some []) old new end
 IsPerformedAsItComes (Serve workers bytes explain journal from) input old new end =
     HasServed bytes journal from input old new end
+IsPerformedAsItComes (Compact file) input old new end = HasMadeShorter input old new end
 
 -- what answers words that are no call: help is printed whole, or a write failed (4); else nothing is printed, and the
 -- words are at fault (2), or there was no memory (3)

@@ -4,6 +4,7 @@ use Rattle.scripts.specs.declared.run.Stop.{Stop}
 use Rattle.scripts.specs.declared.run.Stop.TheVariants as stop
 use Rattle.feed.specs.declared.fault.Fault.{Fault}
 use Rattle.feed.specs.declared.fault.Fault.TheVariants as fault
+use Rattle.journal.specs.Faults.{fault_of_stop}
 use Rattle.journal.specs.declared.fault.JournalFault.{JournalFault}
 use Rattle.journal.specs.declared.fault.JournalFault.TheVariants as journal
 
@@ -53,3 +54,7 @@ IsEndOfHost ran end = MatchResult ran (λ _. end ≡ Ok false) (λ why. end ≡ 
 -- a call ended since its live host did not start
 abbrev pub IsEndOfJournal : JournalFault → End → Type 0
 IsEndOfJournal why end = end ≡ Err (stop_of_journal why)
+
+-- a call ended as a journal was made shorter, or was not
+abbrev pub IsEndOfCompacting : Result (Unit {0}) Stop → End → Type 0
+IsEndOfCompacting made end = MatchResult made (λ _. end ≡ Ok false) (λ why. IsEndOfJournal (fault_of_stop why) end)

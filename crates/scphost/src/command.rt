@@ -49,6 +49,7 @@ fn open_and_perform<
 {
     match call {
         Call::Table { file }
+        | Call::Compact { file }
         | Call::Run { script: file, .. }
         | Call::Closure { script: file, .. } => perform_one(rt, call, file.as_str(), outputs),
         Call::Compare { first, second, .. } | Call::Crowd { first, second, .. } => {

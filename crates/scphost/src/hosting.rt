@@ -2,18 +2,18 @@
 
 ghost use Rattle.std.specs.Prelude.{◌≡◌, None, Some, Err};
 ghost use Rattle.serving.specs.Hosts.{new_live};
-ghost use Rattle.scphost.specs.Hosting.{HasServed, HasStarted, IsFrom};
+ghost use Rattle.scphost.specs.Hosting.{HasMadeShorter, HasServed, HasStarted, IsFrom};
 ghost use Rattle.scphost.specs.Stops.{IsEndOfHost, IsEndOfJournal};
 
 use crate::outputs::Outputs;
 use crate::perform::print_stop;
 use crate::remembering::RememberedHost;
 use command_line::ReplayFrom;
-use feed::{Fault, Feed};
+use feed::{Fault, Feed, compact};
 use journal::{JournalFault, first_open_line, open_journal, resume};
 use scripts::Stop;
 use std::fs::{File, Files};
-use std::io::{BufRead, Write};
+use std::io::{BufRead, BufReader, Read, Write};
 use std::sync::Wait;
 
 /// How a live host answers: whether envelopes are printed as bytes, and whether it is said why a line is bad.
@@ -119,6 +119,40 @@ fn first_told<A: AllocGlobal + Wait>(
             first_open_line(rt, file, RememberedHost::new(rt.alloc(), bytes, true))
         }
     }
+}
+
+/// Writes a shorter journal with the same future to `outputs.out`, and answers how that ended. What is wrong with the
+/// journal, which has this name, is said on `outputs.err`.
+pub fn make_shorter<A: AllocGlobal + Wait, R: BufRead, W: Write, E: Write>(
+    rt: &A,
+    name: &str,
+    journal: &mut R,
+    outputs: &mut Outputs<W, E>,
+) -> Result<bool, Stop>
+    ensures { HasMadeShorter (R.remaining journal.old) (W.contents outputs.old.out) (W.contents outputs.new.out) result }
+{
+    let host = RememberedHost::new(rt.alloc(), false, true);
+    match compact(rt, host, journal, &mut outputs.out) {
+        Ok(()) => Ok(false),
+        Err(stop) => print_end_of_journal(JournalFault::from(stop), name, &mut outputs.err),
+    }
+}
+
+/// The same of a reader that has no lines at hand.
+pub fn make_file_shorter<A: AllocGlobal + Wait, R: Read, W: Write, E: Write>(
+    rt: &A,
+    name: &str,
+    journal: &mut R,
+    outputs: &mut Outputs<W, E>,
+) -> Result<bool, Stop>
+    ensures { HasMadeShorter (R.remaining journal.old) (W.contents outputs.old.out) (W.contents outputs.new.out) result }
+{
+    let Ok(mut reader) = BufReader::new(rt.alloc(), journal) else {
+        return print_stop(Stop::NoMemory, "", &mut outputs.err);
+    };
+    let ended = make_shorter(rt, name, &mut reader, outputs);
+    drop(reader);
+    ended
 }
 
 /// Says on `err` what ended a host early, whose journal, if it has one, has this name, and answers that.

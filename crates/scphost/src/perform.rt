@@ -7,7 +7,9 @@ ghost use Rattle.scphost.specs.Printing.{HasAnswered, HasAnsweredUsage, HasRunLi
 ghost use Rattle.answers.specs.Scripts.{StopsPlan, StopsStories, StopsStory, StopsSubmissions};
 ghost use Rattle.scphost.specs.Stops.{IsEndOf, status_of_end};
 
-use crate::hosting::{AnswerForm, JournalUse, serve, serve_with_journal};
+use crate::hosting::{
+    AnswerForm, JournalUse, make_file_shorter, make_shorter, serve, serve_with_journal,
+};
 use crate::outputs::Outputs;
 use crate::pooling::answer_pool;
 use crate::printing::{print_answer, write_text};
@@ -45,8 +47,8 @@ pub const NO_WRITE: u8 = 4;
 /// none is for [`perform_stream`].
 ///
 /// What the call prints goes to `outputs.out`, and one line on what ended it early to `outputs.err`. Of `table` and
-/// `run` what lines before a bad one printed is written by then; `closure`, `compare` and `crowd` print
-/// nothing before all files have been run to their ends, the first one before the second is read, and `run`
+/// `run` what lines before a bad one printed is written by then; `closure`, `compare`, `crowd` and `compact`
+/// print nothing before all files have been run to their ends, the first one before the second is read, and `run`
 /// with workers runs no event before all lines have been read. A write to `err` that fails changes nothing.
 pub fn perform<
     A: AllocGlobal + Threads + Wait + Sync + Send + Copy + Drop,
@@ -64,11 +66,10 @@ pub fn perform<
     requires { IsTrue (names_files call.now) }
     ensures { IsPerformed call.now (R.remaining first.old) (T.remaining second.old) (W.contents outputs.old.out) (W.contents outputs.new.out) result }
 {
-    let alloc = rt.alloc();
     match call {
         Call::Table { file } => {
             let mut run = TableRun::new();
-            let ran = run_script(alloc, &mut run, first, &mut outputs.out);
+            let ran = run_script(rt.alloc(), &mut run, first, &mut outputs.out);
             drop(run);
             print_end(ran, file.as_str(), &mut outputs.err)
         }
@@ -83,7 +84,7 @@ pub fn perform<
                 subject,
                 format: *format,
             };
-            perform_closure(alloc, &request, first, outputs)
+            perform_closure(rt.alloc(), &request, first, outputs)
         }
         Call::Compare {
             first: one,
@@ -97,7 +98,7 @@ pub fn perform<
                 subject,
                 explain: *explain,
             };
-            perform_compare(alloc, &request, first, second, outputs)
+            perform_compare(rt.alloc(), &request, first, second, outputs)
         }
         Call::Crowd {
             first: one,
@@ -109,9 +110,10 @@ pub fn perform<
                 second: other,
                 subject,
             };
-            perform_crowd(alloc, &request, first, second, outputs)
+            perform_crowd(rt.alloc(), &request, first, second, outputs)
         }
         Call::Serve { .. } => unreachable!(),
+        Call::Compact { file } => make_file_shorter(rt, file.as_str(), first, outputs),
     }
 }
 
@@ -351,6 +353,7 @@ pub fn perform_stream<
                 }
             }
         }
+        Call::Compact { file } => make_shorter(rt, file.as_str(), input, outputs),
     }
 }
 

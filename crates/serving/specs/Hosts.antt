@@ -1,11 +1,11 @@
 -- A live host, and what it answers to its lines.
-use Rattle.std.specs.Prelude.{◌≡◌, ◌⊎◌, ◌+◌, ◌++◌, ◌&&◌, ◌==◌, if◌then◌else◌, option_map, not, ℕ, Bool, true, false, nat_lt, List, [], ◌∷◌, length, Option, Some, None, is_some}
+use Rattle.std.specs.Prelude.{◌≡◌, ◌⊎◌, ◌+◌, ◌-◌, ◌++◌, ◌&&◌, ◌==◌, if◌then◌else◌, option_map, not, ℕ, Bool, true, false, nat_lt, List, [], ◌∷◌, length, Option, Some, None, is_some}
 use Rattle.std.specs.List.{flat_map, list_any}
 use Rattle.std.specs.Ordering.{nat_cmp}
 use Rattle.std.specs.BTreeMap.{insert_entry, is_at}
 use Rattle.std.specs.Map.{lookup, remove_entry, set_value}
 use Rattle.types.specs.declared.event.Event.{Event}
-use Rattle.types.specs.declared.event.Event.TheVariants.{Deliver}
+use Rattle.types.specs.declared.event.Event.TheVariants.{CloseSlot, Deliver, OpenSlot}
 use Rattle.types.specs.declared.event.Refusal.{Refusal}
 use Rattle.types.specs.declared.event.Refusal.TheVariants.{NoSuchNetwork, NoSuchNode, SlotNotOpen}
 use Rattle.protocol.specs.Hosts.{Config}
@@ -18,6 +18,10 @@ use Rattle.network.specs.Standing.{Machine, StandsFor, node_at}
 use Rattle.network.specs.declared.network.Used.{Used}
 use Rattle.scripts.specs.Script.{AreFields, Bytes, IsBad, IsSkipped}
 use Rattle.feed.specs.Served.{Reply, Serving, unanswered}
+use Rattle.feed.specs.declared.answering.Deed.{Deed}
+use Rattle.feed.specs.declared.answering.Deed.TheVariants as deed
+use Rattle.feed.specs.declared.answering.Done.{Done}
+use Rattle.feed.specs.declared.answering.Drawn.{Drawn}
 use Rattle.requests.specs.declared.request.Declaration.{Declaration}
 use Rattle.requests.specs.declared.request.Declaration.TheVariants as declaration
 use Rattle.requests.specs.Outlines.{IsConfigOf, Outlined, Waiting, waiting_at, waiting_without}
@@ -57,8 +61,44 @@ abbrev pub with_live : Live → ℕ → Machine → Live
 with_live l g m = record l { running = set_value (is_at (nat_cmp g)) l.running m }
 
 -- the answer that is one line
-abbrev pub one_line : ℕ → Closing → Bool → Reply
-one_line n c kept = record { text = closing_line n c; kept = kept }
+abbrev pub one_line : ℕ → Closing → Option Done → Reply
+one_line n c done = record { text = closing_line n c; done = done }
+
+-- ---- what a line did
+-- this is what it did to the network of a number, if it is taken
+abbrev pub done_if : Bool → ℕ → Deed → Option Done
+done_if true g d = Some (record { network = g; deed = d })
+done_if false g d = None
+
+-- how much a network that runs has used up, and how many of its slots are open
+abbrev pub used_of : Machine → Used
+used_of m = record { events = m.events; bytes = m.bytes; slots = length m.slots; opens = m.opens }
+
+-- what is used up afterwards, less what was used up before
+abbrev pub drawn_between : Used → Used → Drawn
+drawn_between before after = record {
+  events = after.events - before.events;
+  bytes = after.bytes - before.bytes;
+  opens = after.opens - before.opens;
+}
+
+-- what was drawn on the budgets of a network
+abbrev pub drawn : Machine → Machine → Drawn
+drawn m after = drawn_between (used_of m) (used_of after)
+
+-- what an event did that was applied, and drew so much: an opening and a closing name their slot, and any other has this one
+abbrev pub deed_at : Event → ℕ → Drawn → Deed
+deed_at (OpenSlot j) i d = deed.Applied j d
+deed_at (CloseSlot j) i d = deed.Closed j d
+deed_at e i d = deed.Applied i d
+
+abbrev pub deed_by : Option Refusal → Event → ℕ → Drawn → Deed
+deed_by None e i d = deed_at e i d
+deed_by (Some r) e i d = deed.Refused
+
+-- what an event did that was served, and drew so much
+abbrev pub deed_of : Event → Served → Drawn → Deed
+deed_of e s d = deed_by s.refused e s.slot d
 
 -- ---- declarations
 -- A declaration is taken. A network is one that is not declared, where fewer than 4,096 are; a node and a roster are those
@@ -100,10 +140,13 @@ IsBegun g old false new = (is_bare (waiting_at old.waiting g) ≡ true) × (new 
 -- ---- events
 -- an event of a network that runs, if it does, is served, and then the line is kept; this is its answer
 abbrev pub IsServedAt : Option Machine → ℕ → ℕ → Event → Live → Reply → Live → Type 0
-IsServedAt None n g e old a new = (a ≡ one_line n (closing.Refused NoSuchNetwork) false) × (new ≡ old)
+IsServedAt None n g e old a new = (a ≡ one_line n (closing.Refused NoSuchNetwork) None) × (new ≡ old)
 IsServedAt (Some m) n g e old a new =
     (after : Machine) × (s : Served) × IsServedBy m (step_of e) after s × (new ≡ with_live old g after)
-    × (a ≡ record { text = block_of old.bytes n g s.slot (tellings_of s.told.items) (ending_of s); kept = true })
+    × (a ≡ record {
+      text = block_of old.bytes n g s.slot (tellings_of s.told.items) (ending_of s);
+      done = Some (record { network = g; deed = deed_of e s (drawn m after) });
+    })
 
 abbrev pub IsEventAnswered : ℕ → ℕ → Event → Live → Reply → Live → Type 0
 IsEventAnswered n g e old a new =
@@ -125,6 +168,11 @@ slot_of_answer (Some r) i others = others
 abbrev pub slot_of_answers : List NodeAnswer → Option ℕ
 slot_of_answers [] = None
 slot_of_answers (a ∷ answers) = slot_of_answer a.served.refused a.served.slot (slot_of_answers answers)
+
+-- what bytes did that came to all nodes, and drew so much: they were applied at this slot, or each node refused them
+abbrev pub deed_of_all : Option ℕ → Drawn → Deed
+deed_of_all None d = deed.Refused
+deed_of_all (Some i) d = deed.Applied i d
 
 -- the lines of a node: what was told, or why it was refused
 abbrev pub lines_of_node : Option Refusal → Bool → ℕ → ℕ → ℕ → NodeAnswer → Bytes
@@ -160,10 +208,14 @@ block_of_answers b n g answers =
 
 -- bytes come to each hosted node of a network that runs, if it does, and then the line is kept; this is the answer
 abbrev pub AreServedAt : Option Machine → ℕ → ℕ → Bytes → Live → Reply → Live → Type 0
-AreServedAt None n g bytes old a new = (a ≡ one_line n (closing.Refused NoSuchNetwork) false) × (new ≡ old)
+AreServedAt None n g bytes old a new = (a ≡ one_line n (closing.Refused NoSuchNetwork) None) × (new ≡ old)
 AreServedAt (Some m) n g bytes old a new =
     (after : Machine) × (answers : List NodeAnswer) × AreServed bytes (names_of m.config.nodes) m answers after
-    × (new ≡ with_live old g after) × (a ≡ record { text = block_of_answers old.bytes n g answers; kept = true })
+    × (new ≡ with_live old g after)
+    × (a ≡ record {
+      text = block_of_answers old.bytes n g answers;
+      done = Some (record { network = g; deed = deed_of_all (slot_of_answers answers) (drawn m after) });
+    })
 
 abbrev pub AreAllAnswered : ℕ → ℕ → Bytes → Live → Reply → Live → Type 0
 AreAllAnswered n g bytes old a new =
@@ -186,10 +238,6 @@ closing_of_drop true = closing.Taken
 closing_of_drop false = closing.Refused NoSuchNetwork
 
 -- ---- questions
--- how much a network that runs has used up, and how many of its slots are open
-abbrev pub used_of : Machine → Used
-used_of m = record { events = m.events; bytes = m.bytes; slots = length m.slots; opens = m.opens }
-
 abbrev pub left_by : Option Outlined → Option Machine → Option Left
 left_by (Some d) running = Some (all_left d)
 left_by None running = option_map (λ m. left_of m.config (used_of m)) running
@@ -232,7 +280,7 @@ IsShown n g i u l text = (running : Option Machine) × (live_at l g ≡ running)
 -- ---- lines
 -- a bad line changes nothing, and is not kept
 abbrev pub IsBadLine : ℕ → Live → Reply → Live → Type 0
-IsBadLine n old a new = (a ≡ one_line n closing.Bad false) × (new ≡ old)
+IsBadLine n old a new = (a ≡ one_line n closing.Bad None) × (new ≡ old)
 
 -- what stands behind the beginning of a network: its answer; or the line is bad
 abbrev pub IsAnsweredThen : Bool → ℕ → (Live → Reply → Live → Type 0) → Live → Reply → Live → Type 0
@@ -247,13 +295,13 @@ IsAnsweredOnceBegun n g answers old a new =
 -- question is not kept, and changes nothing.
 abbrev pub IsAnswer : ℕ → ℕ → Ask → Live → Reply → Live → Type 0
 IsAnswer n g (ask.Declare d) old a new =
-    (taken : Bool) × IsDeclared g d old taken new × (a ≡ one_line n (closing_of_declaration taken) taken)
+    (taken : Bool) × IsDeclared g d old taken new × (a ≡ one_line n (closing_of_declaration taken) (done_if taken g deed.Declared))
 IsAnswer n g (ask.Serve e) old a new = IsAnsweredOnceBegun n g (IsEventAnswered n g e) old a new
 IsAnswer n g (ask.ForAll bytes) old a new = IsAnsweredOnceBegun n g (AreAllAnswered n g bytes) old a new
-IsAnswer n g ask.Left old a new = IsLeftText n g (left_at old g) a.text × (a.kept ≡ false) × (new ≡ old)
-IsAnswer n g (ask.Show i u) old a new = IsShown n g i u old a.text × (a.kept ≡ false) × (new ≡ old)
+IsAnswer n g ask.Left old a new = IsLeftText n g (left_at old g) a.text × (a.done ≡ None) × (new ≡ old)
+IsAnswer n g (ask.Show i u) old a new = IsShown n g i u old a.text × (a.done ≡ None) × (new ≡ old)
 IsAnswer n g ask.Drop old a new =
-    (taken : Bool) × IsDropped g old taken new × (a ≡ one_line n (closing_of_drop taken) taken)
+    (taken : Bool) × IsDropped g old taken new × (a ≡ one_line n (closing_of_drop taken) (done_if taken g deed.Dropped))
 
 abbrev pub IsAnswerTo : ℕ → Option (ℕ × Ask) → Live → Reply → Live → Type 0
 IsAnswerTo n None old a new = IsBadLine n old a new
@@ -270,8 +318,8 @@ IsLineAnswered n line old a new =
     (IsBad line × IsBadLine n old a new)
     ⊎ ((fields : List Bytes) × AreFields line fields × AreFieldsAnswered n fields old a new)
 
--- What a line is answered: its block, which is none where the line is skipped, and whether it is kept. A line that is too
--- long is bad.
+-- What a line is answered: its block, which is none where the line is skipped, and what it did, where it is kept. A line
+-- that is too long is bad.
 abbrev pub Serves : Serving Live
 Serves old n None a new = IsBadLine n old a new
 Serves old n (Some line) a new =

@@ -14,15 +14,15 @@ use Rattle.std.proofs.lemmas.List.Folds.{list_all-append}
 use Rattle.types.specs.declared.event.Event.{Event}
 use Rattle.network.specs.Standing.{Machine}
 use Rattle.scripts.specs.Script.{Bytes, IsSkipped, is_field}
-use Rattle.feed.specs.Served.{EmptyLinesAreSkipped, KeptLinesAreWhole, OnlyKeptLinesCount, Reply, kept_as}
+use Rattle.feed.specs.Served.{EmptyLinesAreSkipped, KeptLinesAreWhole, OnlyKeptLinesCount, Reply, is_kept, kept_as}
 use Rattle.feed.specs.WholeLines.{has_no_hole}
 use Rattle.requests.specs.Outlines.{Outlined, waiting_at}
 use Rattle.serving.specs.Hosts.{AreAllAnswered, IsAnswer, IsAnswerTo, IsAnsweredOnceBegun, IsDroppedAt, IsEventAnswered, IsStarted, Live, Serves, begun, live_at}
 use Rattle.requests.specs.declared.ask.Ask.{Ask}
 use Rattle.requests.specs.declared.ask.Ask.TheVariants as ask
 
-kept-by : {a b : Reply} → a ≡ b → a.kept ≡ b.kept
-kept-by e = ap (λ (r : Reply). r.kept) e
+kept-by : {a b : Reply} → a ≡ b → is_kept a ≡ is_kept b
+kept-by e = ap is_kept e
 
 not-both : {b : Bool} {X : Type 0} → b ≡ true → b ≡ false → X
 not-both is other = absurd (true≢false (sym is ∙ other))
@@ -52,7 +52,7 @@ not-started (Some d) g old now (c, of, waiting, running, bytes) none =
 -- what is not kept of these answers is of a network that does not run, and changes nothing
 abbrev CountsWhereItRuns : ℕ → (Live → Reply → Live → Type 0) → Type 0
 CountsWhereItRuns g answers =
-    (old new : Live) (a : Reply) → answers old a new → a.kept ≡ false → (live_at old g ≡ None) × (new ≡ old)
+    (old new : Live) (a : Reply) → answers old a new → is_kept a ≡ false → (live_at old g ≡ None) × (new ≡ old)
 
 event-counts : (n g : ℕ) (e : Event) → CountsWhereItRuns g (IsEventAnswered n g e)
 event-counts n g e old new a (None, at, answered) out = (at, answered.1)
@@ -63,32 +63,32 @@ all-count n g bytes old new a (None, at, answered) out = (at, answered.1)
 all-count n g bytes old new a (Some m, at, answered) out = not-both (kept-by answered.4) out
 
 begun-counts : (n g : ℕ) (answers : Live → Reply → Live → Type 0) → CountsWhereItRuns g answers → (old new : Live) (a : Reply)
-    → IsAnsweredOnceBegun n g answers old a new → a.kept ≡ false → new ≡ old
+    → IsAnsweredOnceBegun n g answers old a new → is_kept a ≡ false → new ≡ old
 begun-counts n g answers law old new a (true, now, started, answered) out =
     let none = law now new a answered out in none.1 ∙ not-started (waiting_at old.waiting g) g old now started none.0
 begun-counts n g answers law old new a (false, now, waits, bad) out = bad.1 ∙ waits.1
 
-drop-counts : (waits : Option Outlined) (runs : Option Machine) (g : ℕ) (old new : Live) (taken : Bool) → IsDroppedAt waits runs g old taken new → taken ≡ false → new ≡ old
-drop-counts (Some d) runs g old new taken dropped out = not-both dropped.0 out
-drop-counts None (Some m) g old new taken dropped out = not-both dropped.0 out
-drop-counts None None g old new taken dropped out = dropped.1
+drop-counts : (waits : Option Outlined) (runs : Option Machine) (g : ℕ) (old new : Live) → IsDroppedAt waits runs g old false new → new ≡ old
+drop-counts (Some d) runs g old new dropped = not-both dropped.0 refl
+drop-counts None (Some m) g old new dropped = not-both dropped.0 refl
+drop-counts None None g old new dropped = dropped.1
 
-answer-counts : (n g : ℕ) (asked : Ask) (old new : Live) (a : Reply) → IsAnswer n g asked old a new → a.kept ≡ false → new ≡ old
+answer-counts : (n g : ℕ) (asked : Ask) (old new : Live) (a : Reply) → IsAnswer n g asked old a new → is_kept a ≡ false → new ≡ old
 answer-counts n g (ask.Declare d) old new a (true, declared, is) out = not-both (kept-by is) out
 answer-counts n g (ask.Declare d) old new a (false, declared, is) out = declared.1
 answer-counts n g (ask.Serve e) old new a answer out = begun-counts n g (IsEventAnswered n g e) (event-counts n g e) old new a answer out
 answer-counts n g (ask.ForAll bytes) old new a answer out = begun-counts n g (AreAllAnswered n g bytes) (all-count n g bytes) old new a answer out
 answer-counts n g ask.Left old new a answer out = answer.2
 answer-counts n g (ask.Show i u) old new a answer out = answer.2
-answer-counts n g ask.Drop old new a (taken, dropped, is) out =
-    drop-counts (waiting_at old.waiting g) (live_at old g) g old new taken dropped (sym (kept-by is) ∙ out)
+answer-counts n g ask.Drop old new a (true, dropped, is) out = not-both (kept-by is) out
+answer-counts n g ask.Drop old new a (false, dropped, is) out = drop-counts (waiting_at old.waiting g) (live_at old g) g old new dropped
 
-asked-counts : (n : ℕ) (asked : Option (ℕ × Ask)) (old new : Live) (a : Reply) → IsAnswerTo n asked old a new → a.kept ≡ false → new ≡ old
+asked-counts : (n : ℕ) (asked : Option (ℕ × Ask)) (old new : Live) (a : Reply) → IsAnswerTo n asked old a new → is_kept a ≡ false → new ≡ old
 asked-counts n None old new a bad out = bad.1
 asked-counts n (Some asked) old new a answer out = answer-counts n asked.0 asked.1 old new a answer out
 
 -- a line that stands for an empty one is not kept, or it is empty and was skipped
-line-counts : (old new : Live) (n : ℕ) (line : Bytes) (a : Reply) (kept : Bool) → a.kept ≡ kept → Serves old n (Some line) a new → kept_as (Some line) kept ≡ [] → new ≡ old
+line-counts : (old new : Live) (n : ℕ) (line : Bytes) (a : Reply) (kept : Bool) → is_kept a ≡ kept → Serves old n (Some line) a new → kept_as (Some line) kept ≡ [] → new ≡ old
 line-counts old new n line a kept is (inl skipped) e = skipped.2
 line-counts old new n line a kept is (inr (runs, inl bad)) e = bad.1.1
 line-counts old new n line a true is (inr (runs, inr fields)) e = absurd (runs (subst IsSkipped (sym e) (refl, refl)))
@@ -96,7 +96,7 @@ line-counts old new n line a false is (inr (runs, inr (fields, are, (asked, of, 
 
 pub only_kept_lines_count : OnlyKeptLinesCount Serves
 only_kept_lines_count old new n None a bad e = bad.1
-only_kept_lines_count old new n (Some line) a answer e = line-counts old new n line a a.kept refl answer e
+only_kept_lines_count old new n (Some line) a answer e = line-counts old new n line a (is_kept a) refl answer e
 
 pub empty_lines_are_skipped : EmptyLinesAreSkipped Serves
 empty_lines_are_skipped s n = inl ((refl, refl), refl, refl)

@@ -1,3 +1,4 @@
 pub mod Blocks
+pub mod Futures
 pub mod Hosts
 pub mod Keeping

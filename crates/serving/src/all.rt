@@ -5,11 +5,12 @@ ghost use Rattle.std.specs.List.{flat_map};
 ghost use Rattle.types.specs.declared.event.Event.TheVariants.{Deliver};
 ghost use Rattle.network.specs.Decoding.{step_of};
 ghost use Rattle.live.specs.Telling.{IsServedBy};
-ghost use Rattle.serving.specs.Hosts.{AreServed, better, closing_of_answers, lines_of_answer, lines_of_answers, slot_of_answers};
+ghost use Rattle.serving.specs.Hosts.{AreServed, better, closing_of_answers, deed_of_all, lines_of_answer, lines_of_answers, slot_of_answers};
 ghost use Rattle.serving.specs.declared.all.NodeAnswer.{NodeAnswer};
 
 use crate::block::{Closing, Place, ending, push_refused, push_told};
 use envstore::Shelf;
+use feed::{Deed, Drawn};
 use live::{Served, ServedNetwork};
 use std::alloc::{AllocError, Global};
 use types::{Bytes, Event, NodeId, Refusal};
@@ -81,6 +82,16 @@ pub(crate) fn push_answers(
     match slot_of_answers(answers) {
         Some(slot) => push_all(text, place, slot, answers),
         None => Ok(()),
+    }
+}
+
+/// What the bytes did that came to all nodes and drew so much: where a node took them they were applied at its slot.
+pub(crate) fn deed_of_all(answers: &[NodeAnswer], drawn: Drawn) -> Deed
+    ensures { result ≡ deed_of_all (slot_of_answers answers.now) drawn }
+{
+    match slot_of_answers(answers) {
+        Some(slot) => Deed::Applied(slot, drawn),
+        None => Deed::Refused,
     }
 }
 

@@ -1,6 +1,6 @@
 //! A live host, and what it answers to its lines.
 
-ghost use Rattle.std.specs.Prelude.{◌≡◌, [], IfOk, OnOk, Some, false, map, string_bytes};
+ghost use Rattle.std.specs.Prelude.{◌≡◌, [], IfOk, None, OnOk, Some, map, string_bytes};
 ghost use Rattle.feed.specs.Served.{reply_of};
 ghost use Rattle.std.specs.BTreeMap.{insert_entry};
 ghost use Rattle.std.specs.Ordering.{nat_cmp};
@@ -10,11 +10,12 @@ ghost use Rattle.requests.specs.Preparing.{Prepares};
 ghost use Rattle.serving.specs.Blocks.{closing_line};
 ghost use Rattle.serving.specs.Hosts.{AreAllAnswered, AreFieldsAnswered, IsAnswer, IsBegun, IsDeclared, IsDropped, IsEventAnswered, IsLeftText, IsShown, IsShownOf, Serves, begun, left_at, not_shown, not_there, one_line, takes};
 
-use crate::all::{closing_of_answers, push_answers, serve_each};
+use crate::all::{closing_of_answers, deed_of_all, push_answers, serve_each};
 use crate::block::{Closing, Place, push_closing, push_served};
+use crate::deeds::{deed_of, done_to, drawn_between};
 use configuration::NetConfig;
 use envstore::{Shelf, VecShelf};
-use feed::{Answer, LineServer};
+use feed::{Answer, Deed, Done, LineServer};
 use live::ServedNetwork;
 use questions::{Left, all_left, left_of, push_left, push_node};
 use requests::{Ask, Declaration, Waiting, ask_of};
@@ -143,7 +144,8 @@ impl LiveHost {
         ensures { IfOk result (λ answer. IsAnswer place.line place.network (Ask.Declare declaration) self.old (reply_of (Some answer)) self.new) }
     {
         if self.declare(place.network, declaration)? {
-            one_line(self.alloc, place.line, Closing::Taken, true)
+            let done = done_to(place.network, Deed::Declared);
+            one_line(self.alloc, place.line, Closing::Taken, done)
         } else {
             bad_line(self.alloc, place.line)
         }
@@ -264,15 +266,15 @@ impl LiveHost {
         let Some(network) = self.running.get_mut(&place.network) else {
             return no_network(self.alloc, place.line);
         };
+        let before = network.used();
         let served = network.serve(event)?;
+        let drawn = drawn_between(before, network.used());
+        let done = done_to(place.network, deed_of(event, &served, drawn));
         let mut text = String::new(self.alloc);
         let pushed = push_served(&mut text, place, &served);
         drop(served);
         pushed?;
-        Ok(Answer {
-            block: text,
-            kept: true,
-        })
+        Ok(Answer { block: text, done })
     }
 
     /// The answer to bytes for all hosted nodes of a network that runs, if it does; then the line is kept.
@@ -284,13 +286,16 @@ impl LiveHost {
             return no_network(self.alloc, place.line);
         };
         let names = names_of(self.alloc, network.config())?;
+        let before = network.used();
         let mut answers = Vec::new(self.alloc);
         serve_each(self.alloc, network, &names, bytes, &mut answers)?;
+        let drawn = drawn_between(before, network.used());
+        let done = done_to(place.network, deed_of_all(&answers, drawn));
         let mut block = String::new(self.alloc);
         push_answers(&mut block, place, &answers)?;
         push_closing(&mut block, place.line, closing_of_answers(&answers))?;
         drop(answers);
-        Ok(Answer { block, kept: true })
+        Ok(Answer { block, done })
     }
 
     /// The block of what is left of the budgets of a network.
@@ -355,7 +360,8 @@ impl LiveHost {
         ensures { IfOk result (λ answer. IsAnswer place.line place.network Ask.Drop self.old (reply_of (Some answer)) self.new) }
     {
         if self.take_back(place.network) {
-            one_line(self.alloc, place.line, Closing::Taken, true)
+            let done = done_to(place.network, Deed::Dropped);
+            one_line(self.alloc, place.line, Closing::Taken, done)
         } else {
             no_network(self.alloc, place.line)
         }
@@ -465,30 +471,35 @@ fn closed(alloc: Global, line: u64, closing: Closing) -> Result<String, AllocErr
 
 /// The answer to a bad line, which is not kept.
 fn bad_line(alloc: Global, line: u64) -> Result<Answer, AllocError>
-    ensures { IfOk result (λ answer. reply_of (Some answer) ≡ one_line line Closing.Bad false) }
+    ensures { IfOk result (λ answer. reply_of (Some answer) ≡ one_line line Closing.Bad None) }
 {
-    one_line(alloc, line, Closing::Bad, false)
+    one_line(alloc, line, Closing::Bad, None)
 }
 
 /// The answer to a line on a network that no line has declared, which is not kept.
 fn no_network(alloc: Global, line: u64) -> Result<Answer, AllocError>
-    ensures { IfOk result (λ answer. reply_of (Some answer) ≡ one_line line (Closing.Refused Refusal.NoSuchNetwork) false) }
+    ensures { IfOk result (λ answer. reply_of (Some answer) ≡ one_line line (Closing.Refused Refusal.NoSuchNetwork) None) }
 {
-    one_line(alloc, line, Closing::Refused(Refusal::NoSuchNetwork), false)
+    one_line(alloc, line, Closing::Refused(Refusal::NoSuchNetwork), None)
 }
 
 /// The answer that is one line.
-fn one_line(alloc: Global, line: u64, closing: Closing, kept: bool) -> Result<Answer, AllocError>
-    ensures { IfOk result (λ answer. reply_of (Some answer) ≡ one_line line closing kept) }
+fn one_line(
+    alloc: Global,
+    line: u64,
+    closing: Closing,
+    done: Option<Done>,
+) -> Result<Answer, AllocError>
+    ensures { IfOk result (λ answer. reply_of (Some answer) ≡ one_line line closing done) }
 {
     let block = closed(alloc, line, closing)?;
-    Ok(Answer { block, kept })
+    Ok(Answer { block, done })
 }
 
 /// The answer with this block to a line that is not kept.
 fn not_kept(block: String) -> Answer
     ensures block { string_bytes result.block ≡ string_bytes block }
-    ensures kept { result.kept ≡ false }
+    ensures done { result.done ≡ None }
 {
-    Answer { block, kept: false }
+    Answer { block, done: None }
 }

@@ -3,7 +3,7 @@ use Rattle.std.specs.Prelude.{◌≡◌, ◌+◌, ℕ, Bool, true, false, [], le
 use Rattle.std.proofs.Common.{◌∙◌, sym, ap, true≢false, add-zero}
 use Rattle.scripts.specs.Script.{Bytes}
 use Rattle.feed.specs.WholeLines.{has_no_hole}
-use Rattle.feed.specs.Served.{EmptyLinesAreSkipped, KeptLinesAreWhole, OnlyKeptLinesCount, Serving, kept_as}
+use Rattle.feed.specs.Served.{EmptyLinesAreSkipped, KeptLinesAreWhole, OnlyKeptLinesCount, Serving, is_kept, kept_as}
 
 -- a line is kept, has no byte 0, and its length is added; or it is not kept, and the count stays
 abbrev pub Adds : ℕ → Option Bytes → Bool → ℕ → Type 0
@@ -12,7 +12,7 @@ Adds old (Some line) true new = IsTrue (has_no_hole line) × (new ≡ old + leng
 Adds old (Some line) false new = new ≡ old
 
 abbrev pub Counting : Serving ℕ
-Counting s n line a t = Adds s line a.kept t
+Counting s n line a t = Adds s line (is_kept a) t
 
 nothing_added : (s t : ℕ) (line : Bytes) (kept : Bool) → Adds s (Some line) kept t → kept_as (Some line) kept ≡ [] → t ≡ s
 nothing_added s t line false same none = same
@@ -20,7 +20,7 @@ nothing_added s t line true adds none = adds.1 ∙ ap (λ (xs : Bytes). s + leng
 
 pub only_kept_lines_count : OnlyKeptLinesCount Counting
 only_kept_lines_count s t n None a same none = same.1
-only_kept_lines_count s t n (Some line) a adds none = nothing_added s t line a.kept adds none
+only_kept_lines_count s t n (Some line) a adds none = nothing_added s t line (is_kept a) adds none
 
 pub empty_lines_are_skipped : EmptyLinesAreSkipped Counting
 empty_lines_are_skipped s n = refl
@@ -30,4 +30,4 @@ whole_if_kept s t line false same is = absurd (true≢false (sym is))
 whole_if_kept s t line true adds is = adds.0
 
 pub kept_lines_are_whole : KeptLinesAreWhole Counting
-kept_lines_are_whole s t n line a adds kept = whole_if_kept s t line a.kept adds kept
+kept_lines_are_whole s t n line a adds kept = whole_if_kept s t line (is_kept a) adds kept

@@ -4,7 +4,7 @@ ghost use Rattle.std.specs.Prelude.{◌≡◌, option_map};
 ghost use Rattle.feed.specs.WholeLines.{has_no_hole};
 ghost use Rattle.value_tests.specs.Counting.{Adds};
 
-use feed::{Answer, LineServer};
+use feed::{Answer, Deed, Done, LineServer};
 use std::alloc::{AllocError, Global};
 use std::marker::Model;
 
@@ -47,6 +47,12 @@ impl Counter {
     }
 }
 
+/// What each line that is kept did.
+const DECLARED: Done = Done {
+    network: 0,
+    deed: Deed::Declared,
+};
+
 /// Whether none of these bytes is 0.
 fn has_no_hole(bytes: &[u8]) -> bool
     ensures { result ≡ has_no_hole bytes.now }
@@ -80,6 +86,7 @@ impl LineServer for Counter {
         } else {
             format!(in alloc; "{number} bad\n")?
         };
-        Ok(Some(Answer { block, kept }))
+        let done = if kept { Some(DECLARED) } else { None };
+        Ok(Some(Answer { block, done }))
     }
 }

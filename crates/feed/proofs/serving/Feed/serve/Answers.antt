@@ -18,8 +18,8 @@ loop-preserved-in-Continue-branch-2 g c =
     let next = rw c.in-Ok-Some.field-0-is at c.in-Ok-Some.ensures.next in
     let served = rw c.in_default.is at c.serve_line.ensures.served in
     let going = line_more _ _ _ _ _ _ _ _ _ _ _ _ _ _ _ _ _ _ _ c.next_line.new.line c.in-Ok-Some.more c.loop.invariant next served c.serve_line.ensures.told in
-    let same = c.tell-then-not-more.ensures.same in
-    rw (same.0, same.1) (told_then _ _ _ _ _ _ _ _ _ _ _ _ _ _ _ _ going (rw c.in_ok-tell-in-Ok-Some-2.was at c.tell-then-not-more.ensures.told))
+    let same = c.tell-then-not-waits.ensures.same in
+    rw (same.0, same.1) (told_then _ _ _ _ _ _ _ _ _ _ _ _ _ _ _ _ going (rw c.in_ok-tell-in-Ok-Some-2.was at c.tell-then-not-waits.ensures.told))
 
 pub returns-in_err-tell-in-Ok-Some : goal.returns-in_err-tell-in-Ok-Some
 returns-in_err-tell-in-Ok-Some g c =
@@ -46,8 +46,8 @@ returns-in_err-tell-in-Ok-Some-2 g c =
     let served = rw c.in_default.is at c.serve_line.ensures.served in
     let going = line_more _ _ _ _ _ _ _ _ _ _ _ _ _ _ _ _ _ _ _ c.next_line.new.line c.in-Ok-Some.more c.loop.invariant next served c.serve_line.ensures.told in
     let out = err_from_is_err_and c.from_residual-in_err-tell-in-Ok-Some-2.result c.from_residual-in_err-tell-in-Ok-Some-2.ensures.1 in
-    rw (out.1, out.2) (not_told _ _ laws _ _ _ (g.R.Read.remaining c.next_line.new.reader) _ _ _ _ _ _ _ _ _ _ c.tell-then-not-more.new.self.server _ _ going.hosting
-    (rw c.in_err-tell-in-Ok-Some-2.was at c.tell-then-not-more.ensures.told))
+    rw (out.1, out.2) (not_told _ _ laws _ _ _ (g.R.Read.remaining c.next_line.new.reader) _ _ _ _ _ _ _ _ _ _ c.tell-then-not-waits.new.self.server _ _ going.hosting
+    (rw c.in_err-tell-in-Ok-Some-2.was at c.tell-then-not-waits.ensures.told))
 
 pub returns-in-Ok-None : goal.returns-in-Ok-None
 returns-in-Ok-None g c =

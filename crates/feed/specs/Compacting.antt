@@ -1,0 +1,24 @@
+-- A journal is made shorter.
+use Rattle.std.specs.Prelude.{ℕ, None, Option, Result, Ok, Err}
+use Rattle.std.specs.Io.KnownBytes.{Appends}
+use Rattle.scripts.specs.Script.{Bytes}
+use Rattle.scripts.specs.declared.run.Stop.{Stop}
+use Rattle.scripts.specs.declared.run.Stop.TheVariants as stop
+use Rattle.feed.specs.Lasting.{Watched, Watching, compacted, unwatched}
+use Rattle.feed.specs.Replayed.{HasReplayed}
+use Rattle.feed.specs.Served.{Serving}
+use Rattle.feed.specs.declared.replaying.JournalEnd.{JournalEnd}
+
+-- The lines of a journal before its end were answered again, and what lasts of them was written as a shorter one. Or a
+-- line is none of a journal, behind lines that are; of other faults nothing is said.
+abbrev pub HasCompacted : {S : Type 0} → Serving S → ℕ → S → Option Bytes → Option Bytes → Option Bytes
+    → Result (Unit {0}) Stop → Type 0
+HasCompacted {S} serves longest s file old new (Ok _) =
+    (end : JournalEnd) × (t : Watched S)
+    × HasReplayed (Watching serves) longest None (unwatched s) file None None (Ok end) t × Appends old new (compacted t.lines)
+HasCompacted {S} serves longest s file old new (Err (stop.BadLine n)) =
+    (t : Watched S) × HasReplayed (Watching serves) longest None (unwatched s) file None None (Err (stop.BadLine n)) t
+HasCompacted serves longest s file old new (Err stop.CannotRead) = Unit {0}
+HasCompacted serves longest s file old new (Err stop.TooLong) = Unit {0}
+HasCompacted serves longest s file old new (Err stop.NoMemory) = Unit {0}
+HasCompacted serves longest s file old new (Err stop.CannotWrite) = Unit {0}
