@@ -1,9 +1,53 @@
-mod AlikeHosts
-mod AlikeInTurn
-mod AlikeMachines
-mod Each
-mod MovedBack
-mod MovedMachines
+pub mod AlikeHosts
+pub mod AlikeInTurn
+pub mod AlikeMachines
+pub mod Alone
+pub mod ApartAnswers
+pub mod ApartBoth
+pub mod ApartHosts
+pub mod ApartLines
+pub mod ApartRuns
+pub mod ApartShuffled
+pub mod CompactedAsked
+pub mod CompactedEnd
+pub mod CompactedHosts
+pub mod CompactedKnown
+pub mod CompactedLast
+pub mod CompactedLaw
+pub mod CompactedLists
+pub mod CompactedMade
+pub mod CompactedNaming
+pub mod CompactedNoted
+pub mod CompactedRefused
+pub mod CompactedRooms
+pub mod CompactedShort
+pub mod CompactedSmall
+pub mod CompactedSteps
+pub mod CompactedSums
+pub mod Each
+pub mod ErasedInTurn
+pub mod ErasedMachines
+pub mod ErasedNets
+pub mod ErasedParts
+pub mod ErasedReasons
+pub mod ErasedRuns
+pub mod ErasedServed
+pub mod ErasedStanding
+pub mod ErasedThere
+pub mod ErasedWithin
+pub mod LoweringAsked
+pub mod LoweringConfigs
+pub mod LoweringHosts
+pub mod LoweringLengths
+pub mod LoweringNets
+pub mod LoweringRosters
+pub mod LoweringRuns
+pub mod LoweringWords
+pub mod MergedHosts
+pub mod MergedLines
+pub mod MergedRuns
+pub mod MovedBack
+pub mod MovedMachines
 pub mod MovedNets
-mod MovedParts
-mod Numbers
+pub mod MovedParts
+pub mod Numbers

@@ -1,4 +1,9 @@
+pub mod Apart
 pub mod Blocks
+pub mod Compacted
+pub mod Erasing
 pub mod Futures
 pub mod Hosts
 pub mod Keeping
+pub mod Lowering
+pub mod Merging

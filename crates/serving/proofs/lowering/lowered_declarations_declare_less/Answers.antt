@@ -1,0 +1,11 @@
+use Rattle.serving.proofs.LoweringHosts.{declarations_leave_one}
+use Rattle.serving.proofs.LoweringRuns as runs
+use Rattle.serving.proofs.lowering.lowered_declarations_declare_less.Goals as goal
+
+pub returns : goal.returns
+returns c = record {
+  runs = runs.runs_declare;
+  served = runs.declarations_are_served;
+  less = runs.lowered_declarations_declare_less;
+  one = declarations_leave_one;
+}

@@ -1,0 +1,217 @@
+-- Networks are apart: what a host answers to the lines of one, and what becomes of it, does not depend on the others.
+use Rattle.std.specs.Prelude.{◌≡◌, ◌≢◌, ◌⊎◌, ◌+◌, ◌≤◌, ◌<◌, ◌==◌, ℕ, Bool, false, List, [], ◌∷◌, map, length, Option, Some, None, if◌then◌else◌}
+use Rattle.scripts.specs.Script.{Bytes}
+use Rattle.feed.specs.Served.{Reply, Serves as ServesAll}
+use Rattle.feed.specs.Served.Serves.{next, none}
+use Rattle.feed.specs.declared.answering.Done.{Done}
+use Rattle.requests.specs.Outlines.{waiting_at}
+use Rattle.requests.specs.declared.ask.Ask.{Ask}
+use Rattle.serving.specs.Futures.{AreAlike, behind_number, behind_numbers}
+use Rattle.serving.specs.Hosts.{IsAnswer, Live, Serves, live_at, new_live}
+
+-- ---- one network of a host
+-- an entry of this number alone, if there is one
+abbrev pub only : {X : Type 0} → ℕ → Option X → List (ℕ × X)
+only g None = []
+only g (Some x) = (g, x) ∷ []
+
+-- the host that has the network of this number and no other
+abbrev pub alone : ℕ → Live → Live
+alone g l = record { bytes = l.bytes; waiting = only g (waiting_at l.waiting g); running = only g (live_at l g) }
+
+-- each other network is as it was
+abbrev pub OthersStay : ℕ → Live → Live → Type 0
+OthersStay g old new = (h : ℕ) → h ≢ g → alone h new ≡ alone h old
+
+-- ---- hosts as lines leave them
+-- the numbers ascend, the first of them from this one on, and none stands twice
+abbrev pub AreFrom : {X : Type 0} → ℕ → List (ℕ × X) → Type 0
+AreFrom k [] = Unit {0}
+AreFrom k (e ∷ es) = (k ≤ e.0) × AreFrom (e.0 + 1) es
+
+-- the networks that wait ascend by number, and so do those that run, and none does both
+pub record IsOrdered (l : Live) : Type 0 where
+  pub waiting : AreFrom 0 l.waiting
+  pub running : AreFrom 0 l.running
+  pub apart : (g : ℕ) → (waiting_at l.waiting g ≡ None) ⊎ (live_at l g ≡ None)
+
+-- a host stays so with each line
+abbrev pub HostsStayOrdered : Type 0
+HostsStayOrdered =
+    (l t : Live) (n : ℕ) (line : Option Bytes) (a : Reply) → IsOrdered l → Serves l n line a t → IsOrdered t
+
+-- one that lines lead to is so
+abbrev pub ReachedHostsAreOrdered : Type 0
+ReachedHostsAreOrdered =
+    (longest : ℕ) (bytes : Bool) (n : ℕ) (lines journal : List Bytes) (text : Bytes) (l : Live)
+    → ServesAll Serves longest (new_live bytes) n lines journal text l → IsOrdered l
+
+-- ---- one line
+-- a line that did nothing to a network changes nothing
+abbrev pub OtherLinesChangeNothing : Type 0
+OtherLinesChangeNothing =
+    (l t : Live) (n : ℕ) (line : Option Bytes) (a : Reply) → Serves l n line a t → a.done ≡ None → t ≡ l
+
+-- What a line is answered that did something to a network, it is answered by the host that has this network alone, and so
+-- it leaves it; and it leaves all others as they were.
+abbrev pub LinesAreLocal : Type 0
+LinesAreLocal =
+    (l t : Live) (n : ℕ) (line : Option Bytes) (a : Reply) (d : Done) → IsOrdered l → Serves l n line a t
+    → a.done ≡ Some d
+    → Serves (alone d.network l) n line a (alone d.network t) × OthersStay d.network l t
+
+-- fewer networks are declared than may be
+abbrev pub HasRoom : Live → Type 0
+HasRoom l = length l.waiting + length l.running < 4096
+
+-- What a line is answered, and what it does, where there is one network alone, it is answered and does next to others, where
+-- there is room for the network that it may declare.
+abbrev pub LinesAreAnsweredNextToOthers : Type 0
+LinesAreAnsweredNextToOthers =
+    (l own : Live) (n : ℕ) (line : Option Bytes) (a : Reply) (d : Done) → IsOrdered l → HasRoom l
+    → Serves (alone d.network l) n line a own → a.done ≡ Some d
+    → (t : Live) × Serves l n line a t × (alone d.network t ≡ own) × OthersStay d.network l t
+
+-- So it is with all that a line may ask of a network, questions and what is refused too, where there is room for one that
+-- may be declared: it is answered as if there were no other.
+abbrev pub AnswersAreLocal : Type 0
+AnswersAreLocal =
+    (l t : Live) (n g : ℕ) (asked : Ask) (a : Reply) → IsOrdered l → HasRoom l → IsAnswer n g asked l a t
+    → IsAnswer n g asked (alone g l) a (alone g t) × OthersStay g l t
+
+-- and what it is answered where there is no other it may be answered next to others
+abbrev pub AnswersAreGivenNextToOthers : Type 0
+AnswersAreGivenNextToOthers =
+    (l own : Live) (n g : ℕ) (asked : Ask) (a : Reply) → IsOrdered l → HasRoom l → IsAnswer n g asked (alone g l) a own
+    → (t : Live) × IsAnswer n g asked l a t × (alone g t ≡ own) × OthersStay g l t
+
+-- Of two hosts in which a network is alike, whatever their others are, what the one answers to a line that did something to
+-- it the other answers, but for the number of the line, and it is alike after it.
+abbrev pub AlikeNetworksAreAnsweredAlike : Type 0
+AlikeNetworksAreAnsweredAlike =
+    (l other t : Live) (n : ℕ) (line : Option Bytes) (a : Reply) (d : Done) → IsOrdered l → IsOrdered other
+    → HasRoom other → AreAlike (alone d.network l) (alone d.network other) → Serves l n line a t → a.done ≡ Some d
+    → (rests : List Bytes) × (a.text ≡ behind_number n rests)
+    × ((k : ℕ) → (new : Live) × Serves other k line (record { text = behind_number k rests; done = a.done }) new
+    × AreAlike (alone d.network t) (alone d.network new) × OthersStay d.network other new)
+
+-- ---- many lines
+-- a line that did something to a network, with its number and its answer
+pub record Own : Type 0 where
+  pub number : ℕ
+  pub line : Bytes
+  pub reply : Reply
+
+-- this was done to the network of a number
+abbrev pub is_of : ℕ → Option Done → Bool
+is_of g None = false
+is_of g (Some d) = d.network == g
+
+-- the lines of a run that did something to the network of a number
+abbrev pub own_of : {longest n : ℕ} {s t : Live} {lines journal : List Bytes} {text : Bytes} → ℕ
+    → ServesAll Serves longest s n lines journal text t → List Own
+own_of g none = []
+own_of g (next {n} {line} a serves others) =
+    if is_of g a.done then record { number = n; line = line; reply = a } ∷ own_of g others else own_of g others
+
+abbrev pub lines_of : List Own → List Bytes
+lines_of owns = map (λ o. o.line) owns
+
+-- the answer of each of these lines is its number in front of these, the one block behind the other
+abbrev pub AreTheirBlocks : List Own → List (List Bytes) → Type 0
+AreTheirBlocks [] [] = Unit {0}
+AreTheirBlocks [] (block ∷ blocks) = ⊥
+AreTheirBlocks (o ∷ owns) [] = ⊥
+AreTheirBlocks (o ∷ owns) (block ∷ blocks) = (o.reply.text ≡ behind_number o.number block) × AreTheirBlocks owns blocks
+
+-- these are the same line, which did the same and is answered alike but for its number
+pub record AreSameButForNumbers (o p : Own) : Type 0 where
+  pub line : p.line ≡ o.line
+  pub done : p.reply.done ≡ o.reply.done
+  pub rests : List Bytes
+  pub one_text : o.reply.text ≡ behind_number o.number rests
+  pub other_text : p.reply.text ≡ behind_number p.number rests
+
+abbrev pub AreAllSameButForNumbers : List Own → List Own → Type 0
+AreAllSameButForNumbers [] [] = Unit {0}
+AreAllSameButForNumbers [] (p ∷ ps) = ⊥
+AreAllSameButForNumbers (o ∷ os) [] = ⊥
+AreAllSameButForNumbers (o ∷ os) (p ∷ ps) = AreSameButForNumbers o p × AreAllSameButForNumbers os ps
+
+-- What becomes of a network among others becomes of it by its own lines alone, all of which are kept; and they do the same
+-- and are answered alike but for their numbers. It is so from any host on in which each network stands for one of the
+-- definitions.
+abbrev pub NetworksGoOnByTheirOwnLines : Type 0
+NetworksGoOnByTheirOwnLines =
+    (longest : ℕ) (l : Live) (n : ℕ) (lines journal : List Bytes) (text : Bytes) (t : Live)
+    (run : ServesAll Serves longest l n lines journal text t) (g : ℕ) → IsOrdered l → AreAlike l l
+    → (blocks : List (List Bytes)) × AreTheirBlocks (own_of g run) blocks
+    × ((k : ℕ)
+    → (again : ServesAll Serves longest (alone g l) k (lines_of (own_of g run)) (lines_of (own_of g run))
+    (behind_numbers k blocks) (alone g t))
+    × AreAllSameButForNumbers (own_of g run) (own_of g again))
+
+-- and so from a host without networks on
+abbrev pub NetworksFollowTheirOwnLines : Type 0
+NetworksFollowTheirOwnLines =
+    (longest : ℕ) (bytes : Bool) (n : ℕ) (lines journal : List Bytes) (text : Bytes) (t : Live)
+    (run : ServesAll Serves longest (new_live bytes) n lines journal text t) (g : ℕ)
+    → (blocks : List (List Bytes)) × AreTheirBlocks (own_of g run) blocks
+    × ((k : ℕ)
+    → (again : ServesAll Serves longest (new_live bytes) k (lines_of (own_of g run)) (lines_of (own_of g run))
+    (behind_numbers k blocks) (alone g t))
+    × AreAllSameButForNumbers (own_of g run) (own_of g again))
+
+-- ---- many networks
+-- it would have room with one network more
+abbrev pub HasRoomToSpare : Live → Type 0
+HasRoomToSpare l = length l.waiting + length l.running + 1 < 4096
+
+-- it would have it before each line of a run
+abbrev pub KeepsRoom : {longest n : ℕ} {s t : Live} {lines journal : List Bytes} {text : Bytes}
+    → ServesAll Serves longest s n lines journal text t → Type 0
+KeepsRoom none = Unit {0}
+KeepsRoom (next {s} a serves others) = HasRoomToSpare s × KeepsRoom others
+
+-- Two hosts had the same lines of a network, and any others. What became of it in the one may become of it in the other:
+-- its journal may be served with that network as it was in the one, answered as it was there but for the numbers, and with
+-- all others, and the answers to their lines, as they were in the other.
+abbrev pub NetworksAreApart : Type 0
+NetworksAreApart =
+    (longest : ℕ) (bytes : Bool) (g n : ℕ) (lines journal : List Bytes) (text : Bytes) (t : Live)
+    (run : ServesAll Serves longest (new_live bytes) n lines journal text t)
+    (m : ℕ) (other_lines other_journal : List Bytes) (other_text : Bytes) (u : Live)
+    (other : ServesAll Serves longest (new_live bytes) m other_lines other_journal other_text u)
+    → KeepsRoom other → lines_of (own_of g run) ≡ lines_of (own_of g other)
+    → (told : Bytes) × (new : Live) × (again : ServesAll Serves longest (new_live bytes) m other_journal other_journal told new)
+    × (alone g new ≡ alone g t) × OthersStay g u new × AreAllSameButForNumbers (own_of g run) (own_of g again)
+    × ((h : ℕ) → h ≢ g → own_of h again ≡ own_of h other)
+
+-- this number is none of these
+abbrev pub IsNoneOf : ℕ → List ℕ → Type 0
+IsNoneOf h [] = Unit {0}
+IsNoneOf h (g ∷ gs) = (h ≢ g) × IsNoneOf h gs
+
+-- Of two hosts that had the same lines of each network, in whatever order those of different networks came, the journal of
+-- the one may lead to what the other is, with the same answers but for the numbers; if they had lines of fewer networks than
+-- may be declared at once.
+abbrev pub OrderAmongNetworksDoesNotCount : Type 0
+OrderAmongNetworksDoesNotCount =
+    (longest : ℕ) (bytes : Bool) (n : ℕ) (lines journal : List Bytes) (text : Bytes) (t : Live)
+    (run : ServesAll Serves longest (new_live bytes) n lines journal text t)
+    (m : ℕ) (other_lines other_journal : List Bytes) (other_text : Bytes) (u : Live)
+    (other : ServesAll Serves longest (new_live bytes) m other_lines other_journal other_text u)
+    (gs : List ℕ) → length gs < 4096 → ((h : ℕ) → IsNoneOf h gs → own_of h other ≡ [])
+    → ((g : ℕ) → lines_of (own_of g run) ≡ lines_of (own_of g other))
+    → (told : Bytes) × (again : ServesAll Serves longest (new_live bytes) m other_journal other_journal told t)
+    × ((g : ℕ) → AreAllSameButForNumbers (own_of g run) (own_of g again))
+
+-- ---- hosts by their networks
+-- hosts are alike whose networks are alike, each one alone
+abbrev pub HostsAreAlikeByNetworks : Type 0
+HostsAreAlikeByNetworks =
+    (l other : Live) → IsOrdered l → IsOrdered other → ((g : ℕ) → AreAlike (alone g l) (alone g other)) → AreAlike l other
+
+-- and of alike hosts each network alone is alike
+abbrev pub NetworksOfAlikeHostsAreAlike : Type 0
+NetworksOfAlikeHostsAreAlike = (l other : Live) (g : ℕ) → AreAlike l other → AreAlike (alone g l) (alone g other)

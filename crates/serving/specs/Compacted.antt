@@ -1,0 +1,324 @@
+-- A shorter journal, of the lines that last, leads to a host that is alike the one to which the whole journal led.
+use Rattle.std.specs.Prelude.{◌≡◌, ◌≤◌, ◌<◌, ◌+◌, ◌==◌, ◌&&◌, ◌++◌, ◌^◌, not, ℕ, Bool, true, false, cond, nat_lt, List, [], ◌∷◌, map, filter, length, codes, Option, Some, None}
+use Rattle.std.specs.Fmt.{decimal}
+use Rattle.protocol.specs.Hosts.{Config}
+use Rattle.protocol.specs.Rosters.{Shares}
+use Rattle.network.specs.Standing.{Machine}
+use Rattle.scripts.specs.Script.{Bytes, lines_with_feeds}
+use Rattle.feed.specs.Lasting.{Declaration, Lines, NetworkLines, SlotLines, Watched, Watching, both_drawn, compacted, lost_at, lowered, network_after, new_network, nothing_drawn, unwatched, value_at}
+use Rattle.feed.specs.Served.{Serves as ServesAll}
+use Rattle.feed.specs.WholeLines.{given}
+use Rattle.feed.specs.declared.answering.Deed.{Deed}
+use Rattle.feed.specs.declared.answering.Deed.TheVariants as deed
+use Rattle.feed.specs.declared.answering.Done.{Done}
+use Rattle.feed.specs.declared.answering.Drawn.{Drawn}
+use Rattle.requests.specs.Asking.{IsAsked}
+use Rattle.requests.specs.Outlines.{IsConfigOf, Outlined, waiting_at}
+use Rattle.requests.specs.declared.ask.Ask.TheVariants as ask
+use Rattle.requests.specs.declared.request.Declaration.{Declaration as DeclarationOf}
+use Rattle.requests.specs.declared.request.Declaration.TheVariants as declaration
+use Rattle.serving.specs.Apart.{AreFrom, IsOrdered, alone}
+use Rattle.serving.specs.Futures.{AreAlike, IsAlike, moved_config}
+use Rattle.serving.specs.Hosts.{Live, Serves, begun, live_at, new_live}
+use Rattle.serving.specs.Lowering.{less_outline}
+use Rattle.serving.specs.Merging.{AreBothAlike, RunsAlone}
+
+-- ---- the law
+-- The shorter journal of a host that lines led to is whole lines, each of which is kept, and they lead to a host that is
+-- alike. So that its own lines are not too long, the longest may not be too short: `close N 0` has at most 18 bytes.
+abbrev pub ShorterJournalsLeadToAlikeHosts : Type 0
+ShorterJournalsLeadToAlikeHosts =
+    (longest : ℕ) → 32 ≤ longest → (bytes : Bool) (lines journal : List Bytes) (text : Bytes) (w : Watched Live)
+    → ServesAll (Watching Serves) longest (unwatched (new_live bytes)) 1 lines journal text w
+    → (short : List Bytes) × (told : Bytes) × (u : Live) × (compacted w.lines ≡ lines_with_feeds short)
+    × ServesAll Serves longest (new_live bytes) 1 short short told u × AreAlike w.server u
+
+-- ---- lines that act on a network
+-- a line, and what it does to its network
+pub record Act : Type 0 where
+  pub line : Bytes
+  pub deed : Deed
+
+abbrev pub done_by : ℕ → Deed → Done
+done_by g d = record { network = g; deed = d }
+
+-- Lines are answered one after the other, each with some number, and each of them does this to the network of a number.
+pub data DoAll (longest g : ℕ) : Live → List Act → Live → Type 0 where
+  no_act : {l : Live} → DoAll longest g l [] l
+  one_act : {l now new : Live} {acts : List Act} (n : ℕ) (text : Bytes) (act : Act)
+      → Serves l n (given longest act.line) (record { text = text; done = Some (done_by g act.deed) }) now
+      → DoAll longest g now acts new → DoAll longest g l (act ∷ acts) new
+
+-- a host with one network, which waits, or which runs
+abbrev pub one_waits : Bool → ℕ → Outlined → Live
+one_waits bytes g d = record { bytes = bytes; waiting = (g, d) ∷ []; running = [] }
+
+abbrev pub one_runs : Bool → ℕ → Machine → Live
+one_runs bytes g m = record { bytes = bytes; waiting = []; running = (g, m) ∷ [] }
+
+-- ---- lines that last
+-- a line that was applied: its number and that of its network, and its slot and what it drew
+pub record AppliedLine : Type 0 where
+  pub number : ℕ
+  pub network : ℕ
+  pub text : Bytes
+  pub slot : ℕ
+  pub drawn : Drawn
+
+abbrev pub pair_of : AppliedLine → ℕ × Bytes
+pair_of e = (e.number, e.text)
+
+abbrev pub act_of : AppliedLine → Act
+act_of e = record { line = e.text; deed = deed.Applied e.slot e.drawn }
+
+abbrev pub declaring : Bytes → Act
+declaring text = record { line = text; deed = deed.Declared }
+
+-- those of a network, of a slot of one, and all others
+abbrev pub is_of_network : ℕ → AppliedLine → Bool
+is_of_network g e = e.network == g
+
+abbrev pub is_at_slot : ℕ → AppliedLine → Bool
+is_at_slot i e = e.slot == i
+
+abbrev pub of_network : ℕ → List AppliedLine → List AppliedLine
+of_network g es = filter (is_of_network g) es
+
+abbrev pub but_of_network : ℕ → List AppliedLine → List AppliedLine
+but_of_network g es = filter (λ e. not (is_of_network g e)) es
+
+abbrev pub at_slot : ℕ → List AppliedLine → List AppliedLine
+at_slot i es = filter (is_at_slot i) es
+
+abbrev pub but_at_slot : ℕ → List AppliedLine → List AppliedLine
+but_at_slot i es = filter (λ e. not (is_at_slot i e)) es
+
+-- of those of all networks without those at a slot of one
+abbrev pub but_there : ℕ → ℕ → List AppliedLine → List AppliedLine
+but_there g i es = filter (λ e. not (is_of_network g e && is_at_slot i e)) es
+
+abbrev pub declares_of : ℕ → (ℕ × Declaration) → Bool
+declares_of g e = e.1.network == g
+
+abbrev pub declarations_of : ℕ → List (ℕ × Declaration) → List (ℕ × Declaration)
+declarations_of g ds = filter (declares_of g) ds
+
+abbrev pub declared_text : ℕ × Declaration → Bytes
+declared_text e = e.1.text
+
+abbrev pub declared_number : ℕ × Declaration → ℕ
+declared_number e = e.0
+
+-- what is noted of the lines of a slot
+abbrev pub noted : Option SlotLines → AppliedLine → Option SlotLines
+noted None e = Some (record { lines = e.number ∷ []; drawn = e.drawn })
+noted (Some s) e = Some (record { lines = s.lines ++ e.number ∷ []; drawn = both_drawn s.drawn e.drawn })
+
+abbrev pub noted_behind : Option SlotLines → List AppliedLine → Option SlotLines
+noted_behind o [] = o
+noted_behind o (e ∷ es) = noted_behind (noted o e) es
+
+abbrev pub slot_lines : List AppliedLine → Option SlotLines
+slot_lines es = noted_behind None es
+
+-- what these lines drew, and so much more
+abbrev pub all_drawn : List AppliedLine → Drawn → Drawn
+all_drawn [] d = d
+all_drawn (e ∷ es) d = record {
+  events = e.drawn.events + (all_drawn es d).events;
+  bytes = e.drawn.bytes + (all_drawn es d).bytes;
+  opens = e.drawn.opens + (all_drawn es d).opens;
+}
+
+-- ---- what a line changes
+abbrev pub network_behind : ℕ → Deed → Option NetworkLines → Option NetworkLines
+network_behind n deed.Dropped o = None
+network_behind n d None = Some (network_after n d new_network)
+network_behind n d (Some net) = Some (network_after n d net)
+
+abbrev pub declarations_behind : ℕ → Bytes → ℕ → Deed → List (ℕ × Declaration) → List (ℕ × Declaration)
+declarations_behind n text g deed.Declared ds = ds ++ (n, record { network = g; text = text }) ∷ []
+declarations_behind n text g deed.Refused ds = ds
+declarations_behind n text g (deed.Applied i d) ds = ds
+declarations_behind n text g (deed.Closed i d) ds = ds
+declarations_behind n text g deed.Dropped ds = filter (λ e. not (declares_of g e)) ds
+
+abbrev pub applied_behind : ℕ → Bytes → ℕ → Deed → List AppliedLine → List AppliedLine
+applied_behind n text g deed.Declared es = es
+applied_behind n text g deed.Refused es = es
+applied_behind n text g (deed.Applied i d) es =
+    es ++ record { number = n; network = g; text = text; slot = i; drawn = d } ∷ []
+applied_behind n text g (deed.Closed i d) es = but_there g i es
+applied_behind n text g deed.Dropped es = but_of_network g es
+
+-- ---- what is known of a network
+-- its numbers are those of its declarations, and of the lines of its slots
+pub record AreNumbered (net : NetworkLines) (ds : List (ℕ × Declaration)) (es : List AppliedLine) : Type 0 where
+  pub declared : net.declared ≡ map declared_number ds
+  pub ascend : AreFrom 0 net.slots
+  pub slots : (i : ℕ) → value_at net.slots i ≡ slot_lines (at_slot i es)
+
+abbrev pub AreNoted : Option NetworkLines → List (ℕ × Declaration) → List AppliedLine → Type 0
+AreNoted None ds es = (ds ≡ []) × (es ≡ [])
+AreNoted (Some net) ds es = AreNumbered net ds es
+
+abbrev pub AreSmall : Option (List ℕ × Shares) → Type 0
+AreSmall None = Unit {0}
+AreSmall (Some r) = r.1.opens < 2 ^ 64
+
+-- budgets that fit words
+pub record IsSmall (d : Outlined) : Type 0 where
+  pub events : d.budgets.events < 2 ^ 64
+  pub bytes : d.budgets.bytes < 2 ^ 64
+  pub opens : AreSmall d.roster
+
+-- what a line declares has such budgets
+abbrev pub IsSmallDeclaration : DeclarationOf → Type 0
+IsSmallDeclaration (declaration.Net b) = (b.events < 2 ^ 64) × (b.bytes < 2 ^ 64)
+IsSmallDeclaration (declaration.Node u q) = Unit {0}
+IsSmallDeclaration (declaration.Roster r) = r.shares.opens < 2 ^ 64
+
+abbrev pub DeclarationsAreSmall : Type 0
+DeclarationsAreSmall =
+    (fields : List Bytes) (g : ℕ) (d : DeclarationOf) → IsAsked fields (Some (g, ask.Declare d)) → IsSmallDeclaration d
+
+-- its declarations lead to one that waits, of which no line is known yet that concerns a slot
+pub record IsUnnamed (longest : ℕ) (bytes : Bool) (g : ℕ) (lost : Drawn) (ds : List (ℕ × Declaration))
+    (es : List AppliedLine) (own : Live) : Type 0 where
+  pub outlined : Outlined
+  pub small : IsSmall outlined
+  pub declared : DoAll longest g (new_live bytes) (map declaring (map declared_text ds)) own
+  pub none_applied : es ≡ []
+  pub none_lost : lost ≡ nothing_drawn
+  pub is : own ≡ one_waits bytes g outlined
+
+-- Its declarations lead to one that waits. With budgets that are less by what was lost it begins, and the lines of its open
+-- slots lead to one that is alike.
+pub record IsNamed (longest : ℕ) (bytes : Bool) (g : ℕ) (lost : Drawn) (ds : List (ℕ × Declaration))
+    (es : List AppliedLine) (own : Live) : Type 0 where
+  pub outlined : Outlined
+  pub small : IsSmall outlined
+  pub declared :
+      DoAll longest g (new_live bytes) (map declaring (map declared_text ds)) (one_waits bytes g outlined)
+  pub config : Config
+  pub rest : Config
+  pub is_config : IsConfigOf g outlined config
+  pub less : config ≡ moved_config lost rest
+  pub machine : Machine
+  pub left : Machine
+  pub applied : DoAll longest g (one_runs bytes g (begun rest)) (map act_of es) (one_runs bytes g left)
+  pub alike : IsAlike machine left
+  pub is : own ≡ one_runs bytes g machine
+
+abbrev pub IsMadeAs : Bool → ℕ → Bool → ℕ → Drawn → List (ℕ × Declaration) → List AppliedLine → Live → Type 0
+IsMadeAs false longest bytes g lost ds es own = IsUnnamed longest bytes g lost ds es own
+IsMadeAs true longest bytes g lost ds es own = IsNamed longest bytes g lost ds es own
+
+-- a network is what its lines that last make of it
+abbrev pub IsMade : ℕ → Bool → ℕ → Option NetworkLines → List (ℕ × Declaration) → List AppliedLine → Live → Type 0
+IsMade longest bytes g None ds es own = own ≡ new_live bytes
+IsMade longest bytes g (Some net) ds es own = IsMadeAs net.is_named longest bytes g net.lost ds es own
+
+-- ---- what is known of a host
+-- the numbers ascend, the first of them from this one on, and are below that one
+abbrev pub AreWithin : {X : Type 0} → ℕ → ℕ → List (ℕ × X) → Type 0
+AreWithin k n [] = k ≤ n
+AreWithin k n (e ∷ es) = (k ≤ e.0) × AreWithin (e.0 + 1) n es
+
+-- of the lines that last of those before this number, and of the host
+pub record IsKnown (longest : ℕ) (bytes : Bool) (n : ℕ) (l : Live) (lines : Lines) : Type 0 where
+  pub applied : List AppliedLine
+  pub events : lines.lasting.events ≡ map pair_of applied
+  pub events_ascend : AreWithin 0 n lines.lasting.events
+  pub declarations_ascend : AreWithin 0 n lines.lasting.declarations
+  pub networks_ascend : AreFrom 0 lines.networks
+  pub ordered : IsOrdered l
+  pub few : length lines.networks ≤ 4096
+  pub bytes_stay : l.bytes ≡ bytes
+  pub noted : (g : ℕ) → AreNoted (value_at lines.networks g) (declarations_of g lines.lasting.declarations) (of_network g applied)
+  pub made : (g : ℕ) → IsMade longest bytes g (value_at lines.networks g) (declarations_of g lines.lasting.declarations)
+      (of_network g applied) (alone g l)
+
+-- ---- laws of one network
+-- what its lines that last make of a network, behind one more line of it
+abbrev pub NetworksAreMade : Type 0
+NetworksAreMade =
+    (longest : ℕ) (bytes : Bool) (g n : ℕ) (line text : Bytes) (d : Deed) (net : Option NetworkLines)
+    (ds : List (ℕ × Declaration)) (es : List AppliedLine) (old new : Live) → AreNoted net ds es
+    → of_network g es ≡ es → IsMade longest bytes g net ds es old
+    → Serves old n (given longest line) (record { text = text; done = Some (done_by g d) }) new
+    → IsMade longest bytes g (network_behind n d net) (declarations_behind n line g d ds) (applied_behind n line g d es) new
+
+-- ---- laws of others that are used here
+-- Where the lines of open slots led to a network and a slot is closed, the lines of all others lead to one that is alike,
+-- if it began with budgets that are less by what the lines of the slot drew, and its closing.
+abbrev pub SlotsMayBeErased : Type 0
+SlotsMayBeErased =
+    (longest : ℕ) (bytes : Bool) (g n i : ℕ) (line text : Bytes) (d : Drawn) (c : Config) (es : List AppliedLine)
+    (m after : Machine) → DoAll longest g (one_runs bytes g (begun c)) (map act_of es) (one_runs bytes g m)
+    → Serves (one_runs bytes g m) n (given longest line)
+    (record { text = text; done = Some (done_by g (deed.Closed i d)) }) (one_runs bytes g after)
+    → (rest : Config) × (left : Machine) × (c ≡ moved_config (all_drawn (at_slot i es) d) rest)
+    × DoAll longest g (one_runs bytes g (begun rest)) (map act_of (but_at_slot i es)) (one_runs bytes g left)
+    × IsAlike after left
+
+-- An event that is refused changes nothing that matters: where the lines of open slots led to a network that is alike, they
+-- may lead to one that is alike afterwards.
+abbrev pub RefusedLinesStayAlike : Type 0
+RefusedLinesStayAlike =
+    (longest : ℕ) (bytes : Bool) (g n : ℕ) (line text : Bytes) (c : Config) (es : List AppliedLine)
+    (m after left : Machine) → DoAll longest g (one_runs bytes g (begun c)) (map act_of es) (one_runs bytes g left)
+    → IsAlike m left
+    → Serves (one_runs bytes g m) n (given longest line) (record { text = text; done = Some (done_by g deed.Refused) })
+    (one_runs bytes g after)
+    → (next : Machine) × DoAll longest g (one_runs bytes g (begun c)) (map act_of es) (one_runs bytes g next)
+    × IsAlike after next
+
+-- Lines that declare a network declare it with budgets that are less, if these are.
+abbrev pub DeclarationsMayBeLowered : Type 0
+DeclarationsMayBeLowered =
+    (longest : ℕ) (bytes : Bool) (g : ℕ) (texts : List Bytes) (d : Drawn) (o : Outlined)
+    → DoAll longest g (new_live bytes) (map declaring texts) (one_waits bytes g o)
+    → DoAll longest g (new_live bytes) (map declaring (map (lowered d) texts)) (one_waits bytes g (less_outline d o))
+
+-- `close N 0`
+abbrev pub naming_line : ℕ → Bytes
+naming_line g = codes "close " ++ (decimal g ++ 32 ∷ 48 ∷ [])
+
+-- The line that names a network begins it, where lines declared it, and changes nothing more.
+abbrev pub NamingLinesBegin : Type 0
+NamingLinesBegin =
+    (longest : ℕ) → 32 ≤ longest → (bytes : Bool) (g : ℕ) (texts : List Bytes) (o : Outlined) (c : Config)
+    → DoAll longest g (new_live bytes) (map declaring texts) (one_waits bytes g o) → IsConfigOf g o c
+    → (text : Bytes)
+    × Serves (one_waits bytes g o) 1 (given longest (naming_line g))
+    (record { text = text; done = Some (done_by g deed.Refused) }) (one_runs bytes g (begun c))
+
+-- ---- the shorter journal
+-- its lines, each behind the number of its network
+abbrev pub declared_tag : List (ℕ × NetworkLines) → (ℕ × Declaration) → ℕ × Bytes
+declared_tag networks e = (e.1.network, lowered (lost_at (value_at networks e.1.network)) e.1.text)
+
+abbrev pub naming_tags : List (ℕ × NetworkLines) → List (ℕ × Bytes)
+naming_tags [] = []
+naming_tags (e ∷ networks) =
+    cond (e.1.is_named && not (nat_lt 0 (length e.1.slots))) ((e.0, naming_line e.0) ∷ naming_tags networks)
+    (naming_tags networks)
+
+abbrev pub applied_tag : AppliedLine → ℕ × Bytes
+applied_tag e = (e.network, e.text)
+
+abbrev pub short_tags : Lines → List AppliedLine → List (ℕ × Bytes)
+short_tags lines es =
+    map (declared_tag lines.networks) lines.lasting.declarations ++ (naming_tags lines.networks ++ map applied_tag es)
+
+-- of one network: its lines of the shorter journal lead to one that is alike
+abbrev pub IsShortened : ℕ → Bool → ℕ → Live → List Bytes → Type 0
+IsShortened longest bytes g l lines =
+    (u : Live) × RunsAlone longest g (new_live bytes) lines u × (u.bytes ≡ bytes)
+    × (waiting_at u.waiting g ≡ waiting_at l.waiting g) × AreBothAlike (live_at l g) (live_at u g)
+
+-- ---- what is left to prove
+-- the law, if closed slots may be erased
+abbrev pub ShorterJournalsFollow : Type 0
+ShorterJournalsFollow = SlotsMayBeErased → ShorterJournalsLeadToAlikeHosts
