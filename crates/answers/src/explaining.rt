@@ -2,7 +2,7 @@
 
 use crate::comparing::{Side, Sides};
 use closure::{Announcements, ClosureList, closure};
-use envstore::VecShelf;
+use envstore::BoxShelf;
 use hoststep::{Journal, LentEvent};
 use scripts::{push_name, push_slices};
 use std::alloc::{AllocError, Global};
@@ -94,7 +94,7 @@ fn push_bytes(text: &mut String, bytes: &[u8]) -> Result<(), AllocError> {
 fn push_hearing(
     text: &mut String,
     net: u32,
-    journal: &Journal<VecShelf>,
+    journal: &Journal<BoxShelf>,
     entry: usize,
 ) -> Result<(), AllocError> {
     match &journal.event(entry) {

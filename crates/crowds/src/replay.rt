@@ -13,7 +13,7 @@ ghost use Rattle.crowds.specs.Submitted.{concerns_members};
 use crate::reply::Reply;
 use crate::submission::Submission;
 use configuration::NetConfig;
-use envstore::VecShelf;
+use envstore::BoxShelf;
 use hoststep::Journal;
 use std::alloc::{AllocError, Global};
 use types::{Event, Refusal};
@@ -25,11 +25,11 @@ pub(crate) fn replay(
     submission: &Submission,
     config: &NetConfig,
     net: u32,
-) -> Result<Journal<VecShelf>, AllocError>
+) -> Result<Journal<BoxShelf>, AllocError>
     requires { config_of submission.now.configs net ≡ Some config.now }
     ensures { IfOk result (λ j. j ≡ record { config = config.now; entries = entries reading submission.now net }) }
 {
-    let mut journal = Journal::new(alloc, config.try_copy(alloc)?, VecShelf::new(alloc));
+    let mut journal = Journal::new(alloc, config.try_copy(alloc)?, BoxShelf::new(alloc));
     for call in submission.calls() {
         let (number, event) = call;
         if *number == net {
@@ -52,7 +52,7 @@ pub(crate) fn replies_to(
     requires marked { length marks.now ≡ length submission.now.calls }
     ensures { (R : Names) (i : ℕ) → marks.now ≡ map (concerns_members R i net) submission.now.calls → IfOk result (λ v. map reply_of v.items ≡ replied_to R i (answers reading submission.now net)) }
 {
-    let mut journal = Journal::new(alloc, config.try_copy(alloc)?, VecShelf::new(alloc));
+    let mut journal = Journal::new(alloc, config.try_copy(alloc)?, BoxShelf::new(alloc));
     let mut replies = Vec::new(alloc);
     let calls = submission.calls();
     for place in 0..calls.len() {
@@ -69,7 +69,7 @@ pub(crate) fn replies_to(
 /// What a network answers to an event. An error says that memory was short.
 fn answer(
     alloc: Global,
-    journal: &mut Journal<VecShelf>,
+    journal: &mut Journal<BoxShelf>,
     event: &Event,
 ) -> Result<Reply, AllocError>
     ensures { IfOk result (λ r. IsAnswer journal.old (step_of event.now) (reply_of r) journal.new) }

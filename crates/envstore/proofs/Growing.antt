@@ -1,23 +1,97 @@
--- An archive with one envelope more.
-use Rattle.std.proofs.Common.{◌≡◌, ℕ, zero, suc, List, [], ◌∷◌, ◌++◌, Some, Result, Ok, Err, OnOk, sym, subst}
-use Rattle.std.specs.Prelude.{OnErr}
-use Rattle.std.specs.List.{slice_get}
+-- An archive with one envelope more, and with some let go.
+use Rattle.std.proofs.Common.{◌≡◌, ◌⊎◌, inl, inr, ℕ, zero, suc, Bool, false, List, [], ◌∷◌, ◌++◌, get_or, length, map, set, Option, Some, None, option_map, refl, sym, ◌∙◌, ap, subst}
+use Rattle.std.specs.Prelude.{IfSome}
+use Rattle.std.specs.List.{All, slice_get}
+use Rattle.std.proofs.lemmas.List.Elements.{All-append, All-cons, All-nil, All-set}
 use Rattle.types.specs.Statements.{Sent}
 use Rattle.envstore.specs.declared.filed.Filed.{Filed}
-use Rattle.envstore.specs.Archives.{AreFiled, IsFiled, Keeps}
+use Rattle.envstore.specs.Archives.{AreFiled, Archived, IsFiled, Keeps, KeepsOf}
+
+-- the same list, or one place more where nothing lies
+abbrev pub IsGrown : {X : Type 0} → List (Option X) → List (Option X) → Type 0
+IsGrown old new = (new ≡ old) ⊎ (new ≡ old ++ None ∷ [])
 
 read-append : {X : Type 0} (xs ys : List X) (i : ℕ) (x : X) → slice_get xs i ≡ Some x → slice_get (xs ++ ys) i ≡ Some x
 read-append [] ys i x h = cc
 read-append (z ∷ xs) ys zero x h = h
 read-append (z ∷ xs) ys (suc i) x h = read-append xs ys i x h
 
-keeps_with_one_more : (old new : List Sent) (e : Sent) → new ≡ old ++ e ∷ [] → Keeps old new
-keeps_with_one_more old new e h f is = subst (λ (xs : List Sent). IsFiled xs f) (sym h) (read-append old (e ∷ []) f.number _ is)
+read-grown : {X : Type 0} (old new : List (Option X)) (i : ℕ) (x : Option X) → IsGrown old new → slice_get old i ≡ Some x → slice_get new i ≡ Some x
+read-grown {X} old new i x (inl same) h = subst (λ (xs : List (Option X)). slice_get xs i ≡ Some x) (sym same) h
+read-grown {X} old new i x (inr more) h = subst (λ (xs : List (Option X)). slice_get xs i ≡ Some x) (sym more) (read-append old (None ∷ []) i x h)
 
-pub keeps_after : {E : Type 0} (old new : List Sent) (e : Sent) (r : Result Filed E) → OnOk r (new ≡ old ++ e ∷ []) → OnErr r (new ≡ old) → Keeps old new
-keeps_after old new e (Ok f) ok err = keeps_with_one_more old new e ok
-keeps_after old new e (Err x) ok err = λ f is. subst (λ (xs : List Sent). IsFiled xs f) (sym err) is
+-- what lies elsewhere stays where something is put at a place where nothing lies
+kept-set : {X : Type 0} (xs : List (Option X)) (n k : ℕ) (e : Option X) (x : X) → slice_get xs n ≡ Some None → slice_get xs k ≡ Some (Some x) → slice_get (set xs n e) k ≡ Some (Some x)
+kept-set [] n k e x free h = absurd (cc)
+kept-set (z ∷ xs) zero zero e x free h = absurd (cc)
+kept-set (z ∷ xs) zero (suc k) e x free h = h
+kept-set (z ∷ xs) (suc n) zero e x free h = h
+kept-set (z ∷ xs) (suc n) (suc k) e x free h = kept-set xs n k e x free h
+
+read-set : {X : Type 0} (xs : List X) (n : ℕ) (y x : X) → slice_get xs n ≡ Some y → slice_get (set xs n x) n ≡ Some x
+read-set [] n y x h = absurd (cc)
+read-set (z ∷ xs) zero y x h = refl
+read-set (z ∷ xs) (suc n) y x h = read-set xs n y x h
+
+-- ---- with whole envelopes
+read-map : {X Y : Type 0} (f : X → Y) (xs : List X) (n : ℕ) (x : X) → slice_get xs n ≡ Some x → slice_get (map f xs) n ≡ Some (f x)
+read-map f [] n x h = absurd (cc)
+read-map f (z ∷ xs) zero x h = let q : z ≡ x = cc in ap (λ y. Some (f y)) q
+read-map f (z ∷ xs) (suc n) x h = read-map f xs n x h
+
+map-set : {X Y : Type 0} (f : X → Y) (xs : List X) (n : ℕ) (x : X) → map f (set xs n x) ≡ set (map f xs) n (f x)
+map-set f [] n x = refl
+map-set f (z ∷ xs) zero x = refl
+map-set f (z ∷ xs) (suc n) x = ap (λ (ys : List _). f z ∷ ys) (map-set f xs n x)
+
+map-grown : {X Y : Type 0} (f : X → Y) (old new : List (Option X)) → IsGrown old new → IsGrown (map (option_map f) old) (map (option_map f) new)
+map-grown f old new (inl same) = inl (ap (map (option_map f)) same)
+map-grown f old new (inr more) = inr (ap (map (option_map f)) more ∙ pushed old)
+  where
+    pushed : (xs : List (Option _)) → map (option_map f) (xs ++ None ∷ []) ≡ map (option_map f) xs ++ None ∷ []
+    pushed [] = refl
+    pushed (x ∷ xs) = ap (λ (ys : List (Option _)). option_map f x ∷ ys) (pushed xs)
+
+-- one envelope more, at a number where nothing lies
+pub filed-there : {P : Type 0} (f : P → Sent) (places : List (Option P)) (n : ℕ) (p : P) → slice_get places n ≡ Some None → slice_get (map (option_map f) (set places n (Some p))) n ≡ Some (Some (f p))
+filed-there f places n p free = read-map (option_map f) (set places n (Some p)) n (Some p) (read-set places n None (Some p) free)
+
+pub keeps-put : {P : Type 0} (f : P → Sent) (old places : List (Option P)) (n : ℕ) (p : P) → IsGrown old places → slice_get places n ≡ Some None → Keeps (map (option_map f) old) (map (option_map f) (set places n (Some p)))
+keeps-put f old places n p grown free x h =
+    subst (λ (xs : Archived). IsFiled xs x) (sym (map-set (option_map f) places n (Some p)))
+    (kept-set (map (option_map f) places) n x.number (Some (f p)) x.put.value (read-map (option_map f) places n None free)
+    (read-grown (map (option_map f) old) (map (option_map f) places) x.number (Some x.put.value) (map-grown f old places grown) h))
+
+pub all-put : {P : Type 0} (R : P → Type 0) (old places : List (Option P)) (n : ℕ) (p : P) → IsGrown old places → R p → All (λ o. IfSome o R) old → All (λ o. IfSome o R) (set places n (Some p))
+all-put {P} R old places n p grown one all = All-set (λ (o : Option P). IfSome o R) places n (Some p) one (go grown)
+  where
+    go : IsGrown old places → All (λ o. IfSome o R) places
+    go (inl same) = subst (λ (xs : List (Option P)). All (λ o. IfSome o R) xs) (sym same) all
+    go (inr more) = subst (λ (xs : List (Option P)). All (λ o. IfSome o R) xs) (sym more) (All-append (λ o. IfSome o R) old (None ∷ []) all (All-cons (λ o. IfSome o R) None [] tt (All-nil (λ o. IfSome o R))))
+
+pub all-kept : {P : Type 0} (R Q : P → Type 0) (old new : List (Option P)) → new ≡ old → ((p : P) → R p → Q p) → All (λ o. IfSome o R) old → All (λ o. IfSome o Q) new
+all-kept {P} R Q old new same kept all = subst (λ (xs : List (Option P)). All (λ o. IfSome o Q) xs) (sym same) (λ k d l. one (get_or old k d) (all k d l))
+  where
+    one : (o : Option P) → IfSome o R → IfSome o Q
+    one None h = tt
+    one (Some p) h = kept p h
+
+-- what is of none of these slots is let go
+pub keeps-without : {P : Type 0} (f : P → Sent) (is_among : ℕ → Bool) (places : List (Option P)) (n : ℕ) → ((e : Sent) → slice_get (map (option_map f) places) n ≡ Some (Some e) → is_among e.slot ≡ false)
+    → KeepsOf is_among (map (option_map f) places) (map (option_map f) (set places n None))
+keeps-without f is_among places n gone x among h = subst (λ (xs : Archived). IsFiled xs x) (sym (map-set (option_map f) places n None)) (elsewhere (map (option_map f) places) n x.number gone h)
+  where
+    elsewhere : (xs : Archived) (n k : ℕ) → ((e : Sent) → slice_get xs n ≡ Some (Some e) → is_among e.slot ≡ false) → slice_get xs k ≡ Some (Some x.put.value) → slice_get (set xs n None) k ≡ Some (Some x.put.value)
+    elsewhere [] n k g q = absurd (cc)
+    elsewhere (z ∷ xs) zero zero g q = let no = g x.put.value q in absurd (cc)
+    elsewhere (z ∷ xs) zero (suc k) g q = q
+    elsewhere (z ∷ xs) (suc n) zero g q = q
+    elsewhere (z ∷ xs) (suc n) (suc k) g q = elsewhere xs n k g q
+
+pub map-length : {X Y : Type 0} (f : X → Y) (xs : List X) → length (map f xs) ≡ length xs
+map-length f [] = refl
+map-length f (x ∷ xs) = ap suc (map-length f xs)
 
 -- ---- what is kept
-pub keeps_all : (old new : List Sent) (fs : List Filed) → Keeps old new → AreFiled old fs → AreFiled new fs
+pub keeps_all : (old new : Archived) (fs : List Filed) → Keeps old new → AreFiled old fs → AreFiled new fs
 keeps_all old new fs h all = λ k d l. h _ (all k d l)

@@ -1,8 +1,12 @@
 -- Envelopes that were filed.
-use Rattle.std.specs.Prelude.{◌≡◌, List, Some, map, slice_get}
+use Rattle.std.specs.Prelude.{◌≡◌, ℕ, Bool, true, List, Option, Some, map, slice_get}
 use Rattle.std.specs.List.{All}
 use Rattle.types.specs.Statements.{Sent}
 use Rattle.envstore.specs.declared.filed.Filed.{Filed}
+
+-- what an archive has at each of its numbers; at some of them nothing
+abbrev pub Archived : Type 0
+Archived = List (Option Sent)
 
 -- the envelope that was filed
 abbrev pub sent_of : Filed → Sent
@@ -13,13 +17,17 @@ abbrev pub sents_of : List Filed → List Sent
 sents_of fs = map sent_of fs
 
 -- the archive has the envelope at its number
-abbrev pub IsFiled : List Sent → Filed → Type 0
-IsFiled archive f = slice_get archive f.number ≡ Some (sent_of f)
+abbrev pub IsFiled : Archived → Filed → Type 0
+IsFiled archive f = slice_get archive f.number ≡ Some (Some (sent_of f))
 
 -- and each of these
-abbrev pub AreFiled : List Sent → List Filed → Type 0
+abbrev pub AreFiled : Archived → List Filed → Type 0
 AreFiled archive fs = All (IsFiled archive) fs
 
 -- all that was filed before is filed still
-abbrev pub Keeps : List Sent → List Sent → Type 0
+abbrev pub Keeps : Archived → Archived → Type 0
 Keeps old new = (f : Filed) → IsFiled old f → IsFiled new f
+
+-- all that was filed before for one of these slots is filed still
+abbrev pub KeepsOf : (ℕ → Bool) → Archived → Archived → Type 0
+KeepsOf is_among old new = (f : Filed) → is_among (sent_of f).slot ≡ true → IsFiled old f → IsFiled new f

@@ -2,13 +2,13 @@
 #![tactic(auto)]
 
 mod archive;
+mod box_shelf;
 mod filed;
 mod shared;
 mod shelf;
-mod vec_shelf;
 
 pub use archive::Archive;
+pub use box_shelf::BoxShelf;
 pub use filed::Filed;
 pub use shared::SharedHandle;
-pub use shelf::{Places, Shelf};
-pub use vec_shelf::{VecPlace, VecShelf};
+pub use shelf::{Places, Shelf, Slots};

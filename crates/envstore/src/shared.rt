@@ -58,7 +58,7 @@ impl<R> Places for SharedHandle<R> {
 
     ghost put_there = { λ p. p.value };
 
-    fn read<'a>(&'a self, place: &Pushed<Envelope>) -> &'a Envelope {
+    fn read<'a>(&'a self, place: &'a Pushed<Envelope>) -> &'a Envelope {
         self.store.value(place)
     }
 }

@@ -1,6 +1,6 @@
 //! What a store of envelopes is.
 
-ghost use Rattle.std.specs.Prelude.{◌≡◌, IfErr, IfOk};
+ghost use Rattle.std.specs.Prelude.{◌≡◌, Bool, IfErr, IfOk, ℕ};
 
 use types::Envelope;
 
@@ -18,12 +18,12 @@ pub trait Places {
     ghost put_there: { Self.Place → Sent };
 
     /// The envelope at a place of this store. It takes no memory, and waits for nobody.
-    fn read<'a>(&'a self, place: &Self::Place) -> &'a Envelope
+    fn read<'a>(&'a self, place: &'a Self::Place) -> &'a Envelope
         requires { is_of self.now place.now }
         ensures { result.now ≡ put_there place.now };
 }
 
-/// A store that takes envelopes and never lets one go.
+/// A store that takes envelopes. What was put there stays as long as its place does.
 pub trait Shelf: Places {
     /// Puts an envelope at a place of its own; all other places stay. It comes back where there is no
     /// memory.
@@ -31,4 +31,14 @@ pub trait Shelf: Places {
         ensures put { IfOk result (λ p. Self.is_of self.new p × (Self.put_there p ≡ envelope)) }
         ensures kept { (p : Self.Place) → Self.is_of self.old p → Self.is_of self.new p }
         ensures err { IfErr result (λ e. e ≡ envelope) };
+}
+
+/// Some slots, by their numbers.
+pub trait Slots {
+    /// The slot of this number is among them.
+    ghost is_among: { Self → ℕ → Bool };
+
+    /// Whether the slot of this number is among them. It takes no memory.
+    fn contains(&self, slot: u64) -> bool
+        ensures { result ≡ is_among self.now slot };
 }

@@ -2,7 +2,7 @@
 
 use crate::fixtures::{name, one_node, slices_of};
 use codec::encode;
-use envstore::VecShelf;
+use envstore::BoxShelf;
 use hoststep::{Budgets, Journal, NetConfig, NetMachine};
 use std::alloc::Global;
 use std::test::Fail;
@@ -45,7 +45,7 @@ fn delivers(event: &Event, wanted: &Bytes) -> bool {
 }
 
 /// Whether a delivery of these bytes is recorded as the second entry.
-fn records(alloc: Global, journal: &mut Journal<VecShelf>, bytes: &Bytes) -> Option<bool> {
+fn records(alloc: Global, journal: &mut Journal<BoxShelf>, bytes: &Bytes) -> Option<bool> {
     let event = Event::Deliver {
         node: name(1),
         bytes: bytes.try_copy(alloc).ok()?,
@@ -55,13 +55,13 @@ fn records(alloc: Global, journal: &mut Journal<VecShelf>, bytes: &Bytes) -> Opt
 }
 
 /// Whether the second entry is read back as a delivery of these bytes, at which nothing was given out.
-fn reads_back(alloc: Global, journal: &Journal<VecShelf>, bytes: &Bytes) -> Option<bool> {
+fn reads_back(alloc: Global, journal: &Journal<BoxShelf>, bytes: &Bytes) -> Option<bool> {
     let (event, outs) = journal.entry(alloc, 1).ok()??;
     Some(delivers(&event, bytes) && outs.is_empty())
 }
 
 /// Whether as many outs are appended as a proposal gave out, which is the third entry.
-fn appends(alloc: Global, journal: &mut Journal<VecShelf>) -> Option<bool> {
+fn appends(alloc: Global, journal: &mut Journal<BoxShelf>) -> Option<bool> {
     let event = Event::Propose {
         slot: 5,
         node: name(1),
@@ -74,7 +74,7 @@ fn appends(alloc: Global, journal: &mut Journal<VecShelf>) -> Option<bool> {
 }
 
 /// Whether a journal whose slot 5 is opened takes a delivery and a proposal, and has them.
-fn is_kept(alloc: Global, journal: &mut Journal<VecShelf>) -> Option<bool> {
+fn is_kept(alloc: Global, journal: &mut Journal<BoxShelf>) -> Option<bool> {
     let bytes = vote_bytes(alloc)?;
     let opened = journal.apply(Event::OpenSlot { slot: 5 }).is_ok();
     let kept = records(alloc, journal, &bytes)? && reads_back(alloc, journal, &bytes)?;
@@ -85,7 +85,7 @@ fn is_kept(alloc: Global, journal: &mut Journal<VecShelf>) -> Option<bool> {
 fn events_are_kept_where_there_is_memory(rt: HostRuntime) -> Result<(), Fail> {
     let alloc = rt.alloc();
     let config = config(alloc).ok_or("memory")?;
-    let mut journal = Journal::new(alloc, config, VecShelf::new(alloc));
+    let mut journal = Journal::new(alloc, config, BoxShelf::new(alloc));
     let kept = is_kept(alloc, &mut journal);
     drop(journal);
     assert!(rt; kept.ok_or("memory")?);
@@ -96,7 +96,7 @@ fn events_are_kept_where_there_is_memory(rt: HostRuntime) -> Result<(), Fail> {
 fn a_machine_takes_an_event_where_there_is_memory(rt: HostRuntime) -> Result<(), Fail> {
     let alloc = rt.alloc();
     let config = config(alloc).ok_or("memory")?;
-    let mut machine = NetMachine::new(alloc, config, VecShelf::new(alloc));
+    let mut machine = NetMachine::new(alloc, config, BoxShelf::new(alloc));
     let silent = match machine.apply(Event::OpenSlot { slot: 5 }) {
         Ok(outs) => outs.is_empty(),
         Err(_) => false,

@@ -3,7 +3,7 @@
 
 use crate::fixtures::{name, slices_of};
 use configuration::HostedNode;
-use envstore::VecShelf;
+use envstore::BoxShelf;
 use hoststep::{Budgets, NetConfig};
 use live::{Served, ServedNetwork, Told};
 use std::alloc::Global;
@@ -11,7 +11,7 @@ use std::test::Fail;
 use types::{Bytes, Event, Out};
 
 /// A network of nodes 1 and 2, both of which need node 1 alone.
-fn network(alloc: Global) -> Option<ServedNetwork<VecShelf>> {
+fn network(alloc: Global) -> Option<ServedNetwork<BoxShelf>> {
     let mut nodes = Vec::new(alloc);
     nodes
         .push(HostedNode::new(name(1), slices_of(alloc, 1)?))
@@ -20,7 +20,7 @@ fn network(alloc: Global) -> Option<ServedNetwork<VecShelf>> {
         .push(HostedNode::new(name(2), slices_of(alloc, 1)?))
         .ok()?;
     let config = NetConfig::new(alloc, 7, nodes, Budgets::new(100, 0, 1)?).ok()?;
-    ServedNetwork::new(alloc, config, VecShelf::new(alloc)).ok()
+    ServedNetwork::new(alloc, config, BoxShelf::new(alloc)).ok()
 }
 
 /// What comes of opening slot 5 and proposing to node 1 there.

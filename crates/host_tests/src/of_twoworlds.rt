@@ -3,7 +3,7 @@
 
 use crate::fixtures::{name, one_node};
 use configuration::{Budgets, NetConfig};
-use envstore::VecShelf;
+use envstore::BoxShelf;
 use std::alloc::Global;
 use std::test::Fail;
 use std::thread::Threads;
@@ -11,7 +11,7 @@ use twoworlds::{MemberOuts, Verdict, compare_all};
 use types::{Bytes, Event, Out, Subject};
 use world::World;
 
-type TestWorld = World<VecShelf>;
+type TestWorld = World<BoxShelf>;
 
 /// Node 1 at slot 1 of a network.
 fn subject(net: u32) -> Subject {
@@ -36,7 +36,7 @@ fn applies(world: &mut TestWorld, net: u32, event: Event) -> bool {
 /// Adds a network whose slot 1 is open.
 fn add(alloc: Global, world: &mut TestWorld, net: u32) -> Option<bool> {
     let config = config(alloc, net)?;
-    world.add(config, VecShelf::new(alloc)).ok()?;
+    world.add(config, BoxShelf::new(alloc)).ok()?;
     Some(applies(world, net, Event::OpenSlot { slot: 1 }))
 }
 

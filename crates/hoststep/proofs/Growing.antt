@@ -8,11 +8,10 @@ use Rattle.std.proofs.lemmas.Option.{slice_get_within}
 use Rattle.std.specs.Global.{Global}
 use Rattle.std.proofs.lemmas.Bool.{cases_Bool}
 use Rattle.std.proofs.lemmas.Bool.Decides.{nat_tests}
-use Rattle.types.specs.Statements.{Sent}
 use Rattle.types.specs.declared.event.Out.{Out}
 use Rattle.types.specs.declared.event.Refusal.{Refusal}
 use Rattle.types.specs.declared.event.Refusal.TheVariants.{NoSuchNode, BadEnvelope}
-use Rattle.envstore.specs.Archives.{Keeps}
+use Rattle.envstore.specs.Archives.{Archived, Keeps}
 use Rattle.protocol.specs.Networks.{HostedNode, Net, Step, effect, first_that, is_hosted, net_step, state_and_reply, tests}
 use Rattle.protocol.specs.Networks.Reading.{Read, Fault}
 use Rattle.protocol.specs.Networks.Reply.{Done}
@@ -131,7 +130,7 @@ journal-grows old new es e os h step same = record {
 abbrev pub OutsLists : Type 0
 OutsLists = List EntryOuts
 
-event-stays : (nodes : List HostedNode) (old new : List Sent) (x : KeptEvent) → Keeps old new → IsKeptEvent nodes old x → IsKeptEvent nodes new x
+event-stays : (nodes : List HostedNode) (old new : Archived) (x : KeptEvent) → Keeps old new → IsKeptEvent nodes old x → IsKeptEvent nodes new x
 event-stays nodes old new (events.OpenSlot i) kept h = tt
 event-stays nodes old new (events.CloseSlot i) kept h = tt
 event-stays nodes old new (events.Deliver u size f) kept h = (h.0, kept f h.1, h.2)
@@ -140,16 +139,16 @@ event-stays nodes old new (events.NominationTimer u r i) kept h = h
 event-stays nodes old new (events.BallotTimer u n i) kept h = h
 event-stays nodes old new (events.Large b) kept h = h
 
-out-stays : (old new : List Sent) (x : FiledOut) → Keeps old new → IsFiledOut old x → IsFiledOut new x
+out-stays : (old new : Archived) (x : FiledOut) → Keeps old new → IsFiledOut old x → IsFiledOut new x
 out-stays old new (FiledOut.ArmNomination r) kept h = tt
 out-stays old new (FiledOut.ArmBallot n) kept h = tt
 out-stays old new (FiledOut.Emit f) kept h = (kept f h.0, h.1)
 out-stays old new (FiledOut.Externalized x) kept h = tt
 
-abbrev pub IsKeptIn : List HostedNode → List Sent → StoredEntry → Type 0
+abbrev pub IsKeptIn : List HostedNode → Archived → StoredEntry → Type 0
 IsKeptIn nodes archive x = IsKeptEvent nodes archive x.event × AreFiledOuts archive (kept_outs x.outs)
 
-kept-still : (nodes : List HostedNode) (old new : List Sent) (xs : List StoredEntry) → Keeps old new → All (IsKeptIn nodes old) xs → All (IsKeptIn nodes new) xs
+kept-still : (nodes : List HostedNode) (old new : Archived) (xs : List StoredEntry) → Keeps old new → All (IsKeptIn nodes old) xs → All (IsKeptIn nodes new) xs
 kept-still nodes old new xs kept all =
     λ k d l. (event-stays nodes old new (get_or xs k d).event kept (all k d l).0, λ j c m. out-stays old new (get_or (kept_outs (get_or xs k d).outs) j c) kept ((all k d l).1 j c m))
 
@@ -175,7 +174,7 @@ listed-more before xs x outs h gave =
           (below_or_last k (length xs) within);
     }
 
-pub kept-more : (nodes : List HostedNode) (old new : List Sent) (before : OutsLists) (xs : List StoredEntry) (x : StoredEntry) (outs : Vec FiledOut Global) → Keeps old new → AreKept nodes old before xs
+pub kept-more : (nodes : List HostedNode) (old new : Archived) (before : OutsLists) (xs : List StoredEntry) (x : StoredEntry) (outs : Vec FiledOut Global) → Keeps old new → AreKept nodes old before xs
     → IsKeptEvent nodes new x.event → kept_outs x.outs ≡ outs.items → AreFiledOuts new (kept_outs x.outs) → AreKept nodes new (with_outs (length xs) outs before) (xs ++ x ∷ [])
 kept-more nodes old new before xs x outs kept all event gave filed = (
   All-append (IsKeptIn nodes new) xs (x ∷ []) (kept-still nodes old new xs kept all.0) (All-cons (IsKeptIn nodes new) x [] (event, filed) (All-nil (IsKeptIn nodes new))),

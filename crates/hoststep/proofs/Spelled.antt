@@ -6,7 +6,7 @@ use Rattle.codec.specs.Spelling.{Spells, most_bytes}
 use Rattle.codec.proofs.Lengths.{spelling_is_short}
 use Rattle.codec.specs.Steps.{IsBytes}
 use Rattle.envstore.specs.declared.filed.Filed.{Filed}
-use Rattle.envstore.specs.Archives.{IsFiled, sent_of}
+use Rattle.envstore.specs.Archives.{Archived, IsFiled, sent_of}
 use Rattle.protocol.specs.Networks.{HostedNode, Reading}
 use Rattle.protocol.specs.Networks.Reading.{Read, Fault}
 use Rattle.protocol.specs.Networks.Step.{Delivers}
@@ -41,6 +41,6 @@ few_bytes delivered f bytes u size is from fits count =
 
 -- a delivery as it is kept
 pub filed : (delivered : Option Filed) (f : Filed) (bytes : List ℕ) (u : NodePlace) (size : ℕ) → delivered ≡ Some f → option_map sent_of delivered ≡ delivered_of (Delivers (node_name u) (length bytes) (reading bytes)) → IsBytes bytes → size ≡ length bytes
-    → (nodes : List HostedNode) (archive : List Sent) → IsNodePlace nodes u → IfSome delivered (IsFiled archive) → IsNodePlace nodes u × IsFiled archive f × (size ≡ spelled_size (sent_of f))
+    → (nodes : List HostedNode) (archive : Archived) → IsNodePlace nodes u → IfSome delivered (IsFiled archive) → IsNodePlace nodes u × IsFiled archive f × (size ≡ spelled_size (sent_of f))
 filed delivered f bytes u size is from fits count nodes archive there h =
     (there, subst (λ (o : Option Filed). IfSome o (IsFiled archive)) is h, count ∙ counted bytes (sent_of f) (spells bytes (node_name u) (sent_of f) fits (sym (ap (option_map sent_of) is) ∙ from)))

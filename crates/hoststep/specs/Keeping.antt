@@ -7,7 +7,7 @@ use Rattle.protocol.specs.Hosts.{Entry}
 use Rattle.protocol.specs.Networks.{HostedNode, Step}
 use Rattle.protocol.specs.Networks.Reading.{Read, Fault}
 use Rattle.protocol.specs.Networks.Step.{Opens, Closes, Delivers, Hears, NominationTimerFires, BallotTimerFires}
-use Rattle.envstore.specs.Archives.{IsFiled, sent_of}
+use Rattle.envstore.specs.Archives.{Archived, IsFiled, sent_of}
 use Rattle.slot.specs.Filings.{AreFiledOuts, outs_of}
 use Rattle.protocol.specs.Sets.{IsAscending}
 use Rattle.network.specs.Decoding.{step_of}
@@ -44,7 +44,7 @@ spelled_size e = length (spelling e)
 
 -- the nodes stand at their places among the hosted ones; the archive has the envelope that was delivered, and as many
 -- bytes came as its spelling has; what lies in a box is large
-abbrev pub IsKeptEvent : List HostedNode → List Sent → KeptEvent → Type 0
+abbrev pub IsKeptEvent : List HostedNode → Archived → KeptEvent → Type 0
 IsKeptEvent nodes archive (OpenSlot i) = ⊤
 IsKeptEvent nodes archive (CloseSlot i) = ⊤
 IsKeptEvent nodes archive (Deliver u size f) =
@@ -61,7 +61,7 @@ pub record AreListed (lists : List EntryOuts) (xs : List StoredEntry) : Type 0 w
   pub listed : (k : ℕ) (d : StoredEntry) → k < length xs → listed_at lists k ≡ kept_outs (get_or xs k d).outs
 
 -- that of each entry; the archive has what was emitted, and what was given out is listed
-abbrev pub AreKept : List HostedNode → List Sent → List EntryOuts → List StoredEntry → Type 0
+abbrev pub AreKept : List HostedNode → Archived → List EntryOuts → List StoredEntry → Type 0
 AreKept nodes archive lists xs =
     All (λ x. IsKeptEvent nodes archive x.event × AreFiledOuts archive (kept_outs x.outs)) xs × AreListed lists xs
 
@@ -69,5 +69,5 @@ AreKept nodes archive lists xs =
 abbrev pub lent_entry : LentEntry → Entry
 lent_entry x = record { event = step_in x.event.now; outs = outs_of x.outs.now }
 
-abbrev pub IsLentEntry : List HostedNode → List Sent → LentEntry → Type 0
+abbrev pub IsLentEntry : List HostedNode → Archived → LentEntry → Type 0
 IsLentEntry nodes archive x = IsKeptEvent nodes archive x.event.now × AreFiledOuts archive x.outs.now

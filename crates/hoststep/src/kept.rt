@@ -4,12 +4,11 @@
 
 ghost use Rattle.std.specs.Prelude.{◌≡◌, ◌++◌, IfOk, IfSome, List, OnErr, OnOk, false, length, option_map, slice_get, take};
 ghost use Rattle.codec.specs.Steps.{IsBytes};
-ghost use Rattle.envstore.specs.Archives.{IsFiled, sent_of};
+ghost use Rattle.envstore.specs.Archives.{Archived, IsFiled, sent_of};
 ghost use Rattle.protocol.specs.Networks.{HostedNode};
 ghost use Rattle.protocol.specs.Networks.Reading.{Read};
 ghost use Rattle.protocol.specs.Networks.Step.{Delivers};
 ghost use Rattle.slot.specs.Filings.{AreFiledOuts, IsFiledOut, out_of, outs_of};
-ghost use Rattle.types.specs.Statements.{Sent};
 ghost use Rattle.network.specs.Answers.{delivered_of};
 ghost use Rattle.network.specs.Decoding.{reading, step_of};
 ghost use Rattle.hoststep.specs.Hosting.{IsNodePlace, NamesNodes, node_name};
@@ -117,7 +116,7 @@ pub(crate) fn kept_event(
     requires delivered { option_map sent_of delivered ≡ delivered_of (step_of event) }
     requires readable { IsReadable (step_of event) }
     ensures step { step_in result ≡ step_of event }
-    ensures filed { (archive : List Sent) → IfSome delivered (IsFiled archive) → IsKeptEvent config.now.nodes archive result }
+    ensures filed { (archive : Archived) → IfSome delivered (IsFiled archive) → IsKeptEvent config.now.nodes archive result }
 {
     if is_large(&event) {
         return KeptEvent::Large(room.fill(event));
@@ -134,7 +133,7 @@ fn kept_small(config: &NetConfig, event: &Event, delivered: Option<Filed>) -> Ke
     requires delivered { option_map sent_of delivered ≡ delivered_of (step_of event.now) }
     requires readable { IsReadable (step_of event.now) }
     ensures step { step_in result ≡ step_of event.now }
-    ensures filed { (archive : List Sent) → IfSome delivered (IsFiled archive) → IsKeptEvent config.now.nodes archive result }
+    ensures filed { (archive : Archived) → IfSome delivered (IsFiled archive) → IsKeptEvent config.now.nodes archive result }
 {
     match event {
         Event::OpenSlot { slot } => KeptEvent::OpenSlot { slot: *slot },
@@ -178,7 +177,7 @@ fn kept_delivery(node: NodePlace, bytes: &Bytes, delivered: Option<Filed>) -> Ke
     requires delivered { option_map sent_of delivered ≡ delivered_of (Delivers (node_name node) (length bytes.now) (reading bytes.now)) }
     requires readable { IsReadable (Delivers (node_name node) (length bytes.now) (reading bytes.now)) }
     ensures step { step_in result ≡ Delivers (node_name node) (length bytes.now) (reading bytes.now) }
-    ensures filed { (nodes : List HostedNode) (archive : List Sent) → IsNodePlace nodes node → IfSome delivered (IsFiled archive) → IsKeptEvent nodes archive result }
+    ensures filed { (nodes : List HostedNode) (archive : Archived) → IsNodePlace nodes node → IfSome delivered (IsFiled archive) → IsKeptEvent nodes archive result }
 {
     let Some(envelope) = delivered else {
         unreachable!()

@@ -2,7 +2,7 @@
 use Rattle.std.specs.Prelude.{◌≡◌, ℕ, true, false, List, [], ◌∷◌, Option, Some, None, slice_set, ⊤}
 use Rattle.types.specs.Statements.{Sent, kind_of}
 use Rattle.envstore.specs.declared.filed.Filed.{Filed}
-use Rattle.envstore.specs.Archives.{IsFiled, sent_of, sents_of}
+use Rattle.envstore.specs.Archives.{Archived, IsFiled, sent_of, sents_of}
 use Rattle.protocol.specs.Rows.{row, with_row, is_taken}
 use Rattle.latest.specs.declared.table.Offer.{Offer}
 use Rattle.latest.specs.declared.table.Put.{Put}
@@ -21,7 +21,7 @@ IsPut old e (Replaced r) new =
     × (sents_of new ≡ with_row e (sents_of old))
 
 -- the archive has the row that was replaced
-abbrev pub IsFiledPut : List Sent → Put → Type 0
+abbrev pub IsFiledPut : Archived → Put → Type 0
 IsFiledPut archive Stale = ⊤
 IsFiledPut archive NoMemory = ⊤
 IsFiledPut archive Added = ⊤

@@ -110,7 +110,8 @@ impl<S: Shelf + Drop> ServedNetwork<S> {
         }
     }
 
-    /// An event, and then all that the other nodes hear of it, until no emission waits.
+    /// An event, and then all that the other nodes hear of it, until no emission waits. Behind an opening and a closing,
+    /// envelopes of closed slots are let go.
     ///
     /// An error says that there is no memory for what is told; some of it happened then.
     pub fn serve(&mut self, event: &Event) -> Result<Served, AllocError>
@@ -125,12 +126,15 @@ impl<S: Shelf + Drop> ServedNetwork<S> {
                 told: following.told,
             }),
             Ok(given) => match given.place {
-                None => Ok(Served {
-                    refused: None,
-                    stale: given.stale,
-                    slot: 0,
-                    told: following.told,
-                }),
+                None => {
+                    self.network.forget_closed();
+                    Ok(Served {
+                        refused: None,
+                        stale: given.stale,
+                        slot: 0,
+                        told: following.told,
+                    })
+                }
                 Some((slot, node)) => {
                     let stale = given.stale;
                     following.note(node, Ok(given))?;

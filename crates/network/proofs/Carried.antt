@@ -1,4 +1,5 @@
 -- From a deed to the step of the network.
+use Rattle.envstore.specs.Archives.{Archived}
 use Rattle.std.proofs.Common.{◌≡◌, ℕ, zero, suc, ◌<◌, ◌≤◌, ◌+◌, ◌^◌, Bool, true, false, not, ◌||◌, ◌==◌, length, take, drop, List, [], ◌∷◌, ◌++◌, map, slice_get, Option, Some, None, option_map, if◌then◌else◌, refl, sym, ◌∙◌, ap, ap₂, subst, inl, inr, arith}
 use Rattle.std.specs.List.{All, AllByRecursion, list_any, remove}
 use Rattle.std.proofs.lemmas.Bool.{false≢true, and_parts, eqb-true}
@@ -29,7 +30,7 @@ use Rattle.network.specs.Deeds.{IsDrawn, IsEventOf, IsNodeOf, IsPlan, IsThere, s
 use Rattle.network.specs.Doings.{IsAnswer, IsDoable, IsDone, marks_after, slots_of}
 use Rattle.network.specs.Lodgings.{AreTallied, IsLodged, IsTallied, IsUncounted, Lodging, Lodgings, Seat, Seats, bytes_from, events_from, instance_in, seat_of, seats_of, slot_of}
 use Rattle.network.specs.Marks.{marks_in, numbers_by_kind, slot_and_node_of, emitted_at, emitted_before}
-use Rattle.network.specs.Standing.{IsStanding, IsStep, IsTidy, Machine, Standing, StandsFor, machine_of, net_of}
+use Rattle.network.specs.Standing.{IsOfSlot, IsStanding, IsStep, IsTidy, Machine, Standing, StandsFor, machine_of, net_of}
 use Rattle.network.specs.declared.applied.Outcome.{Outcome}
 use Rattle.network.specs.declared.plan.Charge.{Charge}
 use Rattle.network.specs.declared.plan.Deed.{Deed}
@@ -43,6 +44,7 @@ use Rattle.network.proofs.KeyPlaces.{map-remove}
 use Rattle.network.proofs.SlotPlaceLaws.{numbers-are}
 use Rattle.network.proofs.Tidiness.{IsFresh, Neat, absent, fresh-of, after_event-name, names_at, neat, same-test, slot_numbers}
 use Rattle.types.proofs.Bools.{not_is}
+use Rattle.network.proofs.OfSlots.{AreOfSlots, of-slots}
 use Rattle.network.proofs.Plans.{at-place, node_named-is, instances_at-is, same-option}
 use Rattle.network.proofs.Emitted.{all-at}
 use Rattle.protocol.proofs.Equality.Sameness.{eqb-refl}
@@ -267,6 +269,22 @@ from-names : (ns : List ℕ) (ss : List Seats) → AllByRecursion (λ (s : Slot)
 from-names ns [] a = tt
 from-names ns (s ∷ ss) a = (sym (node-names s.seats) ∙ a.0, from-names ns ss a.1)
 
+to-own-seats : (i : ℕ) (xs : List Seat) → AllByRecursion (λ (x : Seat). IsOfSlot i x.instance) xs → AllByRecursion (IsOfSlot i) (map node_of xs)
+to-own-seats i [] a = tt
+to-own-seats i (x ∷ xs) a = (a.0, to-own-seats i xs a.1)
+
+to-own : (ss : List Seats) → AllByRecursion (λ (s : Seats). AllByRecursion (λ (x : Seat). IsOfSlot s.number x.instance) s.seats) ss → AreOfSlots (map slot_of ss)
+to-own [] a = tt
+to-own (s ∷ ss) a = (to-own-seats s.number s.seats a.0, to-own ss a.1)
+
+from-own-seats : (i : ℕ) (xs : List Seat) → AllByRecursion (IsOfSlot i) (map node_of xs) → AllByRecursion (λ (x : Seat). IsOfSlot i x.instance) xs
+from-own-seats i [] a = tt
+from-own-seats i (x ∷ xs) a = (a.0, from-own-seats i xs a.1)
+
+from-own : (ss : List Seats) → AreOfSlots (map slot_of ss) → AllByRecursion (λ (s : Seats). AllByRecursion (λ (x : Seat). IsOfSlot s.number x.instance) s.seats) ss
+from-own [] a = tt
+from-own (s ∷ ss) a = (from-own-seats s.number s.seats a.0, from-own ss a.1)
+
 slots-numbers : (ss : List Seats) → slot_numbers (map slot_of ss) ≡ map (λ (s : Seats). s.number) ss
 slots-numbers [] = refl
 slots-numbers (s ∷ ss) = ap (λ (ns : List ℕ). s.number ∷ ns) (slots-numbers ss)
@@ -393,6 +411,9 @@ module _ (m : Standing) (e : Step) (p : Plan) (t : IsStanding m) (plan : IsPlan 
 
       neat-after : Neat m.config.nodes (map slot_of (map seats_of new))
       neat-after = subst (λ ss. Neat m.config.nodes ss) slots-are (neat net e (fresh-of net e allowed) (neat-of (machine_of m) t.tidy))
+
+      own-after : AreOfSlots (map slot_of (map seats_of new))
+      own-after = subst AreOfSlots slots-are (of-slots net e (to-own (map seats_of m.slots) t.tidy.own))
 
   marks-by : (d : Deed) → IsEventOf (machine_of m) e d → outs_after (slots_of m.slots) d ≡ (effect net e).1 → marks_after (slots_of m.slots) d ≡ marks_in net e
   marks-by (Open s) nm os = open-marks net s.number ∙ ap (marks_in net) (sym nm)
@@ -547,7 +568,7 @@ module _ {m : Standing} {e : Step} {p : Plan} (known : IsCarriable m e p) where
   pub doable : IsDoable m.archive (charge_of p) m.slots p.deed
   doable = doable-by p.deed known.plan.named known.plan.there
 
-  module _ (new : List Lodgings) (archive : List Sent) (done : IsDone (charge_of p) p.deed m.slots new) (lodged : All (λ (s : Lodgings). All (IsLodged archive) s.instances) new) where
+  module _ (new : List Lodgings) (archive : Archived) (done : IsDone (charge_of p) p.deed m.slots new) (lodged : All (λ (s : Lodgings). All (IsLodged archive) s.instances) new) where
     tidy-after : IsTidy (carried m p new)
     tidy-after =
         let n = neat-after m e p known.standing known.plan known.standing.stood.0 known.standing.stood.1 new done in
@@ -555,6 +576,7 @@ module _ {m : Standing} {e : Step} {p : Plan} (known : IsCarriable m e p) where
           single = known.standing.tidy.single;
           names = from-names (names_of m.config.nodes) (map seats_of new) n.names;
           apart = ap all_differ (sym (slots-numbers (map seats_of new))) ∙ n.apart;
+          own = from-own (map seats_of new) (own-after m e p known.standing known.plan known.standing.stood.0 known.standing.stood.1 new done);
           bytes = bytes-kept p.drawn known.plan.drawn;
         }
 
@@ -565,7 +587,7 @@ module _ {m : Standing} {e : Step} {p : Plan} (known : IsCarriable m e p) where
         (record { lodged = lodged; tidy = tidy-after; stood = ((net_step stood e).0.draws, (stands-after m e p known.standing known.plan known.standing.stood.0 known.standing.stood.1 new done).tallied) })
 
 -- ---- what carrying out leaves
-pub applied : (m : Standing) (e : Step) (p : Plan) (new : List Lodgings) (archive : List Sent) (events bytes opens count : ℕ) (a : Outcome) → IsStanding m → IsPlan m e p → IsDone (charge_of p) p.deed m.slots new
+pub applied : (m : Standing) (e : Step) (p : Plan) (new : List Lodgings) (archive : Archived) (events bytes opens count : ℕ) (a : Outcome) → IsStanding m → IsPlan m e p → IsDone (charge_of p) p.deed m.slots new
     → events ≡ m.events + on_budgets_of p.drawn 1 → bytes ≡ m.bytes + on_budgets_of p.drawn p.size → opens ≡ m.opens + on_opens_of p.drawn
     → IsAnswer (outs_after (slots_of m.slots) p.deed) (marks_after (slots_of m.slots) p.deed) (envelope_to_file p.deed) count archive a
     → IsApplied m e count (record { config = m.config; archive = archive; slots = new; events = events; bytes = bytes; opens = opens }) a

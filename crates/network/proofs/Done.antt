@@ -2,10 +2,9 @@
 use Rattle.std.proofs.Common.{◌≡◌, ℕ, zero, suc, ◌<◌, List, [], ◌∷◌, ◌++◌, length, map, get_or, set, take, drop, Option, Some, IfSome, slice_get, refl, sym, ◌∙◌, ap, subst, arith}
 use Rattle.std.specs.List.{All, remove}
 use Rattle.std.proofs.lemmas.List.Elements.{All-append, All-cons, All-drop, All-nil, All-set, All-take}
-use Rattle.types.specs.Statements.{Sent}
 use Rattle.types.specs.declared.event.NodeEvent.{NodeEvent}
 use Rattle.protocol.specs.Networks.{Instance, emissions, outs_at}
-use Rattle.envstore.specs.Archives.{Keeps}
+use Rattle.envstore.specs.Archives.{Archived, Keeps}
 use Rattle.network.specs.Charges.{HasRoomFor, IsReady}
 use Rattle.network.specs.Deeds.{instance_at}
 use Rattle.network.specs.Doings.{slots_of}
@@ -35,27 +34,27 @@ seen-at (x ∷ xs) zero h s q = let e : x ≡ s = cc in ap (λ (ps : List Instan
 seen-at (x ∷ xs) (suc k) h s q = seen-at xs k h s q
 
 -- what was lodged is so still
-pub all-still : (old new : List Sent) (xs : List Lodging) → Keeps old new → All (IsLodged old) xs → All (IsLodged new) xs
+pub all-still : (old new : Archived) (xs : List Lodging) → Keeps old new → All (IsLodged old) xs → All (IsLodged new) xs
 all-still old new xs kept all = λ k d l. lodged-still old new (get_or xs k d) kept (all k d l)
 
-pub slots-still : (old new : List Sent) (ss : List Lodgings) → Keeps old new → AreLodged old ss → AreLodged new ss
+pub slots-still : (old new : Archived) (ss : List Lodgings) → Keeps old new → AreLodged old ss → AreLodged new ss
 slots-still old new ss kept all = λ k d l. all-still old new (get_or ss k d).instances kept (all k d l)
 
-pub slots-lodged : (old new : List Sent) (ss : List Lodgings) (k : ℕ) (y : Lodgings) → Keeps old new → All (IsLodged new) y.instances → AreLodged old ss → AreLodged new (set ss k y)
+pub slots-lodged : (old new : Archived) (ss : List Lodgings) (k : ℕ) (y : Lodgings) → Keeps old new → All (IsLodged new) y.instances → AreLodged old ss → AreLodged new (set ss k y)
 slots-lodged old new ss k y kept one all = All-set (λ (s : Lodgings). All (IsLodged new) s.instances) ss k y one (slots-still old new ss kept all)
 
 -- without one slot, and with one more
-pub lodged-less : (archive : List Sent) (ss ts : List Lodgings) (k : ℕ) → ts ≡ remove ss k → AreLodged archive ss → AreLodged archive ts
+pub lodged-less : (archive : Archived) (ss ts : List Lodgings) (k : ℕ) → ts ≡ remove ss k → AreLodged archive ss → AreLodged archive ts
 lodged-less archive ss ts k is all =
     let P = λ (s : Lodgings). All (IsLodged archive) s.instances in
     subst (λ (us : List Lodgings). AreLodged archive us) (sym is) (All-append P (take k ss) (drop (suc k) ss) (All-take P k ss all) (All-drop P (suc k) ss all))
 
-pub lodged-more : (archive : List Sent) (ss ts : List Lodgings) (s : Lodgings) → ts ≡ ss ++ s ∷ [] → All (IsLodged archive) s.instances → AreLodged archive ss → AreLodged archive ts
+pub lodged-more : (archive : Archived) (ss ts : List Lodgings) (s : Lodgings) → ts ≡ ss ++ s ∷ [] → All (IsLodged archive) s.instances → AreLodged archive ss → AreLodged archive ts
 lodged-more archive ss ts s is one all =
     let P = λ (s : Lodgings). All (IsLodged archive) s.instances in
     subst (λ (us : List Lodgings). AreLodged archive us) (sym is) (All-append P ss (s ∷ []) all (All-cons P s [] one (All-nil P)))
 
-pub lodged-same : (archive : List Sent) (ss ts : List Lodgings) → ts ≡ ss → AreLodged archive ss → AreLodged archive ts
+pub lodged-same : (archive : Archived) (ss ts : List Lodgings) → ts ≡ ss → AreLodged archive ss → AreLodged archive ts
 lodged-same archive ss ts is all = subst (λ (us : List Lodgings). AreLodged archive us) (sym is) all
 
 -- the instance of a node

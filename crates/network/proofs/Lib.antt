@@ -6,10 +6,12 @@ mod Drawing
 mod EarlyFaults
 mod Emitted
 mod FewOuts
+mod Forgetting
 mod Handings
 mod Indexes
 pub mod KeyPlaces
 mod NumberedOuts
+mod OfSlots
 mod Openings
 mod Placed
 pub mod Planned

@@ -1,7 +1,7 @@
 -- Plans to open and to close a slot, and refusals.
+use Rattle.envstore.specs.Archives.{Archived}
 use Rattle.std.proofs.Common.{◌≡◌, ℕ, ◌<◌, Bool, true, false, not, nat_lt, List, [], ◌∷◌, ◌++◌, length, map, Option, Some, None, is_some, Ok, Err, refl, sym, ◌∙◌, ap, subst}
 use Rattle.std.specs.List.{All}
-use Rattle.types.specs.Statements.{Sent}
 use Rattle.types.specs.declared.event.Refusal.{Refusal}
 use Rattle.types.specs.declared.event.Refusal.TheVariants.{SlotNotOpen, SlotOpenAlready, TooManySlots}
 use Rattle.protocol.specs.Networks.{Net, Instance, Slot, effect, first_that, room_test, is_open, instances_of_new_slot, source, tests}
@@ -64,7 +64,7 @@ seats-instances [] = refl
 seats-instances (l ∷ ls) = ap (λ (ps : List Instance). instance_in l ∷ ps) (seats-instances ls)
 
 pub opens-plan : (m : Standing) (i : ℕ) (d : Drawn) (x : Lodgings) → index_of_slot (map slot_of (machine_of m).slots) i ≡ None → not (nat_lt (length m.slots) m.config.budgets.slots) ≡ false → IsRoom m (λ o. source o (Opens i)) (Ok d)
-    → x.number ≡ i → map instance_in x.instances ≡ instances_of_new_slot m.config.nodes i → ((archive : List Sent) → All (IsLodged archive) x.instances) → All IsUncounted x.instances → IsPlan m (Opens i) (record { deed = Open x; drawn = d; size = 0 })
+    → x.number ≡ i → map instance_in x.instances ≡ instances_of_new_slot m.config.nodes i → ((archive : Archived) → All (IsLodged archive) x.instances) → All IsUncounted x.instances → IsPlan m (Opens i) (record { deed = Open x; drawn = d; size = 0 })
 unfolding effect
 opens-plan m i d x q l room number instances lodged counts = record {
   allowed = opens-allowed m i d q l room;

@@ -4,14 +4,14 @@ use Rattle.std.specs.List.{All}
 use Rattle.std.proofs.lemmas.List.{get_or-map}
 use Rattle.std.proofs.lemmas.List.Elements.{All-append, All-cons, All-nil, All-set}
 use Rattle.std.proofs.lemmas.Option.{slice_get_read}
-use Rattle.types.specs.Statements.{Sent}
+use Rattle.types.specs.Trees.{Slices}
 use Rattle.types.specs.declared.event.NodeEvent.{NodeEvent}
 use Rattle.std.proofs.Math.Seq.{drop-cons}
 use Rattle.std.proofs.lemmas.List.{map-append}
-use Rattle.protocol.specs.Nodes.{fresh}
+use Rattle.protocol.specs.Nodes.{Node, fresh}
 use Rattle.protocol.specs.Networks.{HostedNode, Instance, instances_of_new_slot}
 use Rattle.envstore.specs.declared.filed.Filed.{Filed}
-use Rattle.envstore.specs.Archives.{AreFiled, IsFiled, Keeps}
+use Rattle.envstore.specs.Archives.{Archived, AreFiled, IsFiled, Keeps, sents_of}
 use Rattle.protocol.specs.Hosts.{Config}
 use Rattle.protocol.specs.Sets.{IsAscending}
 use Rattle.network.specs.Changes.{IsChangedAt}
@@ -41,23 +41,26 @@ pub got : (old : List Lodging) (at : ℕ) (x : Lodging) → at < length old → 
 got old at x l is = slice_get_read (map instance_in old) (length (map instance_in old)) at (instance_in x) refl (subst (λ n. at < n) (sym (mapped old)) l) (here old at x l is)
 
 -- what is lodged stays so
-pub lodged-still : (old new : List Sent) (x : Lodging) → Keeps old new → IsLodged old x → IsLodged new x
+pub lodged-still : (old new : Archived) (x : Lodging) → Keeps old new → IsLodged old x → IsLodged new x
 lodged-still old new x kept h = record {
+  table = h.table;
   rows = λ k d l. kept (get_or x.held.rows k d) (h.rows k d l);
   emitted = λ k d l. kept (get_or x.emitted k d) (h.emitted k d l);
 }
 
-pub all-lodged : (old new : List Sent) (xs : List Lodging) (at : ℕ) (y : Lodging) → Keeps old new → IsLodged new y → All (IsLodged old) xs → All (IsLodged new) (set xs at y)
+pub all-lodged : (old new : Archived) (xs : List Lodging) (at : ℕ) (y : Lodging) → Keeps old new → IsLodged new y → All (IsLodged old) xs → All (IsLodged new) (set xs at y)
 all-lodged old new xs at y kept one all = All-set (IsLodged new) xs at y one (λ k d l. lodged-still old new (get_or xs k d) kept (all k d l))
 
 -- a node that has taken and emitted nothing
-pub fresh-lodged : (archive : List Sent) (x : Lodging) → x.held.rows ≡ [] → x.emitted ≡ [] → IsLodged archive x
-fresh-lodged archive x rows emitted = record {
+pub fresh-lodged : (archive : Archived) (x : Lodging) (i u : ℕ) (q : Slices) → x.held.node ≡ fresh i u q → x.held.rows ≡ [] → x.emitted ≡ [] → IsLodged archive x
+unfolding fresh
+fresh-lodged archive x i u q node rows emitted = record {
+  table = ap (λ (n : Node). n.table) node ∙ sym (ap sents_of rows);
   rows = subst (λ (fs : List Filed). AreFiled archive fs) (sym rows) (All-nil (IsFiled archive));
   emitted = subst (λ (fs : List Filed). AreFiled archive fs) (sym emitted) (All-nil (IsFiled archive));
 }
 
-pub one-more : (archive : List Sent) (xs ys : List Lodging) (x : Lodging) → ys ≡ xs ++ x ∷ [] → IsLodged archive x → All (IsLodged archive) xs → All (IsLodged archive) ys
+pub one-more : (archive : Archived) (xs ys : List Lodging) (x : Lodging) → ys ≡ xs ++ x ∷ [] → IsLodged archive x → All (IsLodged archive) xs → All (IsLodged archive) ys
 one-more archive xs ys x is one all = subst (λ (zs : List Lodging). All (IsLodged archive) zs) (sym is) (All-append (IsLodged archive) xs (x ∷ []) all (All-cons (IsLodged archive) x [] one (All-nil (IsLodged archive))))
 
 pub one-more-uncounted : (xs ys : List Lodging) (x : Lodging) → ys ≡ xs ++ x ∷ [] → x.own ≡ 0 → x.heard ≡ [] → All IsUncounted xs → All IsUncounted ys
@@ -77,9 +80,9 @@ instances_of_new_slot-more old new start nodes i n h x l is more made before =
     ∙ sym (ap (λ (ps : List Instance). map instance_in old ++ ps) next) ∙ before
 
 -- a network where nothing has happened
-pub fresh-standing : (config : Config) (archive : List Sent) (slots : List Lodgings) → slots ≡ [] → IsAscending (names_of config.nodes) → IsStanding (record { config = config; archive = archive; slots = slots; events = 0; bytes = 0; opens = 0 })
+pub fresh-standing : (config : Config) (archive : Archived) (slots : List Lodgings) → slots ≡ [] → IsAscending (names_of config.nodes) → IsStanding (record { config = config; archive = archive; slots = slots; events = 0; bytes = 0; opens = 0 })
 fresh-standing config archive slots none up = subst (λ (ss : List Lodgings). IsStanding (record { config = config; archive = archive; slots = ss; events = 0; bytes = 0; opens = 0 })) (sym none) (record {
   lodged = All-nil (λ (s : Lodgings). All (IsLodged archive) s.instances);
-  tidy = record { single = names-differ (names_of config.nodes) up; names = tt; apart = refl; bytes = omega arith };
+  tidy = record { single = names-differ (names_of config.nodes) up; names = tt; apart = refl; own = tt; bytes = omega arith };
   stood = ([], All-nil (λ (s : Seats). All (IsTallied s.number []) s.seats));
 })

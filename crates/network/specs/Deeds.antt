@@ -2,6 +2,7 @@
 use Rattle.std.specs.Prelude.{◌≡◌, ℕ, Bool, true, false, ◌<◌, length, map, List, [], ◌∷◌, ◌++◌, slice_get, Option, Some, None, Result, Ok, Err, ⊤}
 use Rattle.std.specs.List.{All, remove}
 use Rattle.types.specs.Statements.{Sent}
+use Rattle.envstore.specs.Archives.{Archived}
 use Rattle.types.specs.declared.event.NodeEvent.{NodeEvent}
 use Rattle.types.specs.declared.event.Out.{Out}
 use Rattle.types.specs.declared.event.Refusal.{Refusal}
@@ -56,7 +57,7 @@ abbrev pub IsNodeThere : List Slot → ℕ → ℕ → Type 0
 IsNodeThere slots k h = (s : Slot) × (slice_get slots k ≡ Some s) × (h < length s.instances)
 
 -- the places are there; the nodes of a slot that is opened have drawn nothing
-abbrev pub IsThere : List Sent → List Slot → Deed → Type 0
+abbrev pub IsThere : Archived → List Slot → Deed → Type 0
 IsThere archive slots (Open s) = All (IsLodged archive) s.instances × All IsUncounted s.instances
 IsThere archive slots (Close k) = k < length slots
 IsThere archive slots (Act k h e) = IsNodeThere slots k h × IsFiledEvent archive e

@@ -6,7 +6,7 @@ use Rattle.types.specs.Trees.{all_differ}
 use Rattle.types.specs.declared.event.NodeEvent.{NodeEvent}
 use Rattle.types.specs.declared.event.Out.{Out}
 use Rattle.protocol.specs.Networks.{Slot, emissions}
-use Rattle.envstore.specs.Archives.{IsFiled, sent_of}
+use Rattle.envstore.specs.Archives.{Archived, IsFiled, sent_of}
 use Rattle.slot.specs.Filings.{AreFiledOuts, IsFiledEvent, copies_of, event_of, outs_of}
 use Rattle.configuration.specs.Configs.{index_in}
 use Rattle.network.specs.Charges.{IsReady, IsSlotActed}
@@ -26,7 +26,7 @@ slots_of slots = map slot_of (map seats_of slots)
 
 -- what is read at its places is there, and the archive has what it speaks of; no open slot has the number of one that
 -- is opened, and no two have one number where one is closed
-abbrev pub IsDoable : List Sent → Charge → List Lodgings → Deed → Type 0
+abbrev pub IsDoable : Archived → Charge → List Lodgings → Deed → Type 0
 IsDoable archive c slots (Open s) = All (IsLodged archive) s.instances × (index_in (numbers_of slots) s.number ≡ None)
 IsDoable archive c slots (Close k) = (k < length slots) × (all_differ (numbers_of slots) ≡ true)
 IsDoable archive c slots (Act k h e) = IsReady c slots k h × IsFiledEvent archive e
@@ -49,7 +49,7 @@ marks_after slots (Hand k h e) =
     numbers_by_kind (emitted_at (instance_at (slice_get slots k) h)) (emissions (outs_after slots (Hand k h e)))
 
 -- what is given out, its marks, so many whole copies, and what was filed
-pub record IsAnswer (outs : List Out) (marks : List ℕ) (delivered : Option Sent) (count : ℕ) (archive : List Sent)
+pub record IsAnswer (outs : List Out) (marks : List ℕ) (delivered : Option Sent) (count : ℕ) (archive : Archived)
     (a : Outcome) : Type 0 where
   pub outs_are : outs_of a.outs.items ≡ outs
   pub marks_are : a.marks.items ≡ marks

@@ -2,12 +2,11 @@
 use Rattle.std.specs.Prelude.{◌≡◌, ℕ, ◌≤◌, ◌+◌, ◌==◌, List, [], ◌∷◌, map, Vec, vec_len, vec_capacity, if◌then◌else◌}
 use Rattle.std.specs.Global.{Global}
 use Rattle.std.specs.List.{All}
-use Rattle.types.specs.Statements.{Sent}
 use Rattle.types.specs.declared.event.Out.{Out}
 use Rattle.protocol.specs.Networks.{Instance, Slot}
 use Rattle.protocol.specs.Rosters.{Draw, bytes_drawn, events_drawn}
 use Rattle.protocol.specs.Rosters.Share.{Own, Pair}
-use Rattle.envstore.specs.Archives.{AreFiled, sents_of}
+use Rattle.envstore.specs.Archives.{Archived, AreFiled, sents_of}
 use Rattle.envstore.specs.declared.filed.Filed.{Filed}
 use Rattle.slot.specs.Filings.{copies_of, outs_of}
 use Rattle.slot.specs.Listening.{Held}
@@ -41,8 +40,9 @@ pub record IsUncounted (l : Lodging) : Type 0 where
   pub own : l.own ≡ 0
   pub heard : l.heard ≡ []
 
--- the archive has its rows and what it has emitted
-pub record IsLodged (archive : List Sent) (l : Lodging) : Type 0 where
+-- its rows are those of its table; the archive has them, and what it has emitted
+pub record IsLodged (archive : Archived) (l : Lodging) : Type 0 where
+  pub table : l.held.node.table ≡ sents_of l.held.rows
   pub rows : AreFiled archive l.held.rows
   pub emitted : AreFiled archive l.emitted
 
@@ -61,7 +61,7 @@ seats_of s = record { number = s.number; seats = map seat_of s.instances }
 abbrev pub slot_of : Seats → Slot
 slot_of s = record { number = s.number; instances = map (λ x. x.instance) s.seats }
 
-abbrev pub AreLodged : List Sent → List Lodgings → Type 0
+abbrev pub AreLodged : Archived → List Lodgings → Type 0
 AreLodged archive slots = All (λ s. All (IsLodged archive) s.instances) slots
 
 -- ---- what was drawn on shares

@@ -1,7 +1,7 @@
 -- A network as the host keeps it, and the networks of the definitions that it stands for.
+use Rattle.envstore.specs.Archives.{Archived}
 use Rattle.std.specs.Prelude.{◌≡◌, ◌⊎◌, ℕ, ◌≤◌, ◌==◌, ◌||◌, Bool, true, false, List, map, option_map, Option, Some, None}
 use Rattle.std.specs.List.{AllByRecursion}
-use Rattle.types.specs.Statements.{Sent}
 use Rattle.types.specs.Trees.{Slices, all_differ}
 use Rattle.types.specs.declared.event.Out.{Out}
 use Rattle.types.specs.declared.event.Refusal.{Refusal}
@@ -11,7 +11,7 @@ use Rattle.codec.specs.Spelling.{most_bytes}
 use Rattle.codec.specs.declared.error.Fault.TheVariants.{Version, Kind}
 use Rattle.protocol.specs.Hosts.{Config}
 use Rattle.protocol.specs.Nodes.{Node}
-use Rattle.protocol.specs.Networks.{HostedNode, Net, Reading, Step, first_that, node_where_open, net_step, instances_at, tests}
+use Rattle.protocol.specs.Networks.{HostedNode, Instance, Net, Reading, Step, first_that, node_where_open, net_step, instances_at, tests}
 use Rattle.protocol.specs.Networks.Reading.{Read, Fault}
 use Rattle.protocol.specs.Networks.Reply.{Done}
 use Rattle.protocol.specs.Networks.Step.{Delivers}
@@ -30,7 +30,7 @@ pub record Machine : Type 0 where
 -- the same, its envelopes as they lie in its archive
 pub record Standing : Type 0 where
   pub config : Config
-  pub archive : List Sent
+  pub archive : Archived
   pub slots : List Lodgings
   pub events : ℕ
   pub bytes : ℕ
@@ -60,12 +60,19 @@ pub record StandsFor (m : Machine) (net : Net) : Type 0 where
   pub is : net ≡ net_of m net.draws
   pub tallied : AreTallied net.draws m.slots
 
--- no name is hosted twice; the hosted nodes stand in their order at each open slot; no slot is open twice; the bytes
--- keep the budget
+-- a node of a slot: its rows, and what it has emitted, are of that slot
+pub record IsOfSlot (i : ℕ) (p : Instance) : Type 0 where
+  pub node : p.node.slot ≡ i
+  pub rows : AllByRecursion (λ e. e.slot ≡ i) p.node.table
+  pub emitted : AllByRecursion (λ e. e.slot ≡ i) p.emitted
+
+-- no name is hosted twice; the hosted nodes stand in their order at each open slot; no slot is open twice; each
+-- node is of its slot; the bytes keep the budget
 pub record IsTidy (m : Machine) : Type 0 where
   pub single : all_differ (names_of m.config.nodes) ≡ true
   pub names : AllByRecursion (λ s. map (λ x. x.instance.node.name) s.seats ≡ names_of m.config.nodes) m.slots
   pub apart : all_differ (map (λ s. s.number) m.slots) ≡ true
+  pub own : AllByRecursion (λ s. AllByRecursion (λ x. IsOfSlot s.number x.instance) s.seats) m.slots
   pub bytes : m.bytes ≤ m.config.budgets.bytes
 
 -- it stands for some network

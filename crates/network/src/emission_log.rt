@@ -2,8 +2,8 @@
 
 ghost use Rattle.std.specs.Prelude.{◌≡◌, ◌≤◌, ◌<◌, ◌+◌, ◌++◌, ◌∷◌, [], IfOk, IfSome, List, OnErr, OnOk, ℕ, if◌then◌else◌, length, option_map, slice_get};
 ghost use Rattle.std.specs.Vec.{vec_capacity, vec_len};
-ghost use Rattle.envstore.specs.Archives.{AreFiled, IsFiled, Keeps, sent_of, sents_of};
-ghost use Rattle.types.specs.Statements.{Sent, kind_of};
+ghost use Rattle.envstore.specs.Archives.{Archived, AreFiled, IsFiled, Keeps, sent_of, sents_of};
+ghost use Rattle.types.specs.Statements.{kind_of};
 ghost use Rattle.types.specs.declared.kind.Kind.TheVariants.{Nomination, Ballot};
 ghost use Rattle.protocol.specs.Networks.{emissions};
 ghost use Rattle.protocol.specs.Nodes.{step};
@@ -87,7 +87,7 @@ impl EmissionLog {
     /// The emission of a kind with this number, from 1 on.
     pub(crate) fn emission(&self, kind: Kind, number: u64) -> Option<&Filed>
         ensures sent { option_map (λ f. sent_of f.now) result ≡ nth_of kind number (sents_of self.now) }
-        ensures filed { (archive : List Sent) → AreFiled archive self.now → IfSome result (λ f. IsFiled archive f.now) }
+        ensures filed { (archive : Archived) → AreFiled archive self.now → IfSome result (λ f. IsFiled archive f.now) }
     {
         if number == 0 {
             return None;

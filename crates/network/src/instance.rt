@@ -1,8 +1,7 @@
 //! A hosted node at a slot.
 
 ghost use Rattle.std.specs.Prelude.{◌≡◌, ◌++◌, [], IfOk, IfSome, List, OnErr, OnOk, Some, option_map};
-ghost use Rattle.types.specs.Statements.{Sent};
-ghost use Rattle.envstore.specs.Archives.{AreFiled, IsFiled, Keeps, sent_of, sents_of};
+ghost use Rattle.envstore.specs.Archives.{Archived, AreFiled, IsFiled, Keeps, sent_of, sents_of};
 ghost use Rattle.protocol.specs.Networks.{emissions, has_proposal, after_event};
 ghost use Rattle.protocol.specs.Nodes.{fresh, step};
 ghost use Rattle.network.specs.Marks.{numbers_by_kind};
@@ -82,7 +81,7 @@ impl Instance {
     /// The node's emission of a kind with this number, from 1 on.
     pub(crate) fn emission(&self, kind: Kind, number: u64) -> Option<&Filed>
         ensures sent { option_map (λ f. sent_of f.now) result ≡ nth_of kind number (instance_in self.now).emitted }
-        ensures filed { (archive : List Sent) → IsLodged archive self.now → IfSome result (λ f. IsFiled archive f.now) }
+        ensures filed { (archive : Archived) → IsLodged archive self.now → IfSome result (λ f. IsFiled archive f.now) }
     {
         self.emitted.emission(kind, number)
     }
@@ -138,6 +137,7 @@ impl Instance {
             return Err(AllocError);
         };
         let noted = emitted.advance(archive, node, event, terms.copies)?;
+        node.rows_are_its_table();
         count(own, heard, &terms.charge);
         Ok(noted)
     }

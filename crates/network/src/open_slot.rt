@@ -2,14 +2,13 @@
 
 ghost use Rattle.std.specs.Prelude.{◌≡◌, ◌<◌, IfOk, IfSome, List, OnErr, OnOk, length, map, slice_get};
 ghost use Rattle.std.specs.List.{All};
-ghost use Rattle.envstore.specs.Archives.{Keeps};
+ghost use Rattle.envstore.specs.Archives.{Archived, Keeps};
 ghost use Rattle.protocol.specs.Networks.{emissions, instances_of_new_slot, outs_at};
 ghost use Rattle.network.specs.Marks.{numbers_by_kind, emitted_at};
 ghost use Rattle.slot.specs.Filings.{AreFiledOuts, IsFiledEvent, event_of};
 ghost use Rattle.network.specs.Changes.{IsChangedAt};
 ghost use Rattle.network.specs.Charges.{HasRoomFor, IsActed};
 ghost use Rattle.network.specs.Lodgings.{IsGiven, IsLodged, IsUncounted, instance_in};
-ghost use Rattle.types.specs.Statements.{Sent};
 
 use crate::emission_log::NumberedOuts;
 use crate::instance::Instance;
@@ -49,7 +48,7 @@ impl OpenSlot {
     ) -> Result<OpenSlot, AllocError>
         ensures number { IfOk result (λ s. s.number ≡ number) }
         ensures instances { IfOk result (λ s. map instance_in s.instances ≡ instances_of_new_slot config.now.nodes number) }
-        ensures lodged { IfOk result (λ s. (archive : List Sent) → All (IsLodged archive) s.instances) }
+        ensures lodged { IfOk result (λ s. (archive : Archived) → All (IsLodged archive) s.instances) }
         ensures counts { IfOk result (λ s. All IsUncounted s.instances) }
     {
         let instances = fresh_instances(alloc, number, config.nodes())?;
@@ -102,7 +101,7 @@ fn fresh_instances(
     nodes: &[HostedNode],
 ) -> Result<Vec<Instance>, AllocError>
     ensures instances { IfOk result (λ v. map instance_in v.items ≡ instances_of_new_slot nodes.now number) }
-    ensures lodged { IfOk result (λ v. (archive : List Sent) → All (IsLodged archive) v.items) }
+    ensures lodged { IfOk result (λ v. (archive : Archived) → All (IsLodged archive) v.items) }
     ensures counts { IfOk result (λ v. All IsUncounted v.items) }
 {
     let mut instances = Vec::with_capacity(alloc, nodes.len())?;

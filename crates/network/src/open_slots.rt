@@ -8,6 +8,7 @@ ghost use Rattle.network.specs.SlotPlaces.{numbers_of};
 
 use crate::open_slot::OpenSlot;
 use crate::slot_index::SlotIndex;
+use envstore::Slots;
 use std::alloc::{AllocError, Global};
 use std::marker::Model;
 
@@ -38,6 +39,18 @@ impl Model for OpenSlots {
     ghost view = { λ s. s.slots.items };
 
     ghost invariant = { λ s. AreIndexed s.slots.items s.index };
+}
+
+impl Slots for OpenSlots {
+    ghost use Rattle.std.specs.Prelude.{is_some};
+    ghost use Rattle.configuration.specs.Configs.{index_in};
+    ghost use Rattle.network.specs.SlotPlaces.{numbers_of};
+
+    ghost is_among = { λ s i. is_some (index_in (numbers_of s) i) };
+
+    fn contains(&self, slot: u64) -> bool {
+        self.place(slot).is_some()
+    }
 }
 
 impl OpenSlots {

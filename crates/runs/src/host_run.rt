@@ -25,7 +25,7 @@ ghost use Rattle.requests.specs.declared.request.Request.TheVariants.{Apply, Set
 use crate::followed::turn_of;
 use crate::nets::Nets;
 use crate::replies::{replies, reply};
-use envstore::VecShelf;
+use envstore::BoxShelf;
 use network::Emission;
 use requests::{Order, Request, line_of_refusal, order_of};
 use scripts::{LineError, LineRunner};
@@ -41,7 +41,7 @@ mod serving;
 #[derive(Drop)]
 pub struct HostRun {
     nets: Nets,
-    world: World<VecShelf>,
+    world: World<BoxShelf>,
 }
 
 impl Model for HostRun {
@@ -69,7 +69,7 @@ impl HostRun {
 
     /// The journals of the networks that an event has named, and after [`HostRun::finish`] of all that are
     /// declared with nodes.
-    pub fn world(&self) -> &World<VecShelf>
+    pub fn world(&self) -> &World<BoxShelf>
         ensures { result.now ≡ self.now.logs }
     {
         &self.world

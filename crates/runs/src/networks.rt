@@ -4,7 +4,7 @@ ghost use Rattle.std.specs.Prelude.{◌≡◌, OnOk};
 
 use configuration::NetConfig;
 use crowds::Submission;
-use envstore::VecShelf;
+use envstore::BoxShelf;
 use std::alloc::{AllocError, Global};
 use world::{MAX_NETWORKS, World};
 
@@ -20,7 +20,7 @@ pub(crate) trait Networks {
         ensures { OnOk result (self.new ≡ joins config self.old) };
 }
 
-impl Networks for World<VecShelf> {
+impl Networks for World<BoxShelf> {
     ghost use Rattle.runs.specs.Hosting.{logs_joined};
 
     ghost joins = { logs_joined };
@@ -30,7 +30,7 @@ impl Networks for World<VecShelf> {
         if self.journal(config.number()).is_some() || self.journals().len() >= MAX_NETWORKS {
             return Ok(());
         }
-        match self.add(config, VecShelf::new(alloc)) {
+        match self.add(config, BoxShelf::new(alloc)) {
             Ok(()) => Ok(()),
             // Memory: there is room for the network, and none of its number.
             Err(_) => Err(AllocError),

@@ -6,7 +6,7 @@ ghost use Rattle.runs.specs.Unprinted.{IsFinishedUnprinted, origin_in, trace_aft
 
 use crate::host_run::HostRun;
 use crate::trace::Trace;
-use envstore::VecShelf;
+use envstore::BoxShelf;
 use scripts::{LineError, LineRunner};
 use std::alloc::{AllocError, Global};
 use std::marker::Model;
@@ -64,7 +64,7 @@ impl UnprintedRun {
 
     /// The journals of the networks that an event has named, and after [`UnprintedRun::finish`] of all that are
     /// declared with nodes.
-    pub fn world(&self) -> &World<VecShelf>
+    pub fn world(&self) -> &World<BoxShelf>
         ensures { result.now ≡ self.now.hosting.logs }
     {
         self.run.world()

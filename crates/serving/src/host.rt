@@ -14,7 +14,7 @@ use crate::all::{closing_of_answers, deed_of_all, push_answers, serve_each};
 use crate::block::{Closing, Place, push_closing, push_served};
 use crate::deeds::{deed_of, done_to, drawn_between};
 use configuration::NetConfig;
-use envstore::{Shelf, VecShelf};
+use envstore::{BoxShelf, Shelf};
 use feed::{Answer, Deed, Done, LineServer};
 use live::ServedNetwork;
 use questions::{Left, all_left, left_of, push_left, push_node};
@@ -35,7 +35,7 @@ pub struct LiveHost {
     alloc: Global,
     bytes: bool,
     waiting: Waiting,
-    running: BTreeMap<u32, ServedNetwork<VecShelf>>,
+    running: BTreeMap<u32, ServedNetwork<BoxShelf>>,
 }
 
 impl Model for LiveHost {
@@ -250,7 +250,7 @@ impl LiveHost {
         ensures waiting { self.new.waiting ≡ self.old.waiting }
         ensures running { OnOk result (self.new.running ≡ insert_entry nat_cmp self.old.running number (begun config)) }
     {
-        let network = ServedNetwork::new(self.alloc, config, VecShelf::new(self.alloc))?;
+        let network = ServedNetwork::new(self.alloc, config, BoxShelf::new(self.alloc))?;
         match self.running.insert(number, network) {
             Ok(_) => Ok(()),
             // Memory: the map has no room.

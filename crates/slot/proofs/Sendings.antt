@@ -1,4 +1,5 @@
 -- What a node emits is its own: it carries the node's name, its slot and its configured slices, and what is filed is a whole envelope.
+use Rattle.envstore.specs.Archives.{Archived}
 use Rattle.std.proofs.Common.{◌≡◌, ◌++◌, Bool, true, false, not, ◌&&◌, ◌==◌, List, [], ◌∷◌, Option, Some, None, Result, Ok, Err, IfOk, OnOk, is_none, if◌then◌else◌, refl, sym, ◌∙◌, ap, subst, inl, inr, arith}
 use Rattle.std.specs.Prelude.{⊤}
 use Rattle.std.specs.List.{Contains}
@@ -109,19 +110,19 @@ IsWhole (ArmBallot b) = ⊤
 IsWhole (Emit e) = IsEnvelope e
 IsWhole (Decided x) = ⊤
 
-filed-whole : (archive : List Sent) (o : FiledOut) → IsFiledOut archive o → IsWhole (out_of o)
+filed-whole : (archive : Archived) (o : FiledOut) → IsFiledOut archive o → IsWhole (out_of o)
 unfolding IsWhole
 filed-whole archive (FiledRound r) h = tt
 filed-whole archive (FiledCounter b) h = tt
 filed-whole archive (FiledEmit f) h = h.1
 filed-whole archive (FiledValue x) h = tt
 
-all-whole : (archive : List Sent) (os : List FiledOut) → AreFiledOuts archive os → (e : Sent) → Contains (outs_of os) (Emit e) → IsEnvelope e
+all-whole : (archive : Archived) (os : List FiledOut) → AreFiledOuts archive os → (e : Sent) → Contains (outs_of os) (Emit e) → IsEnvelope e
 unfolding IsWhole
 all-whole archive os h e c = All-contains IsWhole (outs_of os) (Emit e) (All-map IsWhole out_of os (λ k d lt. filed-whole archive _ (h k d lt))) c
 
 -- what the answer to an event emits is the node's own
-pub emitted-own : {E : Type 0} (n new : Node) (archive : List Sent) (event : NodeEvent) (r : Result GivenOut E) → OnOk r (new ≡ (step n event).0) → IfOk r (λ v. outs_of v.outs.items ≡ (step n event).1)
+pub emitted-own : {E : Type 0} (n new : Node) (archive : Archived) (event : NodeEvent) (r : Result GivenOut E) → OnOk r (new ≡ (step n event).0) → IfOk r (λ v. outs_of v.outs.items ≡ (step n event).1)
     → IfOk r (λ v. AreFiledOuts archive v.outs.items) → IfOk r (λ v. (e : Sent) → Contains (outs_of v.outs.items) (Emit e) → IsSentBy new e)
 emitted-own n new archive event (Ok v) node is filed = λ e c.
     let own : Carries new e = subst (λ (m : Node). Carries m e) (sym node) ((step-own n event).all e (subst (λ os. Contains os (Emit e)) is c)) in

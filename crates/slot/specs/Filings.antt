@@ -1,10 +1,10 @@
 -- Events and outs whose envelopes lie in an archive, and what they stand for.
 use Rattle.std.specs.Prelude.{◌≡◌, ℕ, List, [], ◌∷◌, map, replicate, ⊤}
 use Rattle.std.specs.List.{All}
-use Rattle.types.specs.Statements.{Sent, IsEnvelope}
+use Rattle.types.specs.Statements.{IsEnvelope}
 use Rattle.types.specs.declared.event.NodeEvent.{NodeEvent}
 use Rattle.types.specs.declared.event.Out.{Out}
-use Rattle.envstore.specs.Archives.{IsFiled, sent_of}
+use Rattle.envstore.specs.Archives.{Archived, IsFiled, sent_of}
 use Rattle.slot.specs.declared.filed.FiledEvent.{FiledEvent}
 use Rattle.slot.specs.declared.filed.FiledEvent.TheVariants.{Propose, Take, NominationTimer, BallotTimer, Reslice}
 use Rattle.slot.specs.declared.filed.FiledOut.{FiledOut}
@@ -20,7 +20,7 @@ event_of (BallotTimer n) = NodeEvent.BallotTimer n
 event_of (Reslice q) = NodeEvent.Reslice q
 
 -- the archive has its envelope
-abbrev pub IsFiledEvent : List Sent → FiledEvent → Type 0
+abbrev pub IsFiledEvent : Archived → FiledEvent → Type 0
 IsFiledEvent archive (Propose x) = ⊤
 IsFiledEvent archive (Take f) = IsFiled archive f
 IsFiledEvent archive (NominationTimer r) = ⊤
@@ -38,13 +38,13 @@ abbrev pub outs_of : List FiledOut → List Out
 outs_of os = map out_of os
 
 -- the archive has its envelope, whose widths and rules are kept
-abbrev pub IsFiledOut : List Sent → FiledOut → Type 0
+abbrev pub IsFiledOut : Archived → FiledOut → Type 0
 IsFiledOut archive (ArmNomination r) = ⊤
 IsFiledOut archive (ArmBallot n) = ⊤
 IsFiledOut archive (Emit f) = IsFiled archive f × IsEnvelope (sent_of f)
 IsFiledOut archive (Externalized x) = ⊤
 
-abbrev pub AreFiledOuts : List Sent → List FiledOut → Type 0
+abbrev pub AreFiledOuts : Archived → List FiledOut → Type 0
 AreFiledOuts archive os = All (IsFiledOut archive) os
 
 -- so many whole copies; of nothing none is made

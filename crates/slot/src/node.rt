@@ -7,7 +7,7 @@ ghost use Rattle.protocol.specs.Claims.{IsQuiet};
 ghost use Rattle.protocol.specs.Reach.{HoldsReach};
 ghost use Rattle.protocol.specs.Limits.{ComesOfEvents};
 ghost use Rattle.protocol.specs.Sets.{Names, among};
-ghost use Rattle.envstore.specs.Archives.{AreFiled, IsFiled, Keeps, sent_of};
+ghost use Rattle.envstore.specs.Archives.{AreFiled, IsFiled, Keeps, sent_of, sents_of};
 ghost use Rattle.slot.specs.Filings.{AreFiledOuts, HasCopies, IsFiledEvent, event_of, outs_of};
 ghost use Rattle.slot.specs.Listening.{AddsRowAlone};
 ghost use Rattle.slot.specs.NodeParts.{ChangesTo, IsSentBy};
@@ -102,6 +102,13 @@ impl Node {
                 Err(error)
             }
         }
+    }
+
+    /// A law: its rows are those of its table.
+    pub fn rows_are_its_table(&self)
+        ensures { self.now.node.table ≡ sents_of self.now.rows }
+    {
+        let _listener = &self.listener;
     }
 
     /// Its name.

@@ -11,7 +11,7 @@ ghost use Rattle.protocol.specs.Reach.{IsReach};
 ghost use Rattle.tables.specs.Listeners.{IsBacked};
 ghost use Rattle.view.specs.Knowing.{IsKnown};
 
-use envstore::{Archive, Places, VecShelf};
+use envstore::{Archive, BoxShelf, Places};
 use fedvote::{Claim, Question, Sight};
 use latest::Rows;
 use listening::{Configured, Listener};
@@ -43,7 +43,7 @@ pub enum Taken {
 #[derive(Drop)]
 pub struct TableListener {
     listener: Listener,
-    archive: Archive<VecShelf>,
+    archive: Archive<BoxShelf>,
 }
 
 impl Model for TableListener {
@@ -69,7 +69,7 @@ impl TableListener {
     {
         TableListener {
             listener: Listener::new(alloc, configured),
-            archive: Archive::new(alloc, VecShelf::new(alloc)),
+            archive: Archive::new(alloc, BoxShelf::new(alloc)),
         }
     }
 
@@ -81,7 +81,7 @@ impl TableListener {
     }
 
     /// The rows.
-    pub fn rows(&self) -> Rows<'_, VecShelf>
+    pub fn rows(&self) -> Rows<'_, BoxShelf>
         ensures { result ≡ self.now.rows }
     {
         Rows::of(self.listener.table(), &self.archive)

@@ -7,7 +7,7 @@ ghost use Rattle.cells.specs.Cells.{IsSeatOf};
 use crate::fixtures::{config, proposal};
 use cells::{Cell, CellRefusal, CellUsers, Seat};
 use decisions::{Decision, Watch};
-use envstore::{Shelf, VecShelf};
+use envstore::{BoxShelf, Shelf};
 use std::alloc::Global;
 use std::sync::Wait;
 use std::test::Fail;
@@ -149,7 +149,7 @@ fn use_and_close<R: Threads + Wait + Sync + Send + Drop + Copy>(
         seats: 4,
         watches: 1,
     };
-    let opened = Cell::open_watched(rt, alloc, config, VecShelf::new(alloc), users);
+    let opened = Cell::open_watched(rt, alloc, config, BoxShelf::new(alloc), users);
     let (cell, mut seats, mut watches) = opened.ok()?;
     let mut watch = watches.pop()?;
     all_at_once(rt, alloc, &cell, &mut seats);

@@ -4,7 +4,7 @@
 ghost use Rattle.envstore.specs.Archives.{AreFiled};
 
 use crate::fixtures::vote_of;
-use envstore::{Archive, VecShelf};
+use envstore::{Archive, BoxShelf};
 use latest::{Offer, Table};
 use std::alloc::Global;
 use std::test::Fail;
@@ -12,7 +12,7 @@ use std::test::Fail;
 /// What a vote becomes that is offered, and how many rows a copy has then.
 fn offered(
     alloc: Global,
-    archive: &mut Archive<VecShelf>,
+    archive: &mut Archive<BoxShelf>,
     table: &mut Table,
 ) -> Result<(Offer, usize), Fail>
     requires { AreFiled archive.old table.old }
@@ -27,7 +27,7 @@ fn offered(
 #[test]
 fn takes_a_row_where_there_is_memory(rt: HostRuntime) -> Result<(), Fail> {
     let alloc = rt.alloc();
-    let mut archive = Archive::new(alloc, VecShelf::new(alloc));
+    let mut archive = Archive::new(alloc, BoxShelf::new(alloc));
     let mut table = Table::new(alloc);
     let offered = offered(alloc, &mut archive, &mut table);
     drop(table);

@@ -6,7 +6,7 @@ ghost use Rattle.std.specs.Prelude.{◌≡◌, [], IfOk};
 ghost use Rattle.envstore.specs.Archives.{AreFiled};
 
 use crate::fixtures::{envelope_from, name, slices_of, vote_of};
-use envstore::{Archive, VecShelf};
+use envstore::{Archive, BoxShelf};
 use latest::Rows;
 use listening::{Configured, Listener};
 use std::alloc::Global;
@@ -28,7 +28,7 @@ fn listener(alloc: Global) -> Result<Listener, Fail>
 /// An envelope reaches it.
 fn hear(
     alloc: Global,
-    archive: &mut Archive<VecShelf>,
+    archive: &mut Archive<BoxShelf>,
     listener: &mut Listener,
     envelope: Envelope,
 ) -> Result<(), Fail>
@@ -43,7 +43,7 @@ fn hear(
 /// A vote of this node for the ballot with this counter reaches it, with slices of which these nodes are needed.
 fn hear_vote(
     alloc: Global,
-    archive: &mut Archive<VecShelf>,
+    archive: &mut Archive<BoxShelf>,
     listener: &mut Listener,
     vote: (u64, u32, &[u64]),
 ) -> Result<(), Fail>
@@ -68,7 +68,7 @@ fn nomination(alloc: Global) -> Result<Envelope, Fail> {
 }
 
 /// Has the listener be asked for its reach, and list what its rows speak of, so that it knows them.
-fn ask(alloc: Global, archive: &Archive<VecShelf>, listener: &mut Listener) -> Result<(), Fail>
+fn ask(alloc: Global, archive: &Archive<BoxShelf>, listener: &mut Listener) -> Result<(), Fail>
     requires { AreFiled archive.now listener.old.table }
     ensures { listener.new ≡ listener.old }
 {
@@ -84,7 +84,7 @@ fn ask(alloc: Global, archive: &Archive<VecShelf>, listener: &mut Listener) -> R
 /// Whether ballots and values are listed.
 fn is_listed(
     alloc: Global,
-    archive: &Archive<VecShelf>,
+    archive: &Archive<BoxShelf>,
     listener: &mut Listener,
 ) -> Result<bool, Fail>
     requires { AreFiled archive.now listener.old.table }
@@ -96,7 +96,7 @@ fn is_listed(
 /// Whether they are listed after a first row, a newer one, a nomination, a row with other slices, and a stranger's.
 fn is_listed_throughout(
     alloc: Global,
-    archive: &mut Archive<VecShelf>,
+    archive: &mut Archive<BoxShelf>,
     listener: &mut Listener,
 ) -> Result<bool, Fail>
     requires { AreFiled archive.old listener.old.table }
@@ -116,7 +116,7 @@ fn is_listed_throughout(
 fn what_is_listed_follows_rows(rt: HostRuntime) -> Result<(), Fail> {
     let alloc = rt.alloc();
     let mut listener = listener(alloc)?;
-    let mut archive = Archive::new(alloc, VecShelf::new(alloc));
+    let mut archive = Archive::new(alloc, BoxShelf::new(alloc));
     let listed = is_listed_throughout(alloc, &mut archive, &mut listener);
     drop(listener);
     drop(archive);
@@ -135,7 +135,7 @@ fn strangers(listener: &Listener) -> [bool; 2] {
 /// The same where node 2 names node 3, then node 4 in its place, and then node 5, before anybody asked.
 fn strangers_throughout(
     alloc: Global,
-    archive: &mut Archive<VecShelf>,
+    archive: &mut Archive<BoxShelf>,
     listener: &mut Listener,
 ) -> Result<[[bool; 2]; 3], Fail>
     requires { AreFiled archive.old listener.old.table }
@@ -155,7 +155,7 @@ fn strangers_throughout(
 fn what_is_known_follows_a_reach_that_changes(rt: HostRuntime) -> Result<(), Fail> {
     let alloc = rt.alloc();
     let mut listener = listener(alloc)?;
-    let mut archive = Archive::new(alloc, VecShelf::new(alloc));
+    let mut archive = Archive::new(alloc, BoxShelf::new(alloc));
     let found = strangers_throughout(alloc, &mut archive, &mut listener);
     drop(listener);
     drop(archive);

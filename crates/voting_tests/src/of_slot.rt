@@ -6,7 +6,7 @@ ghost use Rattle.std.specs.Prelude.{[], ◌≡◌, IfOk};
 ghost use Rattle.envstore.specs.Archives.{AreFiled};
 ghost use Rattle.slot.specs.Filings.{IsFiledEvent};
 
-use envstore::{Archive, VecShelf};
+use envstore::{Archive, BoxShelf};
 use scripts::{name_of, slices_of, statement_of};
 use slot::{FiledEvent, FiledOut, Node};
 use std::alloc::Global;
@@ -33,7 +33,7 @@ fn said(alloc: Global, sender: &[u8], statement: &[u8]) -> Result<Envelope, Fail
 /// How much the node gives out at an envelope.
 fn outs_at(
     alloc: Global,
-    archive: &mut Archive<VecShelf>,
+    archive: &mut Archive<BoxShelf>,
     node: &mut Node,
     envelope: Envelope,
 ) -> Result<usize, Fail>
@@ -49,7 +49,7 @@ fn outs_at(
 /// own names <5,q>, and where D does.
 fn outs_at_each(
     alloc: Global,
-    archive: &mut Archive<VecShelf>,
+    archive: &mut Archive<BoxShelf>,
     node: &mut Node,
 ) -> Result<[usize; 4], Fail>
     requires { AreFiled archive.old node.old.rows }
@@ -71,7 +71,7 @@ fn outs_at_each(
 fn a_row_of_its_own_names_no_candidates(rt: HostRuntime) -> Result<(), Fail> {
     let alloc = rt.alloc();
     let mut node = node(alloc, b"2[B,C,D]")?;
-    let mut archive = Archive::new(alloc, VecShelf::new(alloc));
+    let mut archive = Archive::new(alloc, BoxShelf::new(alloc));
     let outs = outs_at_each(alloc, &mut archive, &mut node);
     drop(node);
     drop(archive);
@@ -90,7 +90,7 @@ fn round_in(outs: &[FiledOut]) -> Option<u32> {
 /// The round whose timer an event arms, where it gives out no more.
 fn round_at(
     alloc: Global,
-    archive: &mut Archive<VecShelf>,
+    archive: &mut Archive<BoxShelf>,
     node: &mut Node,
     event: FiledEvent,
 ) -> Result<Option<u32>, Fail>
@@ -105,7 +105,7 @@ fn round_at(
 /// The rounds whose timers are armed where it proposes x, where the timer fires, and where it proposes y.
 fn rounds_at_each(
     alloc: Global,
-    archive: &mut Archive<VecShelf>,
+    archive: &mut Archive<BoxShelf>,
     node: &mut Node,
 ) -> Result<[Option<u32>; 3], Fail>
     requires { AreFiled archive.old node.old.rows }
@@ -132,7 +132,7 @@ fn is_in_first_round_again(alloc: Global, node: &Node) -> Result<bool, Fail> {
 }
 
 /// The round of a copy of the node.
-fn copied_round(alloc: Global, archive: &Archive<VecShelf>, node: &Node) -> Result<u32, Fail>
+fn copied_round(alloc: Global, archive: &Archive<BoxShelf>, node: &Node) -> Result<u32, Fail>
     requires { AreFiled archive.now node.now.rows }
 {
     let copy = node.try_copy(alloc, archive)?;
@@ -140,7 +140,7 @@ fn copied_round(alloc: Global, archive: &Archive<VecShelf>, node: &Node) -> Resu
 }
 
 /// The round that a step beside the node leads to where the timer of round 1 fires.
-fn stepped_round(alloc: Global, archive: &mut Archive<VecShelf>, node: &Node) -> Result<u32, Fail>
+fn stepped_round(alloc: Global, archive: &mut Archive<BoxShelf>, node: &Node) -> Result<u32, Fail>
     requires { AreFiled archive.old node.now.rows }
 {
     let (stepped, outs) = node.step(alloc, archive, FiledEvent::NominationTimer(1))?;
@@ -149,7 +149,7 @@ fn stepped_round(alloc: Global, archive: &mut Archive<VecShelf>, node: &Node) ->
 }
 
 /// What the node answers throughout.
-fn is_as_told(alloc: Global, archive: &mut Archive<VecShelf>, node: &mut Node) -> Result<bool, Fail>
+fn is_as_told(alloc: Global, archive: &mut Archive<BoxShelf>, node: &mut Node) -> Result<bool, Fail>
     requires { AreFiled archive.old node.old.rows }
 {
     let rounds = rounds_at_each(alloc, archive, node)?;
@@ -164,7 +164,7 @@ fn is_as_told(alloc: Global, archive: &mut Archive<VecShelf>, node: &mut Node) -
 fn a_second_proposal_begins_the_first_round_again(rt: HostRuntime) -> Result<(), Fail> {
     let alloc = rt.alloc();
     let mut node = node(alloc, b"2[B,C,D]")?;
-    let mut archive = Archive::new(alloc, VecShelf::new(alloc));
+    let mut archive = Archive::new(alloc, BoxShelf::new(alloc));
     let told = is_as_told(alloc, &mut archive, &mut node);
     drop(node);
     drop(archive);
@@ -185,7 +185,7 @@ fn has_decided(outs: &[FiledOut], x: &Value) -> bool {
 }
 
 /// Whether the node decides where it proposes x.
-fn decides(alloc: Global, archive: &mut Archive<VecShelf>, node: &mut Node) -> Result<bool, Fail>
+fn decides(alloc: Global, archive: &mut Archive<BoxShelf>, node: &mut Node) -> Result<bool, Fail>
     requires { AreFiled archive.old node.old.rows }
 {
     let x = Value::of(alloc, b"x")?;
@@ -198,7 +198,7 @@ fn decides(alloc: Global, archive: &mut Archive<VecShelf>, node: &mut Node) -> R
 fn a_node_that_trusts_itself_alone_decides(rt: HostRuntime) -> Result<(), Fail> {
     let alloc = rt.alloc();
     let mut node = node(alloc, b"1[A]")?;
-    let mut archive = Archive::new(alloc, VecShelf::new(alloc));
+    let mut archive = Archive::new(alloc, BoxShelf::new(alloc));
     let decided = decides(alloc, &mut archive, &mut node);
     drop(node);
     drop(archive);

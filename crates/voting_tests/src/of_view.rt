@@ -5,7 +5,7 @@ ghost use Rattle.std.specs.Prelude.{IfOk};
 ghost use Rattle.protocol.specs.Sets.{IsAscending};
 
 use crate::fixtures::{name, slices_of, vote_of};
-use envstore::{Archive, VecShelf};
+use envstore::{Archive, BoxShelf};
 use latest::{Rows, Table};
 use std::alloc::Global;
 use std::test::Fail;
@@ -13,7 +13,7 @@ use types::{Envelope, Nested};
 use view::{Change, Extent, Own, Region};
 
 /// The region of node 1 by a table.
-fn region_of(alloc: Global, slices: &Nested, table: &Rows<'_, VecShelf>) -> Result<Region, Fail>
+fn region_of(alloc: Global, slices: &Nested, table: &Rows<'_, BoxShelf>) -> Result<Region, Fail>
     ensures { IfOk result (λ r. IsAscending r.nodes.items) }
 {
     let region = Region::of(alloc, &name(1), slices, table)?;
@@ -23,7 +23,7 @@ fn region_of(alloc: Global, slices: &Nested, table: &Rows<'_, VecShelf>) -> Resu
 /// Whether a statement of another widens the region of node 1, which has these slices.
 fn widens(
     alloc: Global,
-    table: &Rows<'_, VecShelf>,
+    table: &Rows<'_, BoxShelf>,
     slices: &Nested,
     row: &Envelope,
 ) -> Result<bool, Fail> {
@@ -46,7 +46,7 @@ fn is_wider(change: &Change) -> bool {
 }
 
 /// The same where node 2, which is needed, names node 3.
-fn widens_by_another_name(alloc: Global, table: &Rows<'_, VecShelf>) -> Result<bool, Fail> {
+fn widens_by_another_name(alloc: Global, table: &Rows<'_, BoxShelf>) -> Result<bool, Fail> {
     let slices = slices_of(alloc, 2, &[1, 2])?;
     let row = vote_of(alloc, 2, 1, &[3])?;
     widens(alloc, table, &slices, &row)
@@ -55,7 +55,7 @@ fn widens_by_another_name(alloc: Global, table: &Rows<'_, VecShelf>) -> Result<b
 #[test]
 fn a_first_row_that_names_another_node_widens(rt: HostRuntime) -> Result<(), Fail> {
     let alloc = rt.alloc();
-    let archive = Archive::new(alloc, VecShelf::new(alloc));
+    let archive = Archive::new(alloc, BoxShelf::new(alloc));
     let table = Table::new(alloc);
     let widens = widens_by_another_name(alloc, &Rows::of(&table, &archive));
     drop(table);

@@ -138,6 +138,11 @@ joins ns ms ls i l is made up few inside =
     map-append (λ (z : Log). z.config.number) (take i ls) (l ∷ drop i ls) ∙ ap₂ {C = List ℕ} (λ (a b : List ℕ). a ++ l.config.number ∷ b) (sym (take-map (λ (z : Log). z.config.number) i ls)) (sym (drop-map (λ (z : Log). z.config.number) i ls)) in
     (made ∙ ap (λ (xs : List ℕ). insert xs i l.config.number) is ∙ sym same, (subst IsAscending (sym same) up, omega (arith, few, length-insert ls i l inside)))
 
+-- a journal that stays as it was, put back in its place
+pub stays : (r : Result (Vec Out Global) Refusal) (ls : List Log) (k : ℕ) (x y : Log) → x ≡ get_or ls k x → OnErr r (y ≡ x) → OnErr r (set ls k y ≡ ls)
+stays (Ok v) ls k x y is same = tt
+stays (Err e) ls k x y is same = ap (set ls k) (same ∙ is) ∙ set-get_or ls k x
+
 -- one event: what is answered, and that the numbers stay, for the list of which one journal was changed at its place
 pub record Changed (ns : List ℕ) (ls : List Log) (g k : ℕ) (y : Log) (event : Event) (r : Result (Vec Out Global) Refusal) : Type 0 where
   pub kept : (ns ≡ numbers_of (set ls k y)) × AreByNumber (set ls k y)

@@ -4,7 +4,7 @@ ghost use Rattle.std.specs.Prelude.{◌<◌, ◌≤◌};
 
 use crate::fixtures::{config, proposal};
 use cells::{Cell, Seat};
-use envstore::{SharedHandle, Shelf, VecShelf};
+use envstore::{BoxShelf, SharedHandle, Shelf};
 use hoststep::Journal;
 use std::alloc::Global;
 use std::sync::Wait;
@@ -180,7 +180,7 @@ fn count_entry<S: Shelf>(
     alloc: Global,
     journal: &Journal<S>,
     number: usize,
-    again: &mut Journal<VecShelf>,
+    again: &mut Journal<BoxShelf>,
     tally: &mut Tally,
 ) -> Option<()> {
     let (event, outs) = journal.entry(alloc, number).ok()??;
@@ -197,7 +197,7 @@ fn count_entry<S: Shelf>(
 fn count_journal<S: Shelf>(
     alloc: Global,
     journal: &Journal<S>,
-    again: &mut Journal<VecShelf>,
+    again: &mut Journal<BoxShelf>,
     tally: &mut Tally,
 ) {
     for number in 0..journal.len() {
@@ -212,7 +212,7 @@ fn count_journal<S: Shelf>(
 /// Adds what a journal has, beside an empty one of the same network.
 fn replay<S: Shelf>(alloc: Global, journal: &Journal<S>, tally: &mut Tally) {
     if let Ok(config) = journal.config().try_copy(alloc) {
-        let mut again = Journal::new(alloc, config, VecShelf::new(alloc));
+        let mut again = Journal::new(alloc, config, BoxShelf::new(alloc));
         count_journal(alloc, journal, &mut again, tally);
     }
 }

@@ -26,10 +26,10 @@ pub returns-in-None : goal.returns-in-None
 returns-in-None g c =
     let e = step_of c.args.event.now in
     let old = machine_of c.self.inside.network in
-    let new = machine_of c.step.new.network in
+    let now = machine_of c.step.new.network in
     let s : Served = record { refused = None; stale = c.in-Ok.given.stale; slot = 0; told = c.nothing-following.result.told } in
-    subst (λ (m : Machine). IsServedBy m e new s) c.self.view_is
-    (served-alone old new e c.in-Ok.given s c.in-Ok.ensures.stepped c.in-None.is refl refl refl (ap tellings_of c.nothing-following.ensures.1))
+    subst₂ (λ (m n : Machine). IsServedBy m e n s) c.self.view_is (sym c.forget_closed.ensures.state)
+    (served-alone old now e c.in-Ok.given s c.in-Ok.ensures.stepped c.in-None.is refl refl refl (ap tellings_of c.nothing-following.ensures.1))
 
 pub returns : goal.returns
 returns g c =

@@ -1,8 +1,8 @@
-use Rattle.std.proofs.Common.{◌≡◌, ◌<◌, List, Some, length, set, refl, sym, subst}
+use Rattle.std.proofs.Common.{◌≡◌, ◌<◌, List, OnErr, Some, length, set, refl, sym, subst}
 use Rattle.configuration.specs.Configs.{index_in}
 use Rattle.hoststep.specs.Logs.{Log}
 use Rattle.world.specs.Worlds.{IsAnswered, IsPlaceOf, numbers_of}
-use Rattle.world.proofs.ByNumber.{Changed, changed, missing}
+use Rattle.world.proofs.ByNumber.{Changed, changed, missing, stays}
 use Rattle.world.proofs.Histories.{history-answered}
 use Rattle.world.proofs.world.World.apply.Given.{Over}
 use Rattle.world.proofs.world.World.apply.Goals as goal
@@ -19,6 +19,12 @@ invariant_of-self g c = (all-of g c).kept
 
 pub returns-in-Ok-clause-answer : goal.returns-in-Ok-clause-answer
 returns-in-Ok-clause-answer g c = subst (λ (xs : List Log). IsAnswered xs c.args.number c.args.event c.apply.result (set c.self.inside.journals.items c.in-Ok.at c.apply.new.self)) c.self.view_is (all-of g c).answer
+
+pub returns-in-Ok-clause-same : goal.returns-in-Ok-clause-same
+returns-in-Ok-clause-same g c =
+    let ls = c.self.inside.journals.items in
+    subst (λ (xs : List Log). OnErr c.apply.result (set ls c.in-Ok.at c.apply.new.self ≡ xs)) c.self.view_is
+    (stays c.apply.result ls c.in-Ok.at c.index_mut.result.now c.apply.new.self c.index_mut.ensures.value c.apply.ensures.same)
 
 pub returns-in-Ok-clause-history : goal.returns-in-Ok-clause-history
 returns-in-Ok-clause-history g c = λ h own_is memory.
