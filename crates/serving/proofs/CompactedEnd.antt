@@ -16,8 +16,11 @@ use Rattle.requests.specs.Outlines.{IsConfigOf, Outlined, waiting_at}
 use Rattle.requests.specs.declared.ask.Ask.{Ask}
 use Rattle.requests.specs.declared.ask.Ask.TheVariants as ask
 use Rattle.serving.specs.Apart.{alone}
-use Rattle.serving.specs.Compacted.{Act, AppliedLine, AreNoted, AreNumbered, DeclarationsMayBeLowered, DoAll, IsKnown, IsMade, IsMadeAs, IsNamed, IsShortened, IsUnnamed, NamingLinesBegin, act_of, at_slot, declarations_of, declared_text, declaring, done_by, naming_line, of_network, one_runs, one_waits, short_tags, slot_lines}
+use Rattle.serving.specs.Compacted.{Act, AppliedLine, AreNoted, AreNumbered, AreServedFor, DeclarationsMayBeLowered, DoAll, IsKnown, IsMade, IsMadeAs, IsNamed, IsShortened, IsUnnamed, NamingLinesBegin, act_of, at_slot, declarations_of, declared_text, declaring, done_by, naming_line, of_network, one_runs, one_waits, short_tags, slot_lines}
+use Rattle.serving.specs.Compacted.AreServedFor.{next_served, none_served}
 use Rattle.serving.specs.Compacted.DoAll.{no_act, one_act}
+use Rattle.serving.specs.Erasing.{AreRun, Line}
+use Rattle.serving.specs.Erasing.AreRun.{ended}
 use Rattle.serving.specs.Futures.{AreAlike, IsAlike, moved_config, moved_roster}
 use Rattle.serving.specs.Hosts.{AreAllAnswered, IsAnswer, IsEventAnswered, Live, Serves, begun, live_at, new_live}
 use Rattle.serving.specs.Lowering.{AreDeclared, less_config, less_outline, less_reserved, less_roster}
@@ -32,6 +35,7 @@ use Rattle.serving.proofs.CompactedAsked.{runs-there, runs-then, waits-there, wh
 use Rattle.serving.proofs.CompactedMade.{IsEventDeed, replied, same-deed}
 use Rattle.serving.proofs.CompactedNoted.{no-slots}
 use Rattle.serving.proofs.CompactedRooms.{alone-is-none, alone-runs, alone-waits, only-none}
+use Rattle.serving.proofs.CompactedServed.{all-done}
 use Rattle.serving.proofs.CompactedShort.{applied_text, naming_of, short-for}
 use Rattle.serving.proofs.LoweringConfigs.{less_is_configured}
 use Rattle.serving.proofs.LoweringRuns.{lowered_declarations_declare_less}
@@ -158,9 +162,10 @@ first-begins longest bytes g n line text d o c t event of serves =
         absurd (subst IsEventDeed (same-deed g deed.Dropped d (replied text g d) refl (ap (λ x. x.done) is)) event)
 
 -- ---- one network
-no-acts : (longest g : ℕ) {l t : Live} {acts : List Act} → DoAll longest g l acts t → acts ≡ [] → t ≡ l
-no-acts longest g no_act is = refl
-no-acts longest g (one_act n text act serves others) is = absurd (cc)
+none-led : {longest g : ℕ} {es : List AppliedLine} {lines : List Line} {m after : Machine}
+    → AreServedFor longest g es lines → AreRun m lines after → es ≡ [] → after ≡ m
+none-led none_served ended is = refl
+none-led (next_served is_for others) run is = absurd (cc)
 
 abbrev machine_in : Machine → List (ℕ × Machine) → Machine
 machine_in m [] = m
@@ -193,7 +198,7 @@ bare-shortened may_lower names longest long bytes g l lost ds es none_applied is
     let begins = names longest long bytes g (map (lowered lost) (map declared_text ds)) (less_outline lost is.outlined) is.rest
     declares of in
     let same : one_runs bytes g is.left ≡ one_runs bytes g (begun is.rest) =
-    no-acts longest g is.applied (ap (map act_of) none_applied) in
+    ap (one_runs bytes g) (none-led is.applied.served is.applied.run none_applied) in
     runs-shortened longest bytes g l is.machine is.left
     (map (lowered lost) (map declared_text ds) ++ (naming_line g ∷ [] ++ map applied_text es)) is.is is.alike
     (subst
@@ -235,7 +240,8 @@ open-shortened may_lower longest bytes g l lost ds es some is =
     (subst (λ lines. RunsAlone longest g (one_waits bytes g (less_outline lost is.outlined)) lines (one_runs bytes g is.left))
     (acted-lines es)
     (runs-alone longest g
-    (acts-begin longest bytes g (less_outline lost is.outlined) is.rest es (one_runs bytes g is.left) some of is.applied))))
+    (acts-begin longest bytes g (less_outline lost is.outlined) is.rest es (one_runs bytes g is.left) some of
+    (all-done longest bytes g is.applied.served is.applied.run)))))
 
 -- it waits
 waits-shortened : DeclarationsMayBeLowered → (longest : ℕ) (bytes : Bool) (g : ℕ) (l : Live) (lost : Drawn)

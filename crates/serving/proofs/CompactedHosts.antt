@@ -13,7 +13,7 @@ use Rattle.feed.specs.declared.answering.Deed.TheVariants as deed
 use Rattle.feed.specs.declared.answering.Done.{Done}
 use Rattle.serving.specs.Apart.{alone}
 use Rattle.serving.specs.Compacted.{AppliedLine, AreWithin, IsKnown, IsMade, IsMadeAs, NetworksAreMade, applied_behind, but_of_network, but_there, declarations_behind, declarations_of, declares_of, done_by, is_at_slot, is_of_network, of_network, pair_of}
-use Rattle.serving.specs.Hosts.{Live, Serves, new_live}
+use Rattle.serving.specs.Hosts.{Live, Remembers, Serves, new_live}
 use Rattle.serving.proofs.ApartLines.{hosts_stay_ordered, lines_are_local, not-done, other_lines_change_nothing}
 use Rattle.serving.proofs.CompactedAsked.{what-it-asks}
 use Rattle.serving.proofs.CompactedKnown.{changed, declarations-after, each-behind, events-after, networks-ascend}
@@ -110,9 +110,9 @@ applied-within n text g deed.Dropped es within =
 -- a line that did something
 known-behind : NetworksAreMade → (longest : ℕ) (bytes : Bool) (n : ℕ) (line text : Bytes) (g : ℕ) (d : Deed) (l t : Live)
     (lines : Lines) → IsKnown longest bytes n l lines
-    → Serves l n (given longest line) (record { text = text; done = Some (done_by g d) }) t
+    → Remembers l n (given longest line) (record { text = text; done = Some (done_by g d) }) t
     → IsKnown longest bytes (n + 1) t (lines_after n line (done_by g d) lines)
-known-behind made longest bytes n line text g d l t lines known serves =
+known-behind made longest bytes n line text g d l t lines known (serves, tells) =
     let a : Reply = record { text = text; done = Some (done_by g d) } in
     let local = lines_are_local l t n (given longest line) a (done_by g d) known.ordered serves refl in
     let declares = declarations-after n line g d (value_at lines.networks g) lines (of_network g known.applied)
@@ -120,7 +120,7 @@ known-behind made longest bytes n line text g d l t lines known serves =
     let events = events-after n line g d (value_at lines.networks g) lines
     (declarations_of g lines.lasting.declarations) known.applied known.events known.events_ascend
     (known.noted g) in
-    let each = each-behind made longest bytes n line text g d l t lines known local.0 local.1 in
+    let each = each-behind made longest bytes n line text g d l t lines known (local.0, tells) local.1 in
     record {
       applied = applied_behind n line g d known.applied;
       events = events;
@@ -177,9 +177,9 @@ behind-line longest l t n line a did lines serves some = by (nat_lt longest (len
     by false serves = here line serves
 
 pub stays-known : NetworksAreMade → (longest : ℕ) (bytes : Bool) (n : ℕ) (line : Bytes) (a : Reply) (l t : Live)
-    (lines : Lines) → IsKnown longest bytes n l lines → Serves l n (given longest line) a t
+    (lines : Lines) → IsKnown longest bytes n l lines → Remembers l n (given longest line) a t
     → IsKnown longest bytes (n + 1) t (lines_behind n (given longest line) a.done lines)
-stays-known made longest bytes n line a l t lines known serves = by a.done refl
+stays-known made longest bytes n line a l t lines known (serves, tells) = by a.done refl
   where
     by : (o : Option Done) → a.done ≡ o
         → IsKnown longest bytes (n + 1) t (lines_behind n (given longest line) o lines)
@@ -191,7 +191,7 @@ stays-known made longest bytes n line a l t lines known serves = by a.done refl
     by (Some did) some =
         subst (IsKnown longest bytes (n + 1) t) (sym (behind-line longest l t n line a did lines serves some))
         (known-behind made longest bytes n line a.text did.network did.deed l t lines known
-        (subst (λ o. Serves l n (given longest line) (record { text = a.text; done = o }) t) some serves))
+        (subst (λ o. Serves l n (given longest line) (record { text = a.text; done = o }) t) some serves, tells))
 
 -- ---- many lines
 begins-known : (longest : ℕ) (bytes : Bool) → IsKnown longest bytes 1 (new_live bytes) no_lines
@@ -209,7 +209,7 @@ begins-known longest bytes = record {
 }
 
 known-later : NetworksAreMade → (longest : ℕ) (bytes : Bool) {v w : Watched Live} {n : ℕ} {lines journal : List Bytes}
-    {text : Bytes} → ServesAll (Watching Serves) longest v n lines journal text w
+    {text : Bytes} → ServesAll (Watching Remembers) longest v n lines journal text w
     → IsKnown longest bytes n v.server v.lines → (k : ℕ) × IsKnown longest bytes k w.server w.lines
 known-later made longest bytes {v} {w} {n} none known = (n, known)
 known-later made longest bytes (next {s} {t} {u} {n} {line} a serves others) known =
@@ -219,7 +219,7 @@ known-later made longest bytes (next {s} {t} {u} {n} {line} a serves others) kno
 
 -- of each host that lines lead to it is known what the lines that last make of it
 pub reached-is-known : NetworksAreMade → (longest : ℕ) (bytes : Bool) (n : ℕ) (lines journal : List Bytes) (text : Bytes)
-    (w : Watched Live) → ServesAll (Watching Serves) longest (unwatched (new_live bytes)) 1 lines journal text w
+    (w : Watched Live) → ServesAll (Watching Remembers) longest (unwatched (new_live bytes)) 1 lines journal text w
     → (k : ℕ) × IsKnown longest bytes k w.server w.lines
 reached-is-known made longest bytes n lines journal text w serves =
     known-later made longest bytes serves (begins-known longest bytes)

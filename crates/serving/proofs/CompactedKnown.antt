@@ -13,7 +13,7 @@ use Rattle.feed.specs.declared.answering.Deed.TheVariants as deed
 use Rattle.feed.specs.declared.answering.Drawn.{Drawn}
 use Rattle.serving.specs.Apart.{AreFrom, OthersStay, alone}
 use Rattle.serving.specs.Compacted.{AppliedLine, AreNoted, AreWithin, IsKnown, IsMade, NetworksAreMade, applied_behind, at_slot, declarations_behind, declarations_of, declared_number, declares_of, done_by, is_at_slot, is_of_network, network_behind, of_network, pair_of, slot_lines}
-use Rattle.serving.specs.Hosts.{Live, Serves}
+use Rattle.serving.specs.Hosts.{Live, Remembers}
 use Rattle.serving.proofs.Alone.{inserted-apart, inserted-ascend, removed-apart, removed-ascend, removed-is-gone, set-apart, set-ascend}
 use Rattle.serving.proofs.CompactedLists.{filter-append-one, filter-twice, inserted-last, map-append-one, none-passes, without-passing}
 use Rattle.serving.proofs.CompactedNoted.{closed-events, differs, dropped-events, inserted-there, itself, noted-behind, set-there}
@@ -295,7 +295,7 @@ filtered-twice p xs = filter-twice p p p (λ x. by (p x)) xs
 -- of each network it is known what the lines that last make of it
 pub each-behind : NetworksAreMade → (longest : ℕ) (bytes : Bool) (n : ℕ) (line text : Bytes) (g : ℕ) (d : Deed) (l t : Live)
     (lines : Lines) (known : IsKnown longest bytes n l lines)
-    → Serves (alone g l) n (given longest line) (record { text = text; done = Some (done_by g d) }) (alone g t)
+    → Remembers (alone g l) n (given longest line) (record { text = text; done = Some (done_by g d) }) (alone g t)
     → OthersStay g l t → (h : ℕ)
     → IsState longest bytes h (value_at (lines_after n line (done_by g d) lines).networks h)
     (declarations_of h (lines_after n line (done_by g d) lines).lasting.declarations)

@@ -6,7 +6,7 @@ use Rattle.protocol.specs.Sets.{among}
 use Rattle.scripts.specs.Script.{Bytes}
 use Rattle.feed.specs.Lasting.{Declaration, Lines, NetworkLines, value_at}
 use Rattle.requests.specs.Outlines.{waiting_at}
-use Rattle.serving.specs.Compacted.{AppliedLine, AreNoted, DeclarationsAreSmall, IsKnown, IsShortened, NamingLinesBegin, RefusedLinesStayAlike, ShorterJournalsLeadToAlikeHosts, SlotsMayBeErased, applied_tag, declarations_of, declared_tag, naming_line, naming_tags, of_network, short_tags}
+use Rattle.serving.specs.Compacted.{AppliedLine, AreNoted, DeclarationsAreSmall, IsKnown, IsShortened, NamingLinesBegin, ShorterJournalsLeadToAlikeHosts, applied_tag, declarations_of, declared_tag, naming_line, naming_tags, of_network, short_tags}
 use Rattle.serving.specs.Hosts.{Live, live_at}
 use Rattle.serving.specs.Merging.{AreBothAlike, AreOf, all_lines, lines_for}
 use Rattle.serving.proofs.Alone.{found-alone}
@@ -122,10 +122,9 @@ tags-of longest bytes n l lines known =
     (known.noted g)).1)))
 
 -- ---- the law
-pub shorter-from : DeclarationsAreSmall → SlotsMayBeErased → RefusedLinesStayAlike → NamingLinesBegin
-    → ShorterJournalsLeadToAlikeHosts
-shorter-from are_small erased refused names longest long bytes lines journal text w serves =
-    let reached = reached-is-known (networks_are_made are_small erased refused) longest bytes 1 lines journal text w serves in
+pub shorter-from : DeclarationsAreSmall → NamingLinesBegin → ShorterJournalsLeadToAlikeHosts
+shorter-from are_small names longest long bytes lines journal text w serves =
+    let reached = reached-is-known (networks_are_made are_small) longest bytes 1 lines journal text w serves in
     let known = reached.1 in
     let short : (g : ℕ) → IsShortened longest bytes g w.server (lines_for g (short_tags w.lines known.applied)) = λ g. each-shortened declarations_may_be_lowered names longest long bytes reached.0 w.server w.lines known g in
     let count = names-count w.lines.networks in

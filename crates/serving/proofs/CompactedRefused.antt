@@ -80,7 +80,7 @@ machine_of_one m (e ∷ es) = e.1
 pub same-machine : (bytes : Bool) (g : ℕ) (m n : Machine) → one_runs bytes g m ≡ one_runs bytes g n → m ≡ n
 same-machine bytes g m n is = ap (λ l. machine_of_one m l.running) is
 
-found-machine : (bytes : Bool) (g : ℕ) (m found : Machine) → live_at (one_runs bytes g m) g ≡ Some found → found ≡ m
+pub found-machine : (bytes : Bool) (g : ℕ) (m found : Machine) → live_at (one_runs bytes g m) g ≡ Some found → found ≡ m
 found-machine bytes g m found is = let here = sym is ∙ runs-there bytes g m in cc
 
 pub refused-line : (longest : ℕ) (bytes : Bool) (g n : ℕ) (line text : Bytes) (m after : Machine)

@@ -10,17 +10,23 @@ use Rattle.feed.specs.declared.answering.Deed.{Deed}
 use Rattle.feed.specs.declared.answering.Deed.TheVariants as deed
 use Rattle.feed.specs.declared.answering.Drawn.{Drawn}
 use Rattle.requests.specs.Outlines.{IsConfigOf, Outlined}
-use Rattle.serving.specs.Compacted.{AppliedLine, DeclarationsAreSmall, DoAll, IsMade, IsMadeAs, IsNamed, IsSmall, IsUnnamed, NetworksAreMade, RefusedLinesStayAlike, SlotsMayBeErased, act_of, applied_behind, at_slot, but_at_slot, but_there, declarations_behind, declared_text, declaring, done_by, is_at_slot, is_of_network, network_behind, of_network, one_runs, one_waits, slot_lines}
+use Rattle.serving.specs.Blocks.{TellsOfNoWant}
+use Rattle.serving.specs.Compacted.{AppliedLine, AreApplied, AreServedFor, DeclarationsAreSmall, DoAll, IsMade, IsMadeAs, IsNamed, IsSmall, IsUnnamed, NetworksAreMade, applied_behind, at_slot, but_at_slot, but_there, declarations_behind, declared_text, declaring, done_by, is_at_slot, is_of_network, network_behind, of_network, one_runs, one_waits, slot_lines}
+use Rattle.serving.specs.Compacted.AreServedFor.{none_served}
 use Rattle.serving.specs.Compacted.DoAll.{no_act}
+use Rattle.serving.specs.Erasing.AreRun.{ended}
 use Rattle.serving.specs.Futures.{moved_config}
 use Rattle.serving.specs.Hosts.{Live, Serves, begun, new_live}
 use Rattle.serving.proofs.AlikeInTurn.{alike-in-turn}
 use Rattle.serving.proofs.AlikeMachines.{begun-alike, stays}
 use Rattle.serving.proofs.CompactedAsked.{what-it-asks}
+use Rattle.serving.proofs.CompactedErased.{refused_lines_stay_alike, run-more, served-more, slots_may_be_erased}
 use Rattle.serving.proofs.CompactedLists.{filter-twice, map-append-one}
 use Rattle.serving.proofs.CompactedMade.{IsEventDeed, NewOn, RunsOn, WaitsOn, do-one-more, new-on, replied, runs-on, served-the-other, waits-on}
 use Rattle.serving.proofs.CompactedMade.WaitsOn.{begins, declares_more, taken_back}
+use Rattle.serving.proofs.CompactedServed.{line-of}
 use Rattle.serving.proofs.CompactedSums.{lost-more}
+use Rattle.serving.proofs.ErasedRuns.{begun-stood, run-stood}
 
 -- ---- declarations
 -- one more of them
@@ -52,11 +58,14 @@ others-there g i es own =
 
 applied-made : (longest : ℕ) (bytes : Bool) (g n i : ℕ) (line text : Bytes) (d lost : Drawn) (ds : List (ℕ × Declaration))
     (es : List AppliedLine) (old : Live) (after : Machine) (is : IsNamed longest bytes g lost ds es old)
+    → TellsOfNoWant text
     → Serves (one_runs bytes g is.machine) n (given longest line) (replied text g (deed.Applied i d)) (one_runs bytes g after)
     → IsNamed longest bytes g lost ds (applied_behind n line g (deed.Applied i d) es) (one_runs bytes g after)
-applied-made longest bytes g n i line text d lost ds es old after is serves =
+applied-made longest bytes g n i line text d lost ds es old after is tells serves =
     let other = served-the-other longest bytes g n line text (deed.Applied i d) is.machine after is.left is.alike serves in
     let e : AppliedLine = record { number = n; network = g; text = line; slot = i; drawn = d } in
+    let stood = (run-stood (begun-stood is.rest) is.applied.run).0 in
+    let here = line-of longest bytes g n is.left other.0 e text stood tells other.2 in
     record {
       outlined = is.outlined;
       small = is.small;
@@ -67,23 +76,24 @@ applied-made longest bytes g n i line text d lost ds es old after is serves =
       less = is.less;
       machine = after;
       left = other.0;
-      applied = subst
-          (λ acts. DoAll longest g (one_runs bytes g (begun is.rest)) acts (one_runs bytes g other.0))
-          (sym (map-append-one act_of es e))
-          (do-one-more longest g n text (act_of e) is.applied other.2);
+      applied = record {
+        lines = is.applied.lines ++ here.0 ∷ [];
+        served = served-more e here.0 is.applied.served here.1;
+        run = run-more here.0 is.applied.run here.2;
+      };
       alike = other.1;
       is = refl;
     }
 
-closed-made : SlotsMayBeErased → (longest : ℕ) (bytes : Bool) (g n i : ℕ) (line text : Bytes) (d : Drawn)
+closed-made : (longest : ℕ) (bytes : Bool) (g n i : ℕ) (line text : Bytes) (d : Drawn)
     (net : NetworkLines) (ds : List (ℕ × Declaration)) (es : List AppliedLine) (old : Live) (after : Machine)
     (is : IsNamed longest bytes g net.lost ds es old) → SlotsAre net es → of_network g es ≡ es
     → Serves (one_runs bytes g is.machine) n (given longest line) (replied text g (deed.Closed i d)) (one_runs bytes g after)
     → IsNamed longest bytes g (both_drawn net.lost (both_drawn (drawn_at (value_at net.slots i)) d)) ds (but_there g i es)
     (one_runs bytes g after)
-closed-made erased longest bytes g n i line text d net ds es old after is slots own serves =
+closed-made longest bytes g n i line text d net ds es old after is slots own serves =
     let other = served-the-other longest bytes g n line text (deed.Closed i d) is.machine after is.left is.alike serves in
-    let left = erased longest bytes g n i line text d is.rest es is.left other.0 is.applied other.2 in
+    let left = slots_may_be_erased longest bytes g n i line text d is.rest es is.left other.0 is.applied other.2 in
     record {
       outlined = is.outlined;
       small = is.small;
@@ -95,20 +105,18 @@ closed-made erased longest bytes g n i line text d net ds es old after is slots 
           (lost-more g is.outlined is.config is.rest left.0 net.lost (at_slot i es) d is.small is.is_config is.less left.2);
       machine = after;
       left = left.1;
-      applied = subst
-          (λ others. DoAll longest g (one_runs bytes g (begun left.0)) (map act_of others) (one_runs bytes g left.1))
-          (sym (others-there g i es own)) left.3;
+      applied = subst (λ others. AreApplied longest g (begun left.0) others left.1) (sym (others-there g i es own)) left.3;
       alike = alike-in-turn after other.0 left.1 other.1 left.4;
       is = refl;
     }
 
-refused-made : RefusedLinesStayAlike → (longest : ℕ) (bytes : Bool) (g n : ℕ) (line text : Bytes) (lost : Drawn)
+refused-made : (longest : ℕ) (bytes : Bool) (g n : ℕ) (line text : Bytes) (lost : Drawn)
     (ds : List (ℕ × Declaration)) (es : List AppliedLine) (old : Live) (after : Machine)
     (is : IsNamed longest bytes g lost ds es old)
     → Serves (one_runs bytes g is.machine) n (given longest line) (replied text g deed.Refused) (one_runs bytes g after)
     → IsNamed longest bytes g lost ds es (one_runs bytes g after)
-refused-made refused longest bytes g n line text lost ds es old after is serves =
-    let left = refused longest bytes g n line text is.rest es is.machine after is.left is.applied is.alike serves in
+refused-made longest bytes g n line text lost ds es old after is serves =
+    let left = refused_lines_stay_alike longest bytes g n line text is.rest es is.machine after is.left is.applied is.alike serves in
     record {
       outlined = is.outlined;
       small = is.small;
@@ -131,12 +139,12 @@ IsMadeBehind longest bytes g n line d net ds es new =
     IsMade longest bytes g (network_behind n d (Some net)) (declarations_behind n line g d ds) (applied_behind n line g d es)
     new
 
-named-made : SlotsMayBeErased → RefusedLinesStayAlike → (longest : ℕ) (bytes : Bool) (g n : ℕ) (line text : Bytes)
+named-made : (longest : ℕ) (bytes : Bool) (g n : ℕ) (line text : Bytes)
     (d : Deed) (net : NetworkLines) (ds : List (ℕ × Declaration)) (es : List AppliedLine) (old new : Live)
-    (is : IsNamed longest bytes g net.lost ds es old) → SlotsAre net es → of_network g es ≡ es
+    (is : IsNamed longest bytes g net.lost ds es old) → SlotsAre net es → of_network g es ≡ es → TellsOfNoWant text
     → Serves (one_runs bytes g is.machine) n (given longest line) (replied text g d) new
     → IsMadeBehind longest bytes g n line d net ds es new
-named-made erased refused longest bytes g n line text d net ds es old new is slots own serves =
+named-made longest bytes g n line text d net ds es old new is slots own tells serves =
     by (runs-on n g bytes (given longest line) is.machine (replied text g d) d new refl
     (what-it-asks n (given longest line) (one_runs bytes g is.machine) new (replied text g d) (done_by g d) serves refl))
   where
@@ -144,11 +152,11 @@ named-made erased refused longest bytes g n line text d net ds es old new is slo
         → Serves (one_runs bytes g is.machine) n (given longest line) (replied text g d) (one_runs bytes g after)
         → IsMadeBehind longest bytes g n line d net ds es (one_runs bytes g after)
     at deed.Declared after event serves = absurd event
-    at deed.Refused after event serves = refused-made refused longest bytes g n line text net.lost ds es old after is serves
+    at deed.Refused after event serves = refused-made longest bytes g n line text net.lost ds es old after is serves
     at (deed.Applied i drawn) after event serves =
-        applied-made longest bytes g n i line text drawn net.lost ds es old after is serves
+        applied-made longest bytes g n i line text drawn net.lost ds es old after is tells serves
     at (deed.Closed i drawn) after event serves =
-        closed-made erased longest bytes g n i line text drawn net ds es old after is slots own serves
+        closed-made longest bytes g n i line text drawn net ds es old after is slots own serves
     at deed.Dropped after event serves = absurd event
 
     by : RunsOn bytes g d new → IsMadeBehind longest bytes g n line d net ds es new
@@ -172,18 +180,21 @@ begun-made longest bytes g c lost ds es old is of = record {
   less = subst (λ l. c ≡ moved_config l c) (sym is.none_lost) (ap (λ m. m.config) (stays (begun c)));
   machine = begun c;
   left = begun c;
-  applied = subst (λ l. DoAll longest g (one_runs bytes g (begun c)) (map act_of l) (one_runs bytes g (begun c)))
-      (sym is.none_applied) no_act;
+  applied = record {
+    lines = [];
+    served = subst (λ l. AreServedFor longest g l []) (sym is.none_applied) none_served;
+    run = ended;
+  };
   alike = begun-alike c;
   is = refl;
 }
 
-waiting-made : DeclarationsAreSmall → SlotsMayBeErased → RefusedLinesStayAlike → (longest : ℕ) (bytes : Bool) (g n : ℕ)
+waiting-made : DeclarationsAreSmall → (longest : ℕ) (bytes : Bool) (g n : ℕ)
     (line text : Bytes) (d : Deed) (net : NetworkLines) (ds : List (ℕ × Declaration)) (es : List AppliedLine)
     (old new : Live) → net.is_named ≡ false → IsUnnamed longest bytes g net.lost ds es old → SlotsAre net es
-    → of_network g es ≡ es → Serves old n (given longest line) (replied text g d) new
+    → of_network g es ≡ es → TellsOfNoWant text → Serves old n (given longest line) (replied text g d) new
     → IsMadeBehind longest bytes g n line d net ds es new
-waiting-made are_small erased refused longest bytes g n line text d net ds es old new unnamed is slots own serves =
+waiting-made are_small longest bytes g n line text d net ds es old new unnamed is slots own tells serves =
     let here = subst (λ l. Serves l n (given longest line) (replied text g d) new) is.is serves in
     by (waits-on are_small longest bytes g n line text is.outlined d new is.small
     (what-it-asks n (given longest line) (one_waits bytes g is.outlined) new (replied text g d) (done_by g d) here refl))
@@ -208,8 +219,8 @@ waiting-made are_small erased refused longest bytes g n line text d net ds es ol
         subst (λ d. IsMadeBehind longest bytes g n line d net ds es new) (sym declares)
         (more p small same (subst (λ d. Serves old n (given longest line) (replied text g d) new) declares serves))
     by (begins c of later) =
-        named-made erased refused longest bytes g n line text d net ds es (one_runs bytes g (begun c)) new
-        (begun-made longest bytes g c net.lost ds es old is of) slots own later
+        named-made longest bytes g n line text d net ds es (one_runs bytes g (begun c)) new
+        (begun-made longest bytes g c net.lost ds es old is of) slots own tells later
     by (taken_back drops gone) = subst (λ d. IsMadeBehind longest bytes g n line d net ds es new) (sym drops) gone
 
 -- ---- a network that is none
@@ -247,17 +258,17 @@ none-made are_small longest bytes g n line text d ds es new no-ds no-es serves =
         (subst (λ d. Serves (new_live bytes) n (given longest line) (replied text g d) new) declares serves))
 
 -- ---- each network
-pub networks_are_made : DeclarationsAreSmall → SlotsMayBeErased → RefusedLinesStayAlike → NetworksAreMade
-networks_are_made are_small erased refused longest bytes g n line text d None ds es old new (no-ds, no-es) own made serves =
+pub networks_are_made : DeclarationsAreSmall → NetworksAreMade
+networks_are_made are_small longest bytes g n line text d None ds es old new (no-ds, no-es) own made (serves, tells) =
     none-made are_small longest bytes g n line text d ds es new no-ds no-es
     (subst (λ l. Serves l n (given longest line) (replied text g d) new) made serves)
-networks_are_made are_small erased refused longest bytes g n line text d (Some net) ds es old new noted own made serves =
+networks_are_made are_small longest bytes g n line text d (Some net) ds es old new noted own made (serves, tells) =
     by net.is_named refl made
   where
     by : (named : Bool) → net.is_named ≡ named → IsMadeAs named longest bytes g net.lost ds es old
         → IsMadeBehind longest bytes g n line d net ds es new
     by false is made =
-        waiting-made are_small erased refused longest bytes g n line text d net ds es old new is made noted.slots own serves
+        waiting-made are_small longest bytes g n line text d net ds es old new is made noted.slots own tells serves
     by true is made =
-        named-made erased refused longest bytes g n line text d net ds es old new made noted.slots own
+        named-made longest bytes g n line text d net ds es old new made noted.slots own tells
         (subst (λ l. Serves l n (given longest line) (replied text g d) new) made.is serves)

@@ -225,7 +225,7 @@ plus-none n = omega arith
 none-plus : (n : ℕ) → n ≡ 0 + n
 none-plus n = omega arith
 
-both-none : (d : Drawn) → d ≡ both d none_drawn
+pub both-none : (d : Drawn) → d ≡ both d none_drawn
 both-none d =
     ap (λ n. drawn_as n d.bytes d.opens) (plus-none d.events) ∙ ap (λ n. drawn_as (d.events + 0) n d.opens) (plus-none d.bytes)
     ∙ ap (drawn_as (d.events + 0) (d.bytes + 0)) (plus-none d.opens)
@@ -486,7 +486,7 @@ stood-as-well x y (draws, tallied) stands =
     ((draws, here.tallied), sym (ap (λ n. n.nodes) here.is))
 
 -- lines from the beginning lead to each machine that stands for the same and more
-begun-to : (c : Config) (lines : List Line) (x y : Machine) → AreRun (begun c) lines x → StandsAsWell x y
+pub begun-to : (c : Config) (lines : List Line) (x y : Machine) → AreRun (begun c) lines x → StandsAsWell x y
     → AreRun (begun c) lines y × IsStood y
 begun-to c lines x y run stands =
     let well = stood-as-well x y (run-stood (begun-stood c) run).0 stands in
@@ -527,7 +527,7 @@ all-memory none_came memory = tt
 all-memory (next_came {a} {b} node came more) memory =
     (memory-too a.served b.served memory.0 came, all-memory more memory.1)
 
-line-kept : (l k : Line) → IsSameLine l k → IsLineKept l → IsLineKept k
+pub line-kept : (l k : Line) → IsSameLine l k → IsLineKept l → IsLineKept k
 line-kept (OfEvent e s d) (OfEvent f t c) same kept =
     subst (λ x. IsKept x t × HadMemory t) (sym same.0) (kept-too e s t kept.0 same.1, memory-too s t kept.1 same.1)
 line-kept (OfEvent e s d) (OfBytes bytes answers c) same kept = absurd same
@@ -563,7 +563,7 @@ line-at-one : (i k : ℕ) (l : Line) → (i == k) ≡ false → is_line_at i l �
 line-at-one i k (OfEvent e s d) off on = step-at-one i k e off on
 line-at-one i k (OfBytes bytes answers d) off on = reading-at-one i k (reading bytes) off on
 
-same-line-at : (k : ℕ) (l n : Line) → IsSameLine l n → (is_line_at k n ≡ is_line_at k l) × (drawn_by n ≡ drawn_by l)
+pub same-line-at : (k : ℕ) (l n : Line) → IsSameLine l n → (is_line_at k n ≡ is_line_at k l) × (drawn_by n ≡ drawn_by l)
 same-line-at k (OfEvent e s d) (OfEvent f t c) same = (ap (is_step_at k) same.0, same.2)
 same-line-at k (OfEvent e s d) (OfBytes bytes answers c) same = absurd same
 same-line-at k (OfBytes bytes answers d) (OfEvent e s c) same = absurd same

@@ -44,7 +44,7 @@ heard-grows {old = net} {new = after} (one_heard {now} r tried others) =
     grows-on net now after (tried-grows tried) (heard-grows others)
 
 -- what nobody is to hear is told nobody
-heard-none : {j : ℕ} {hs : List Hearing} {old : Net} {told : List Telling} {new : Net} → AreHeard j hs old told new
+pub heard-none : {j : ℕ} {hs : List Hearing} {old : Net} {told : List Telling} {new : Net} → AreHeard j hs old told new
     → hs ≡ [] → (told ≡ []) × (new ≡ old)
 heard-none all_heard is = (refl, refl)
 heard-none (one_heard r tried others) is = cc
@@ -88,7 +88,7 @@ heard-there i {old = net} {new = after} on (one_heard {now} r tried others) =
     happens-on i net now after (tried-there i on tried) (heard-there i on others)
 
 -- what the first step of an event that is done comes to
-stepped-to : (old : Net) (e : Step) (os : List Out) (new : Net) → IsTried old e (Done os) new
+pub stepped-to : (old : Net) (e : Step) (os : List Out) (new : Net) → IsTried old e (Done os) new
     → ((net_step old e).1 ≡ Done os) × (new ≡ (net_step old e).0)
 stepped-to old e os new tried = by (tried-cases tried)
   where

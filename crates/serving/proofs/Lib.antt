@@ -10,9 +10,10 @@ pub mod ApartRuns
 pub mod ApartShuffled
 pub mod CompactedAsked
 pub mod CompactedEnd
+pub mod CompactedErased
+pub mod CompactedFiles
 pub mod CompactedHosts
 pub mod CompactedKnown
-pub mod CompactedLast
 pub mod CompactedLaw
 pub mod CompactedLists
 pub mod CompactedMade
@@ -20,6 +21,7 @@ pub mod CompactedNaming
 pub mod CompactedNoted
 pub mod CompactedRefused
 pub mod CompactedRooms
+pub mod CompactedServed
 pub mod CompactedShort
 pub mod CompactedSmall
 pub mod CompactedSteps

@@ -1,5 +1,5 @@
 -- What is printed of a line.
-use Rattle.std.specs.Prelude.{◌++◌, ◌∷◌, [], ℕ, Bool, true, false, List, codes}
+use Rattle.std.specs.Prelude.{◌≢◌, ◌++◌, ◌∷◌, [], ℕ, Bool, true, false, List, codes}
 use Rattle.std.specs.List.{flat_map}
 use Rattle.std.specs.Fmt.{decimal}
 use Rattle.protocol.specs.Networks.{Reply}
@@ -10,6 +10,7 @@ use Rattle.codec.specs.Spelling.{spelling}
 use Rattle.hex.specs.Hex.{encode_lower}
 use Rattle.types.specs.declared.event.Out.{Out}
 use Rattle.types.specs.declared.event.Out.TheVariants.{Emit}
+use Rattle.types.specs.declared.event.Refusal.TheVariants.{NoMemory}
 use Rattle.requests.specs.Replies.{refusal_text, text_of_out}
 use Rattle.live.specs.Serving.{Ending, Telling}
 use Rattle.live.specs.Serving.Ending.{IsDone, IsRefused}
@@ -67,3 +68,12 @@ closing_of (IsDone stale) = closing_of_done stale
 -- the block of an event of a network
 abbrev pub block_of : Bool → ℕ → ℕ → ℕ → List Telling → Ending → Bytes
 block_of bytes n g i told ending = flat_map (line_of_telling bytes n g i) told ++ closing_line n (closing_of ending)
+
+-- ---- want of memory
+-- how a line ends that says that memory was wanting: ` refused 13 NoMemory`, and a line feed (10)
+abbrev pub want_of_memory : Bytes
+want_of_memory = (32 ∷ refusal_text NoMemory) ++ 10 ∷ []
+
+-- nothing in a block says that memory was wanting
+abbrev pub TellsOfNoWant : Bytes → Type 0
+TellsOfNoWant text = (front rest : Bytes) → text ≢ front ++ (want_of_memory ++ rest)

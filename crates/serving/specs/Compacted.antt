@@ -1,12 +1,18 @@
 -- A shorter journal, of the lines that last, leads to a host that is alike the one to which the whole journal led.
-use Rattle.std.specs.Prelude.{◌≡◌, ◌≤◌, ◌<◌, ◌+◌, ◌==◌, ◌&&◌, ◌++◌, ◌^◌, not, ℕ, Bool, true, false, cond, nat_lt, List, [], ◌∷◌, map, filter, length, codes, Option, Some, None}
+use Rattle.std.specs.Prelude.{◌≡◌, ◌≤◌, ◌<◌, ◌+◌, ◌==◌, ◌&&◌, ◌++◌, ◌^◌, not, ℕ, Bool, true, false, cond, nat_lt, List, [], ◌∷◌, map, filter, length, codes, Option, Some, None, Ok}
 use Rattle.std.specs.Fmt.{decimal}
+use Rattle.std.specs.Io.KnownBytes.{Appends}
+use Rattle.types.specs.declared.event.Event.{Event}
 use Rattle.protocol.specs.Hosts.{Config}
 use Rattle.protocol.specs.Rosters.{Shares}
+use Rattle.network.specs.Decoding.{step_of}
 use Rattle.network.specs.Standing.{Machine}
+use Rattle.live.specs.declared.served.Served.{Served}
 use Rattle.scripts.specs.Script.{Bytes, lines_with_feeds}
+use Rattle.feed.specs.Acts.{lines_run}
+use Rattle.feed.specs.Compacting.{HasCompacted}
 use Rattle.feed.specs.Lasting.{Declaration, Lines, NetworkLines, SlotLines, Watched, Watching, both_drawn, compacted, lost_at, lowered, network_after, new_network, nothing_drawn, unwatched, value_at}
-use Rattle.feed.specs.Served.{Serves as ServesAll}
+use Rattle.feed.specs.Served.{Reply, Serves as ServesAll}
 use Rattle.feed.specs.WholeLines.{given}
 use Rattle.feed.specs.declared.answering.Deed.{Deed}
 use Rattle.feed.specs.declared.answering.Deed.TheVariants as deed
@@ -14,24 +20,40 @@ use Rattle.feed.specs.declared.answering.Done.{Done}
 use Rattle.feed.specs.declared.answering.Drawn.{Drawn}
 use Rattle.requests.specs.Asking.{IsAsked}
 use Rattle.requests.specs.Outlines.{IsConfigOf, Outlined, waiting_at}
+use Rattle.requests.specs.declared.ask.Ask.{Ask}
 use Rattle.requests.specs.declared.ask.Ask.TheVariants as ask
 use Rattle.requests.specs.declared.request.Declaration.{Declaration as DeclarationOf}
 use Rattle.requests.specs.declared.request.Declaration.TheVariants as declaration
 use Rattle.serving.specs.Apart.{AreFrom, IsOrdered, alone}
+use Rattle.serving.specs.Erasing.{AreRun, IsLineKept, Line, is_line_at}
+use Rattle.serving.specs.Erasing.Line.{OfBytes, OfEvent}
 use Rattle.serving.specs.Futures.{AreAlike, IsAlike, moved_config}
-use Rattle.serving.specs.Hosts.{Live, Serves, begun, live_at, new_live}
+use Rattle.serving.specs.Hosts.{IsAnswer, Live, Remembers, Serves, begun, deed_of, deed_of_all, live_at, new_live, slot_of_answers}
 use Rattle.serving.specs.Lowering.{less_outline}
 use Rattle.serving.specs.Merging.{AreBothAlike, RunsAlone}
+use Rattle.serving.specs.declared.all.NodeAnswer.{NodeAnswer}
 
 -- ---- the law
--- The shorter journal of a host that lines led to is whole lines, each of which is kept, and they lead to a host that is
--- alike. So that its own lines are not too long, the longest may not be too short: `close N 0` has at most 18 bytes.
+-- The shorter journal of a host that lines led to, where no block said that memory was wanting, is whole lines, each of which
+-- is kept, and they may lead to a host that is alike. So that its own lines are not too long, the longest may not be too
+-- short: `close N 0` has at most 18 bytes.
 abbrev pub ShorterJournalsLeadToAlikeHosts : Type 0
 ShorterJournalsLeadToAlikeHosts =
     (longest : ℕ) → 32 ≤ longest → (bytes : Bool) (lines journal : List Bytes) (text : Bytes) (w : Watched Live)
-    → ServesAll (Watching Serves) longest (unwatched (new_live bytes)) 1 lines journal text w
+    → ServesAll (Watching Remembers) longest (unwatched (new_live bytes)) 1 lines journal text w
     → (short : List Bytes) × (told : Bytes) × (u : Live) × (compacted w.lines ≡ lines_with_feeds short)
     × ServesAll Serves longest (new_live bytes) 1 short short told u × AreAlike w.server u
+
+-- So is what `compact` writes: the lines that a start runs of the file led to a host, and those that were written may lead to
+-- one that is alike.
+abbrev pub CompactedFilesLeadToAlikeHosts : Type 0
+CompactedFilesLeadToAlikeHosts =
+    (longest : ℕ) → 32 ≤ longest → (bytes : Bool) (file : Bytes) (old new : Option Bytes)
+    → HasCompacted Remembers longest (new_live bytes) (Some file) old new (Ok tt)
+    → (journal : List Bytes) × (text : Bytes) × (l : Live)
+    × ServesAll Remembers longest (new_live bytes) 1 (lines_run file) journal text l
+    × (short : List Bytes) × (told : Bytes) × (u : Live) × Appends old new (lines_with_feeds short)
+    × ServesAll Serves longest (new_live bytes) 1 short short told u × AreAlike l u
 
 -- ---- lines that act on a network
 -- a line, and what it does to its network
@@ -121,6 +143,38 @@ noted_behind o (e ∷ es) = noted_behind (noted o e) es
 abbrev pub slot_lines : List AppliedLine → Option SlotLines
 slot_lines es = noted_behind None es
 
+-- ---- lines that were applied, with memory
+-- the line asks for this of the network of a number: whoever answers this answers the line
+abbrev pub AsksOf : ℕ → ℕ → Bytes → Ask → Type 0
+AsksOf longest g line asked =
+    (n : ℕ) (old new : Live) (a : Reply) → IsAnswer n g asked old a new → Serves old n (given longest line) a new
+
+-- A line that was applied asks for what a network serves, an event or bytes for each node, and it did what came of that.
+pub data IsAskedBy (longest g : ℕ) (e : AppliedLine) : Line → Type 0 where
+  asks_event : (x : Event) (s : Served) (d : Drawn) → AsksOf longest g e.text (ask.Serve x)
+      → deed_of x s d ≡ deed.Applied e.slot e.drawn → IsAskedBy longest g e (OfEvent (step_of x) s d)
+  asks_for_all : (bytes : Bytes) (answers : List NodeAnswer) (d : Drawn) → AsksOf longest g e.text (ask.ForAll bytes)
+      → deed_of_all (slot_of_answers answers) d ≡ deed.Applied e.slot e.drawn
+      → IsAskedBy longest g e (OfBytes bytes answers d)
+
+-- it is of the same slot, and memory sufficed for it
+pub record IsServedFor (longest g : ℕ) (e : AppliedLine) (l : Line) : Type 0 where
+  pub asked : IsAskedBy longest g e l
+  pub at : (i : ℕ) → is_line_at i l ≡ is_at_slot i e
+  pub kept : IsLineKept l
+
+-- each of them
+pub data AreServedFor (longest g : ℕ) : List AppliedLine → List Line → Type 0 where
+  none_served : AreServedFor longest g [] []
+  next_served : {e : AppliedLine} {es : List AppliedLine} {l : Line} {lines : List Line}
+      → IsServedFor longest g e l → AreServedFor longest g es lines → AreServedFor longest g (e ∷ es) (l ∷ lines)
+
+-- lines that were applied lead from one machine to another, with memory for all that they are answered
+pub record AreApplied (longest g : ℕ) (m : Machine) (es : List AppliedLine) (after : Machine) : Type 0 where
+  pub lines : List Line
+  pub served : AreServedFor longest g es lines
+  pub run : AreRun m lines after
+
 -- what these lines drew, and so much more
 abbrev pub all_drawn : List AppliedLine → Drawn → Drawn
 all_drawn [] d = d
@@ -206,7 +260,7 @@ pub record IsNamed (longest : ℕ) (bytes : Bool) (g : ℕ) (lost : Drawn) (ds :
   pub less : config ≡ moved_config lost rest
   pub machine : Machine
   pub left : Machine
-  pub applied : DoAll longest g (one_runs bytes g (begun rest)) (map act_of es) (one_runs bytes g left)
+  pub applied : AreApplied longest g (begun rest) es left
   pub alike : IsAlike machine left
   pub is : own ≡ one_runs bytes g machine
 
@@ -246,33 +300,30 @@ NetworksAreMade =
     (longest : ℕ) (bytes : Bool) (g n : ℕ) (line text : Bytes) (d : Deed) (net : Option NetworkLines)
     (ds : List (ℕ × Declaration)) (es : List AppliedLine) (old new : Live) → AreNoted net ds es
     → of_network g es ≡ es → IsMade longest bytes g net ds es old
-    → Serves old n (given longest line) (record { text = text; done = Some (done_by g d) }) new
+    → Remembers old n (given longest line) (record { text = text; done = Some (done_by g d) }) new
     → IsMade longest bytes g (network_behind n d net) (declarations_behind n line g d ds) (applied_behind n line g d es) new
 
--- ---- laws of others that are used here
+-- ---- laws of lines
 -- Where the lines of open slots led to a network and a slot is closed, the lines of all others lead to one that is alike,
 -- if it began with budgets that are less by what the lines of the slot drew, and its closing.
 abbrev pub SlotsMayBeErased : Type 0
 SlotsMayBeErased =
     (longest : ℕ) (bytes : Bool) (g n i : ℕ) (line text : Bytes) (d : Drawn) (c : Config) (es : List AppliedLine)
-    (m after : Machine) → DoAll longest g (one_runs bytes g (begun c)) (map act_of es) (one_runs bytes g m)
+    (m after : Machine) → AreApplied longest g (begun c) es m
     → Serves (one_runs bytes g m) n (given longest line)
     (record { text = text; done = Some (done_by g (deed.Closed i d)) }) (one_runs bytes g after)
     → (rest : Config) × (left : Machine) × (c ≡ moved_config (all_drawn (at_slot i es) d) rest)
-    × DoAll longest g (one_runs bytes g (begun rest)) (map act_of (but_at_slot i es)) (one_runs bytes g left)
-    × IsAlike after left
+    × AreApplied longest g (begun rest) (but_at_slot i es) left × IsAlike after left
 
 -- An event that is refused changes nothing that matters: where the lines of open slots led to a network that is alike, they
 -- may lead to one that is alike afterwards.
 abbrev pub RefusedLinesStayAlike : Type 0
 RefusedLinesStayAlike =
     (longest : ℕ) (bytes : Bool) (g n : ℕ) (line text : Bytes) (c : Config) (es : List AppliedLine)
-    (m after left : Machine) → DoAll longest g (one_runs bytes g (begun c)) (map act_of es) (one_runs bytes g left)
-    → IsAlike m left
+    (m after left : Machine) → AreApplied longest g (begun c) es left → IsAlike m left
     → Serves (one_runs bytes g m) n (given longest line) (record { text = text; done = Some (done_by g deed.Refused) })
     (one_runs bytes g after)
-    → (next : Machine) × DoAll longest g (one_runs bytes g (begun c)) (map act_of es) (one_runs bytes g next)
-    × IsAlike after next
+    → (next : Machine) × AreApplied longest g (begun c) es next × IsAlike after next
 
 -- Lines that declare a network declare it with budgets that are less, if these are.
 abbrev pub DeclarationsMayBeLowered : Type 0
@@ -317,8 +368,3 @@ abbrev pub IsShortened : ℕ → Bool → ℕ → Live → List Bytes → Type 0
 IsShortened longest bytes g l lines =
     (u : Live) × RunsAlone longest g (new_live bytes) lines u × (u.bytes ≡ bytes)
     × (waiting_at u.waiting g ≡ waiting_at l.waiting g) × AreBothAlike (live_at l g) (live_at u g)
-
--- ---- what is left to prove
--- the law, if closed slots may be erased
-abbrev pub ShorterJournalsFollow : Type 0
-ShorterJournalsFollow = SlotsMayBeErased → ShorterJournalsLeadToAlikeHosts

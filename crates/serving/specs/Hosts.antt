@@ -34,7 +34,7 @@ use Rattle.questions.specs.Left.{all_left, left_line, left_of}
 use Rattle.questions.specs.Shown.{Shows}
 use Rattle.questions.specs.declared.left.Left.{Left}
 use Rattle.requests.specs.Asking.{IsAsked}
-use Rattle.serving.specs.Blocks.{block_of, closing_line, closing_of, line_of_telling}
+use Rattle.serving.specs.Blocks.{TellsOfNoWant, block_of, closing_line, closing_of, line_of_telling}
 use Rattle.requests.specs.declared.ask.Ask.{Ask}
 use Rattle.requests.specs.declared.ask.Ask.TheVariants as ask
 use Rattle.serving.specs.declared.block.Closing.{Closing}
@@ -324,3 +324,7 @@ abbrev pub Serves : Serving Live
 Serves old n None a new = IsBadLine n old a new
 Serves old n (Some line) a new =
     (IsSkipped line × (a ≡ unanswered) × (new ≡ old)) ⊎ ((IsSkipped line → ⊥) × IsLineAnswered n line old a new)
+
+-- likewise where a journal is kept, which tells what a line did only if memory sufficed: no block says that it was wanting
+abbrev pub Remembers : Serving Live
+Remembers old n line a new = Serves old n line a new × TellsOfNoWant a.text

@@ -1,12 +1,14 @@
 //! Laws on journals that are made shorter.
 
-ghost use Rattle.serving.specs.Compacted.{DeclarationsAreSmall, DeclarationsMayBeLowered, NamingLinesBegin, RefusedLinesStayAlike, ShorterJournalsFollow};
+ghost use Rattle.serving.specs.Compacted.{CompactedFilesLeadToAlikeHosts, DeclarationsAreSmall, DeclarationsMayBeLowered, NamingLinesBegin, RefusedLinesStayAlike, ShorterJournalsLeadToAlikeHosts, SlotsMayBeErased};
 
-/// A law: the shorter journal of a host leads to one that is alike, if closed slots may be erased.
+/// A law: the shorter journal of a host leads to one that is alike, where no block said that memory was wanting.
 pub fn shorter_journals_follow()
     ensures small { DeclarationsAreSmall }
     ensures lowered { DeclarationsMayBeLowered }
+    ensures erased { SlotsMayBeErased }
     ensures refused { RefusedLinesStayAlike }
     ensures naming { NamingLinesBegin }
-    ensures law { ShorterJournalsFollow }
+    ensures law { ShorterJournalsLeadToAlikeHosts }
+    ensures files { CompactedFilesLeadToAlikeHosts }
 {}
