@@ -23,13 +23,13 @@ text_of_verdict (CastDiffers u) = codes "cast differs at " ++ (text_of_name u ++
 text_of_verdict (InputsDiffer place) = codes "inputs differ at " ++ (decimal place ++ 10 ∷ [])
 text_of_verdict (Same list) = codes "same" ++ 10 ∷ flat_map line_of_member list
 
--- whether it finds a difference
+-- a verdict finds a difference
 abbrev pub is_difference : Verdict → Bool
 is_difference (CastDiffers u) = true
 is_difference (InputsDiffer place) = true
 is_difference (Same list) = false
 
--- the lines of a verdict are the text, or its beginning where an explanation is asked for and a difference is found
+-- a text has the lines of a verdict, and behind those of a difference an explanation where one is asked for
 abbrev pub IsExplained : Bool → Verdict → Bytes → Type 0
 IsExplained explain verdict text =
     (more : Bytes) × (text ≡ text_of_verdict verdict ++ more) × ((explain && is_difference verdict) ≡ false → more ≡ [])

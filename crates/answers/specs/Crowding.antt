@@ -17,7 +17,7 @@ use Rattle.scripts.specs.Script.{Bytes}
 use Rattle.answers.specs.declared.answer.Answer.{Answer}
 use Rattle.types.specs.declared.subject.Subject.{Subject}
 
--- the text with a line feed (10) behind it
+-- a text with a line feed (10) behind it
 abbrev pub line : Bytes → Bytes
 line text = text ++ 10 ∷ []
 
@@ -26,7 +26,7 @@ abbrev pub line_of_reply : Reply → Bytes
 line_of_reply (Done outs) = line (codes "ok" ++ flat_map behind_space outs)
 line_of_reply (Refused r) = line (refusal_text r)
 
--- the same, of what the code answers
+-- the line of a reply as the code has it
 abbrev pub line_of_replied : Replied → Bytes
 line_of_replied r = line_of_reply (reply_of r)
 
@@ -46,7 +46,7 @@ is_difference RosterDiffers = true
 is_difference (OutsideRoster u) = true
 is_difference (InputsDiffer place) = true
 
--- the answer tells this verdict
+-- an answer tells this verdict on two submissions
 abbrev pub Tells : Crowd → Answer → Type 0
 Tells verdict answer = (answer.differs ≡ is_difference verdict) × (string_bytes answer.text ≡ lines_of verdict)
 

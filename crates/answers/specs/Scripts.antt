@@ -63,7 +63,7 @@ pub record Story : Type 0 where
   pub run : Unprinted
   pub text : Bytes
 
--- before the first line; the trace of the lines is kept where it is asked for
+-- what a script begins with: no network, and the trace of the lines where it is asked for
 abbrev pub start_of : Bool → Unprinted
 start_of traced = record { hosting = new_hosting; trace = if traced then Some [] else None }
 
@@ -77,11 +77,11 @@ pub record HasEnded (start : Unprinted) (text : Bytes) (end : Unprinted) : Type 
 abbrev pub IsStoryOf : Bool → Option Bytes → Story → Type 0
 IsStoryOf traced file story = IsTextOf file story.text × HasEnded (start_of traced) story.text story.run
 
--- a run of the networks of a file stopped so
+-- a run of the networks of a file stopped so, without printing
 abbrev pub StopsStory : Bool → Option Bytes → Stop → Type 0
 StopsStory traced = HasStopped TellsUnprinted RefusesUnprinted (start_of traced)
 
--- that of one of two files stopped so; the second one is run where the first one came to its end
+-- the run of the networks of one of two files stopped so; the second is run where the first came to its end
 abbrev pub StopsStories : Bool → Option Bytes → Option Bytes → Stop → Type 0
 StopsStories traced one other why =
     StopsStory traced one why ⊎ ((first : Story) × IsStoryOf traced one first × StopsStory traced other why)
@@ -108,7 +108,7 @@ IsSubmittedBy = HasRunFile Submits RefusesToSubmit new_submitting IsComplete
 abbrev pub StopsSubmission : Option Bytes → Stop → Type 0
 StopsSubmission = HasStopped Submits RefusesToSubmit new_submitting
 
--- that of one of two files stopped so; the second one is run where the first one came to its end
+-- the run of one of two files for what it submits stopped so; the second is run where the first came to its end
 abbrev pub StopsSubmissions : Option Bytes → Option Bytes → Stop → Type 0
 StopsSubmissions one other why =
     StopsSubmission one why ⊎ ((first : Submitting) × IsSubmittedBy one first × StopsSubmission other why)

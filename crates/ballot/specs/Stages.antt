@@ -7,7 +7,7 @@ use Rattle.fedvote.specs.Questions.{accepts, backs, kind_of_claim}
 use Rattle.ballot.specs.declared.checks.Stage.{Stage}
 use Rattle.ballot.specs.declared.checks.Stage.TheVariants.{Accepted, Confirmed}
 
--- a node in this position accepts the claim, or it confirms it
+-- a node in this position accepts a claim, or it confirms it
 abbrev pub has_come_to : Stage → Seen → Option Statement → Claim → Bool
 has_come_to Accepted seen own claim = accepted seen (kind_of_claim claim) own (backs claim) (accepts claim)
 has_come_to Confirmed seen own claim = confirmed seen (kind_of_claim claim) own (accepts claim)

@@ -35,11 +35,11 @@ pub record IsEnteredAt (old : CellStateSight) (event : Event) (r : AppliedEvent)
   pub made : r ≡ receipt old.log.config old.log.entries event r.outs
   pub cell_state : new ≡ record old { log = record old.log { entries = old.log.entries ++ entry_of r ∷ [] } }
 
--- why it was not entered; the stop mark comes first
+-- why an event was not entered; the stop mark comes first
 abbrev pub IsDenied : CellStateSight → Event → CellRefusal → Type 0
 IsDenied d event r = IsWhy d.log.config d.log.entries d.stopped event r × ((r ≡ Closed) ↔ (d.stopped ≡ true))
 
--- The seat gained one receipt, of this event with what it gives out after the entries before it, after which it is not
+-- A seat gained one receipt, of this event with what it gives out after the entries before it, after which it is not
 -- refused, and nothing else but what it saw.
 pub record IsApplied (c : CellSight) (event : Event) (old new : SeatSight) : Type 0 where
   pub before : List Entry
@@ -52,20 +52,20 @@ pub record IsApplied (c : CellSight) (event : Event) (old new : SeatSight) : Typ
   pub denials : new.me.denials ≡ old.me.denials
   pub stops : new.me.stops ≡ old.me.stops
 
--- The seat gained one denial, and nothing else but what it saw.
+-- A seat gained one denial, and nothing else but what it saw.
 pub record IsDenial (event : Event) (r : CellRefusal) (old new : SeatSight) : Type 0 where
   pub receipts : new.me.receipts ≡ old.me.receipts
   pub denials : new.me.denials ≡ old.me.denials ++ denial event r (length new.me.seen) ∷ []
   pub stops : new.me.stops ≡ old.me.stops
 
--- The seat set the mark once more, and gained nothing but what it saw.
+-- A seat set the stop mark once more, and gained nothing but what it saw.
 pub record IsStopped (old new : SeatSight) : Type 0 where
   pub stopped : new.me.stopped ≡ true
   pub stops : new.me.stops ≡ old.me.stops + 1
   pub receipts : new.me.receipts ≡ old.me.receipts
   pub denials : new.me.denials ≡ old.me.denials
 
--- The seat gained nothing but what it saw.
+-- A seat gained nothing but what it saw.
 pub record IsSameButSeen (old new : SeatSight) : Type 0 where
   pub receipts : new.me.receipts ≡ old.me.receipts
   pub denials : new.me.denials ≡ old.me.denials

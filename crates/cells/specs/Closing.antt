@@ -10,9 +10,11 @@ use Rattle.cells.specs.Sights.{SeatSight}
 use Rattle.cells.specs.Sounds.{IsSound, AllStand, AllRight}
 use Rattle.cells.specs.Views.{CellStateSight, Knowledge}
 
+-- the test holds of each of these seats
 abbrev pub AllSeats : (SeatSight → Type 0) → List SeatSight → Type 0
 AllSeats P ss = All P ss
 
+-- one of these seats has this number
 abbrev pub HasNumber : List SeatSight → ℕ → Type 0
 HasNumber seats k = (i : ℕ) × (s : SeatSight) × (slice_get seats i ≡ Some s) × (s.me.number ≡ k)
 
@@ -21,11 +23,11 @@ abbrev pub receipts_in : List SeatSight → ℕ
 receipts_in [] = 0
 receipts_in (s ∷ ss) = length s.me.receipts + receipts_in ss
 
--- the seat has ended, and is as it was
+-- what is seen of a seat that has ended, and is as it was
 abbrev pub ended_sight : SeatSight → SeatSight
 ended_sight s = record s { me = after_end s.me }
 
--- the cell state, and what is known of each seat by it
+-- at the close: the cell state, and what is known of each seat by it
 pub record Gathered (c : Config) (n : ℕ) (d : CellStateSight) (seats : List SeatSight) : Type 0 where
   pub owners : List ℕ
   pub stopper : ℕ
@@ -35,9 +37,9 @@ pub record Gathered (c : Config) (n : ℕ) (d : CellStateSight) (seats : List Se
   pub within : d.stopped ≡ true → stopper < n
   pub end_known : AllSeats (λ s. IsKnownAtEnd c d.log.entries owners d.stopped stopper s.me × IsSound s.me × (s.me.config ≡ c)) seats
 
--- Each entry is one seat's, and each seat's receipts are its entries. What each seat saw is a beginning, and all there is
--- where it saw the mark. Each denial was right. A mark was set by some seat. Where no more seats are there than the cell
--- has, there are as many entries as receipts.
+-- A journal is one history of its seats: each entry is one seat's, and each seat's receipts are its entries. What each
+-- seat saw is a beginning, and all there is where it saw the mark. Each denial was right. A mark was set by some seat.
+-- Where no more seats are there than the cell has, there are as many entries as receipts.
 pub record IsOneHistory (n : ℕ) (j : Log) (seats : List SeatSight) : Type 0 where
   pub owners : List ℕ
   pub paired : length owners ≡ length j.entries

@@ -38,6 +38,7 @@ receipt config before event outs = record {
 abbrev pub entry_of : AppliedEvent → Entry
 entry_of r = record { event = step_of r.event; outs = r.outs }
 
+-- what a receipt has, without the event's bytes
 abbrev pub extract_of : AppliedEvent → Extract
 extract_of r = record { network = r.network; number = r.number; step = step_of r.event; outs = r.outs; marks = r.marks }
 

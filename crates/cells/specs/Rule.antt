@@ -10,7 +10,7 @@ use Rattle.cells.specs.declared.refusal.CellRefusal.{CellRefusal}
 use Rattle.cells.specs.Receipts.{AppliedEvent, entry_of, extract_of, extracts_of}
 use Rattle.cells.specs.Views.{Denial, CellStateSight, Knowledge, nobody}
 
--- the pass with which a lock begins
+-- what the pass knows with which a lock begins
 abbrev pub opener : Knowledge
 opener = record nobody { opening = true }
 
@@ -18,25 +18,30 @@ opener = record nobody { opening = true }
 abbrev pub after_opening : Config → ℕ → Knowledge
 after_opening config seats = record nobody { opens = true; known = true; config = config; seats = seats }
 
+-- what the pass that makes seats knows once it has made one more
 abbrev pub one_more : Knowledge → Knowledge
 one_more v = record v { made = suc v.made }
 
 abbrev pub fresh : Config → ℕ → ℕ → Knowledge
 fresh config seats number = record nobody { known = true; live = true; config = config; seats = seats; number = number }
 
+-- what the next seat knows that is made
 abbrev pub seat_of : Knowledge → Knowledge
 seat_of v = fresh v.config v.seats v.made
 
+-- what a seat knows that has ended
 abbrev pub after_end : Knowledge → Knowledge
 after_end v = record v { closed = true }
 
+-- what the note of an ended seat knows
 abbrev pub note_of : Knowledge → Knowledge
 note_of v = record v { live = false; claims = true; closed = true }
 
+-- what the pass knows that closes a cell
 abbrev pub closer_of : Knowledge → Knowledge
 closer_of v = record nobody { known = true; config = v.config; seats = v.seats }
 
--- the closer with a note
+-- what the closer knows with a note
 abbrev pub with_note : Knowledge → Knowledge → Knowledge
 with_note v w = record v {
   claims = w.claims;
@@ -49,6 +54,7 @@ with_note v w = record v {
   stops = w.stops;
 }
 
+-- the cell state with these entries and this mark
 abbrev pub cell_state_at : Config → ℕ → List Entry → Bool → CellStateSight
 cell_state_at config seats entries over =
     record { log = record { config = config; entries = entries }; stopped = over; seats = seats }
@@ -114,10 +120,11 @@ pub record IsOpen (g : World) (items : List CellStateSight) (views : List Knowle
   pub made : g.past.made ≤ g.past.seats
   pub fit : AllFit g views
 
--- before the cell state is there, or after
+-- the rule of a cell's lock: before the cell state is there, or after; then all passes fit one history
 abbrev pub Holds : List CellStateSight → List Knowledge → Type 0
 Holds items views = ((items ≡ []) × (views ≡ opener ∷ [])) ⊎ ((g : World) × IsOpen g items views)
 
+-- the cell state is not in its place: somebody has it
 abbrev pub IsEmpty : List CellStateSight → Type 0
 IsEmpty items = items ≡ []
 
@@ -126,6 +133,7 @@ abbrev pub after_taking : Knowledge → List Entry → Bool → List ℕ → ℕ
 after_taking v all over owners stopper =
     record v { holding = true; all = all; over = over; owners = owners; stopper = stopper }
 
+-- the cell state was taken: what its taker knows from now on, which begins with all that it had seen
 pub record IsTaken (v : Knowledge) (x : CellStateSight) (w : Knowledge) : Type 0 where
   pub config : x.log.config ≡ v.config
   pub seats : x.seats ≡ v.seats
@@ -144,11 +152,11 @@ pub record IsKnownAtEnd (config : Config) (entries : List Entry) (owners : List 
   pub receipts : map extract_of v.receipts ≡ extracts_of config v.number owners entries
   pub stops : over ≡ true → v.number ≡ stopper → 0 < v.stops
 
--- the cell state that the closer has agrees with the note
+-- the cell state that the closer has agrees with its note
 abbrev pub Agrees : Knowledge → Type 0
 Agrees v = IsKnownAtEnd v.config v.all v.owners v.over v.stopper v
 
--- the view after an application, a refusal, a look and a stop
+-- what a seat knows after an event was applied
 abbrev pub after_application : Knowledge → AppliedEvent → Knowledge
 after_application v r =
     record v { holding = false; seen = v.all ++ entry_of r ∷ []; stopped = v.over; receipts = v.receipts ++ r ∷ [] }
@@ -156,6 +164,7 @@ after_application v r =
 abbrev pub denial : Event → CellRefusal → ℕ → Denial
 denial event refusal n = record { event = event; refusal = refusal; length = n }
 
+-- what a seat knows after an event was refused
 abbrev pub after_denial : Knowledge → Event → CellRefusal → Knowledge
 after_denial v event refusal = record v {
   holding = false;
@@ -171,7 +180,7 @@ after_look v = record v { holding = false; seen = v.all; stopped = v.over }
 abbrev pub after_stop : Knowledge → Knowledge
 after_stop v = record v { holding = false; seen = v.all; stopped = true; stops = suc v.stops }
 
--- a seat with the cell state
+-- a seat that has the cell state
 pub record HasCellState (v : Knowledge) : Type 0 where
   pub known : v.known ≡ true
   pub live : v.live ≡ true

@@ -45,7 +45,7 @@ abbrev pub IsRising : ℕ → List AppliedEvent → Type 0
 IsRising n [] = Unit {0}
 IsRising n (r ∷ rs) = (n ≤ r.number) × IsRising (suc r.number) rs
 
--- receipts stand in what was seen, at rising numbers, and denials were right
+-- what a seat knows is sound: receipts stand in what was seen, at rising numbers, and denials were right
 pub record IsSound (v : Knowledge) : Type 0 where
   pub stand : AllStand v.config v.seen v.receipts
   pub rising : IsRising 0 v.receipts

@@ -6,7 +6,7 @@ use Rattle.hoststep.specs.Logs.{Log}
 use Rattle.cells.specs.declared.refusal.CellRefusal.{CellRefusal}
 use Rattle.cells.specs.Receipts.{AppliedEvent}
 
--- the journal, the stop mark, and how many seats the cell has
+-- what lies under the lock of a cell: the journal, the stop mark, and how many seats the cell has
 pub record CellStateSight : Type 0 where
   pub log : Log
   pub stopped : Bool
@@ -47,6 +47,7 @@ pub record Knowledge : Type 0 where
 abbrev pub no_config : Config
 no_config = record { number = 0; nodes = []; budgets = record { events = 0; bytes = 0; slots = 0 }; roster = None }
 
+-- what a pass knows that knows nothing
 abbrev pub nobody : Knowledge
 nobody = record {
   opening = false;

@@ -49,11 +49,11 @@ pub data IsNamedBy (nodes : List HostedNode) (i : ℕ) (run : List Entry) (membe
   learnt : (n : ℕ) (a : AnnouncedSlices) → announced_at run n ≡ Some a → a.slot ≡ i → a.sender ≡ w
       → IsTrue (members a.receiver) → IsTrue (among (names a.slices) u) → IsNamedBy nodes i run members w u
 
--- members in order, each with the place of the member that named it
+-- a closure as a list: members in order, each with the place of the member that named it
 abbrev pub MemberList : Type 0
 MemberList = List (ℕ × ℕ)
 
--- their names, in order
+-- the names of a list of members, in order
 abbrev pub names_of : MemberList → List ℕ
 names_of list = map (λ m. m.0) list
 
@@ -97,7 +97,7 @@ pub record IsClosureList (nodes : List HostedNode) (i v : ℕ) (run : List Entry
   pub in_turn : AreMembersAt nodes i v run 0 list
   pub exactly : (u : ℕ) → among (names_of list) u ≡ closure nodes i v run u
 
--- there is one such list
+-- a closure has only one list
 abbrev pub ClosureListsAreOne : Type 0
 ClosureListsAreOne =
     (nodes : List HostedNode) (i v : ℕ) (run : List Entry) (one other : MemberList) → IsClosureList nodes i v run one

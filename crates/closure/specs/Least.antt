@@ -2,11 +2,11 @@
 use Rattle.std.specs.Prelude.{ℕ, ◌<◌, nat_lt, List, Option, Some, None, if◌then◌else◌, IsTrue}
 use Rattle.protocol.specs.Sets.{among}
 
--- all of the names are as they should be
+-- all of these names are as they should be
 abbrev pub AreAll : (ℕ → Type 0) → List ℕ → Type 0
 AreAll Good list = (u : ℕ) → IsTrue (among list u) → Good u
 
--- it is the least of the names that is not
+-- the least of the names that is not as it should be
 pub record IsLeast (Bad Good : ℕ → Type 0) (list : List ℕ) (u : ℕ) : Type 0 where
   pub member : IsTrue (among list u)
   pub bad : Bad u

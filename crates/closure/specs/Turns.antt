@@ -29,7 +29,7 @@ abbrev pub last_below : (Option AnnouncedSlices → Option ℕ) → List Entry �
 last_below party run w zero = None
 last_below party run w (suc k) = if is_this w (party (announced_at run k)) then Some k else last_below party run w k
 
--- what stands beside a name
+-- what a list of pairs has beside a name
 abbrev pub found_by : List (ℕ × ℕ) → ℕ → Option ℕ
 found_by [] u = None
 found_by (x ∷ xs) u = if x.0 == u then Some x.1 else found_by xs u
@@ -39,7 +39,7 @@ pub record PartyIndex : Type 0 where
   pub latest : List (ℕ × ℕ)
   pub earlier : List (Option ℕ)
 
--- one more entry
+-- the index is that of one more entry
 abbrev pub IsIndexedTo : PartyIndex → PartyIndex → Option ℕ → Type 0
 IsIndexedTo old new None = (new.latest ≡ old.latest) × (new.earlier ≡ old.earlier ++ None ∷ [])
 IsIndexedTo old new (Some w) =
@@ -59,7 +59,7 @@ pub record AnnouncementIndex : Type 0 where
   pub sent : PartyIndex
   pub heard : PartyIndex
 
--- both are of the announcements at the slot among the first n entries
+-- both indexes are of the announcements at the slot among the first n entries
 pub record AreIndexed (i : ℕ) (run : List Entry) (n : ℕ) (d : AnnouncementIndex) : Type 0 where
   pub sent : IsIndex (sender_at i) run n d.sent
   pub heard : IsIndex (receiver_at i) run n d.heard
@@ -75,7 +75,7 @@ with_ready [] place n = []
 with_ready (x ∷ xs) zero n = (x ++ n ∷ []) ∷ xs
 with_ready (x ∷ xs) (suc place) n = x ∷ with_ready xs place n
 
--- after a turn at a place no number is ready there; a first turn, at the next place, gives it a list
+-- the lists after a turn: none is ready at its place; a first turn, at the next place, gives it a list
 abbrev pub lists_after_turn : List (List ℕ) → ℕ → List (List ℕ)
 lists_after_turn [] place = [] ∷ []
 lists_after_turn (x ∷ xs) zero = [] ∷ xs
@@ -129,11 +129,11 @@ pub record AreCovered (nodes : List HostedNode) (i : ℕ) (run : List Entry) (me
       → IsTrue (among members u)
       ⊎ (IsDue i run (among members) (ready_at ready j) w u ⊎ ((j ≡ place) × IsTrue (among given u)))
 
--- and no turn is underway
+-- all that a member named in its turn is a member, or its list has the announcement of it; and no turn is underway
 abbrev pub IsReady : List HostedNode → ℕ → List Entry → List ℕ → List (List ℕ) → Type 0
 IsReady nodes i run members ready = AreCovered nodes i run members ready 0 []
 
--- the names that w gives in its turn: nothing but what it names, and all of that, save what is a member already
+-- the names that a member gives in its turn: nothing but what it names, and all of that which is no member already
 pub record IsGiven (nodes : List HostedNode) (i : ℕ) (run : List Entry) (members : List ℕ) (w : ℕ) (given : List ℕ)
     : Type 0 where
   pub sound : (u : ℕ) → IsTrue (among given u) → IsNamedBy nodes i run (among members) w u
@@ -144,16 +144,16 @@ abbrev pub AreInOrder : List ℕ → Type 0
 AreInOrder xs = AllPairs (λ x y. x ≤ y) xs
 
 -- ---- members that join
--- a name is added at the end, with the place of the member that names it, unless it is there
+-- the list with a name at its end, with the place of the member that names it, unless it is there
 abbrev pub with_member : MemberList → ℕ → ℕ → MemberList
 with_member list u place = if among (names_of list) u then list else list ++ (u, place) ∷ []
 
--- numbers became ready, and all that were stay so
+-- numbers became ready, and all that were ready stay so
 pub record AreMore (old new : List (List ℕ)) : Type 0 where
   pub counted : length new ≡ length old
   pub kept : (j n : ℕ) → IsTrue (among (ready_at old j) n) → IsTrue (among (ready_at new j) n)
 
--- the entry with this number is ready for its sender, where that is a member that had a turn
+-- an entry is ready for its sender, where that is a member that had a turn
 abbrev pub IsFor : List ℕ → List (List ℕ) → ℕ → Option AnnouncedSlices → Type 0
 IsFor members ready n o =
     (a : AnnouncedSlices) (j : ℕ) → o ≡ Some a → slice_get members j ≡ Some a.sender → j < length ready

@@ -6,7 +6,7 @@ use Rattle.codec.specs.declared.error.CodecError.{CodecError}
 use Rattle.codec.specs.declared.error.CodecError.TheVariants as errors
 use Rattle.codec.specs.Grammar.{IsFault}
 
--- the numbers of the faults
+-- the numbers of the faults of an envelope's bytes
 abbrev pub fault_number : Fault → ℕ
 fault_number Truncated = 1
 fault_number TrailingBytes = 2
@@ -17,12 +17,12 @@ fault_number BadSlices = 6
 fault_number BadStatement = 7
 fault_number SpareVersion = 9
 
--- the numbers of all errors
+-- the numbers of all errors of the codec
 abbrev pub error_number : CodecError → ℕ
 error_number (errors.Fault f) = fault_number f
 error_number errors.NoMemory = 8
 
--- the text has the fault; of want of memory the text says nothing
+-- the text has the fault that an error names; of want of memory the text says nothing
 abbrev pub Refuses : List ℕ → CodecError → Type 0
 Refuses text (errors.Fault f) = IsFault text f
 Refuses text errors.NoMemory = Unit {0}

@@ -9,7 +9,7 @@ pub record AreFound (names ascending : List ℕ) : Type 0 where
   pub rising : rises ascending ≡ true
   pub same : IsPermutation names ascending
 
--- the place of a name behind those below it and before those above it
+-- the place of a name in a list: behind those below it and before those above it
 pub record IsPlace (ascending : List ℕ) (u place : ℕ) : Type 0 where
   pub within : place ≤ length ascending
   pub before : (k : ℕ) → k < place → get_or ascending k 0 < u

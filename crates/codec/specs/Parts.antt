@@ -9,12 +9,12 @@ use Rattle.types.specs.declared.nested.Member.TheVariants.{Node, Set}
 abbrev pub Part : Type 0
 Part = ℕ ⊎ Slices
 
--- what a member in memory is seen as
+-- a member in memory, as a name or an inner set of the definitions
 abbrev pub part_of : Member → Part
 part_of (Node u) = inl u
 part_of (Set s) = inr s
 
--- the names in it
+-- the names in a member
 abbrev pub part_names : Part → List ℕ
 part_names (inl u) = u ∷ []
 part_names (inr q) = names_in q.members

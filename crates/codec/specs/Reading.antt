@@ -25,16 +25,16 @@ Words = ℕ × (ℕ × (ℕ × ℕ))
 abbrev pub name_of : Words → ℕ
 name_of x = x.0 * 2 ^ 192 + x.1.0 * 2 ^ 128 + x.1.1.0 * 2 ^ 64 + x.1.1.1
 
--- a name
+-- reads a name
 unfoldable pub name_at : Reads ℕ
 name_at =
     read_as (read_then (number_at w64) (λ a. read_then (number_at w64) (λ b. read_then (number_at w64) (λ c. number_at w64)))) name_of
 
--- a length that a value may have, and so many bytes
+-- reads a value: a length that it may have, and so many bytes
 unfoldable pub value_at : Reads (List ℕ)
 value_at = read_as (read_then (read_judged (number_at w16) length_fault) bytes_at) (λ x. x.1)
 
--- a counter and a value
+-- reads a ballot: a counter and a value
 unfoldable pub ballot_at : Reads Ballot
 ballot_at = read_as (read_then (number_at w32) (λ c. value_at)) (λ x. record { counter = x.0; value = x.1 })
 
@@ -43,76 +43,76 @@ abbrev pub some_or_none : Unit {0} ⊎ Ballot → Option Ballot
 some_or_none (inl u) = None
 some_or_none (inr b) = Some b
 
--- a flag, and a ballot behind a 1
+-- reads a ballot that may be missing: a flag, and the ballot behind a 1
 unfoldable pub optional_at : Reads (Option Ballot)
 optional_at = read_as (read_either 0 (λ bytes. Ok (tt, bytes)) 1 ballot_at BadStatement) some_or_none
 
 -- ---- slices
--- a name that joins those so far
+-- reads a name that joins those read so far
 unfoldable pub new_name_at : List ℕ → Reads ℕ
 new_name_at seen = read_judged name_at (name_fault seen)
 
--- one member, where set_of reads what stands behind a 1
+-- reads one member, where set_of reads what stands behind a 1
 unfoldable pub member_at : (List ℕ → Reads Slices) → List ℕ → Reads Part
 member_at set_of seen = read_either 0 (new_name_at seen) 1 (set_of seen) BadSlices
 
--- so many members, one after another
+-- reads so many members, one after another
 unfoldable pub members_at : (List ℕ → Reads Slices) → ℕ → List ℕ → Reads Members
 members_at set_of zero seen bytes = Ok (none, bytes)
 members_at set_of (suc n) seen bytes =
     read_as (read_then (member_at set_of seen) (λ m. members_at set_of n (seen ++ part_names m))) (λ x. part_before x.0 x.1) bytes
 
--- a threshold and a count
+-- reads a threshold and a count
 unfoldable pub header_at : Reads (ℕ × ℕ)
 header_at = read_judged (read_then byte_at (λ k. byte_at)) header_fault
 
--- a threshold, a count and the members, where set_of reads inner sets
+-- reads a set: a threshold, a count and the members, where set_of reads inner sets
 unfoldable pub set_with : (List ℕ → Reads Slices) → List ℕ → Reads Slices
 set_with set_of seen =
     read_as (read_then header_at (λ h. members_at set_of h.1 seen)) (λ x. record { threshold = x.0.0; members = x.1 })
 
--- what stands behind a 1, with so many levels of inner sets left
+-- reads what stands behind a 1: an inner set, with so many levels left
 unfoldable pub inner_at : ℕ → List ℕ → Reads Slices
 inner_at zero seen bytes = Err BadSlices
 inner_at (suc levels) seen bytes = set_with (inner_at levels) seen bytes
 
--- a set with so many levels of inner sets, and no names before it
+-- reads a set with so many levels of inner sets, and no names before it
 unfoldable pub nested_at : ℕ → Reads Slices
 nested_at levels = set_with (inner_at levels) []
 
--- the slices of an envelope of the version
+-- reads the slices of an envelope of the version
 unfoldable pub slices_at : ℕ → Reads Slices
 slices_at v = read_judged (nested_at (levels_in v)) (spare_fault v)
 
 -- ---- statements
--- so many values, one after another
+-- reads so many values, one after another
 unfoldable pub values_at : ℕ → Reads (List (List ℕ))
 values_at zero bytes = Ok ([], bytes)
 values_at (suc n) bytes = read_as (read_then value_at (λ v. values_at n)) (λ x. x.0 ∷ x.1) bytes
 
--- a count and so many values
+-- reads a set of values of a nomination: a count and so many values
 unfoldable pub nominated_at : Reads (List (List ℕ))
 nominated_at = read_as (read_then (read_judged byte_at count_fault) values_at) (λ x. x.1)
 
--- the fields of NOMINATE
+-- reads the fields of NOMINATE
 unfoldable pub nominate_at : Reads Statement
 nominate_at = read_as (read_then nominated_at (λ v. nominated_at)) (λ x. Nominate x.0 x.1)
 
--- the fields of PREPARE
+-- reads the fields of PREPARE
 unfoldable pub prepare_at : Reads Statement
 prepare_at =
     read_as (read_then ballot_at (λ b. read_then optional_at (λ p. read_then (number_at w32) (λ a. read_then (number_at w32) (λ h. number_at w32))))) (λ x. Prepare x.0 x.1.0 x.1.1.0 x.1.1.1.0 x.1.1.1.1)
 
--- the fields of COMMIT
+-- reads the fields of COMMIT
 unfoldable pub commit_at : Reads Statement
 commit_at =
     read_as (read_then ballot_at (λ b. read_then (number_at w32) (λ p. read_then (number_at w32) (λ h. number_at w32)))) (λ x. Commit x.0 x.1.0 x.1.1.0 x.1.1.1)
 
--- the fields of EXTERNALIZE
+-- reads the fields of EXTERNALIZE
 unfoldable pub externalize_at : Reads Statement
 externalize_at = read_as (read_then ballot_at (λ b. number_at w32)) (λ x. Externalize x.0 x.1)
 
--- the fields of a statement of the kind
+-- reads the fields of a statement of the kind
 unfoldable pub body_at : ℕ → Reads Statement
 body_at kind bytes =
     if kind == 1 then nominate_at bytes else if kind == 2 then prepare_at bytes else if kind == 3 then commit_at bytes
@@ -123,11 +123,11 @@ unfoldable pub statement_at : ℕ → Reads Statement
 statement_at kind = read_judged (body_at kind) statement_fault
 
 -- ---- envelopes
--- the version
+-- reads the version
 unfoldable pub version_at : Reads ℕ
 version_at = read_judged byte_at version_fault
 
--- the kind
+-- reads the kind
 unfoldable pub kind_at : Reads ℕ
 kind_at = read_judged byte_at kind_fault
 
@@ -139,16 +139,16 @@ Fields = ℕ × (ℕ × (ℕ × (ℕ × (Slices × Statement))))
 abbrev pub sent_of : Fields → Sent
 sent_of x = record { sender = x.1.1.0; slot = x.1.1.1.0; slices = x.1.1.1.1.0; body = x.1.1.1.1.1 }
 
--- what stands behind the version and the kind: sender, slot, slices and statement
+-- reads what stands behind the version and the kind: sender, slot, slices and statement
 unfoldable pub parts_at : ℕ → ℕ → Reads (ℕ × (ℕ × (Slices × Statement)))
 parts_at v k =
     read_then name_at (λ sender. read_then (number_at w64) (λ slot. read_then (slices_at v) (λ q. statement_at k)))
 
--- an envelope
+-- reads an envelope from the front of bytes
 unfoldable pub envelope_at : Reads Sent
 envelope_at = read_as (read_then version_at (λ v. read_then kind_at (λ k. parts_at v k))) sent_of
 
--- all of the bytes
+-- reads an envelope that all of the bytes spell
 unfoldable pub decoding : List ℕ → Result Sent Fault
 decoding bytes =
     if nat_lt most_bytes (length bytes) then Err Limit

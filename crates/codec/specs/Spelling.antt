@@ -12,26 +12,26 @@ use Rattle.types.specs.Statements.{Sent, IsEnvelope}
 abbrev pub byte : ℕ → List ℕ
 byte n = n ∷ []
 
--- a name: its four words of 64 bits
+-- the spelling of a name: its four words of 64 bits
 unfoldable pub name : ℕ → List ℕ
 name u =
     to_be_bytes w64 (u / 2 ^ 192)
     ++ (to_be_bytes w64 (u / 2 ^ 128 % 2 ^ 64) ++ (to_be_bytes w64 (u / 2 ^ 64 % 2 ^ 64) ++ to_be_bytes w64 (u % 2 ^ 64)))
 
--- a value: two bytes of length, and that many bytes
+-- the spelling of a value: two bytes of length, and that many bytes
 abbrev pub value : List ℕ → List ℕ
 value bytes = to_be_bytes w16 (length bytes) ++ bytes
 
--- a ballot: four bytes of counter, and the value
+-- the spelling of a ballot: four bytes of counter, and the value
 abbrev pub ballot : Ballot → List ℕ
 ballot b = to_be_bytes w32 b.counter ++ value b.value
 
--- a 0, or a 1 and a ballot
+-- the spelling of a ballot that may be missing: a 0, or a 1 and the ballot
 abbrev pub optional : Option Ballot → List ℕ
 optional None = 0 ∷ []
 optional (Some b) = 1 ∷ ballot b
 
--- a set of a nomination: a count, and the values
+-- the spelling of a set of a nomination: a count, and the values
 abbrev pub nominated_values : List (List ℕ) → List ℕ
 nominated_values vs = length vs ∷ flat_map value vs
 
@@ -41,18 +41,18 @@ members none = []
 members (node u rest) = 0 ∷ name u ++ members rest
 members (inner k own rest) = 1 ∷ k ∷ member_count own ∷ members own ++ members rest
 
--- a set: a threshold, a count, and the members
+-- the spelling of a set: a threshold, a count, and the members
 abbrev pub slices : Slices → List ℕ
 slices q = q.threshold ∷ member_count q.members ∷ members q.members
 
--- the number of a statement's kind
+-- the spelling of a kind: its number
 abbrev pub kind : Statement → ℕ
 kind (Nominate voted accepted) = 1
 kind (Prepare b p a h c) = 2
 kind (Commit b p h c) = 3
 kind (Externalize b h) = 4
 
--- the fields of a statement
+-- the spelling of a statement's fields
 abbrev pub body : Statement → List ℕ
 body (Nominate voted accepted) = nominated_values voted ++ nominated_values accepted
 body (Prepare b p a h c) = ballot b ++ optional p ++ to_be_bytes w32 a ++ to_be_bytes w32 h ++ to_be_bytes w32 c
@@ -67,12 +67,12 @@ first_levels = 2
 abbrev pub version_of : Slices → ℕ
 version_of q = if nat_le (depth_of q.members) first_levels then 1 else 2
 
--- the version of the slices, the kind, the sender, the slot, the slices and the statement
+-- the spelling of an envelope: version, kind, sender, slot, slices and statement
 abbrev pub spelling : Sent → List ℕ
 spelling e =
     version_of e.slices ∷ kind e.body ∷ name e.sender ++ to_be_bytes w64 e.slot ++ slices e.slices ++ body e.body
 
--- the most bytes that a text may have
+-- the most bytes that an envelope's text may have: 65,536
 abbrev pub most_bytes : ℕ
 most_bytes = 65536
 

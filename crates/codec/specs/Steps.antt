@@ -18,32 +18,32 @@ abbrev pub Fails : {Y : Type 0} → CodecError → Result Y Fault → Type 0
 Fails errors.NoMemory read = Unit {0}
 Fails (errors.Fault f) read = read ≡ Err f
 
--- what a function returned, seen by view, is what reading gives, unless memory ran out
+-- what a function returned, seen by a view, is what reading gives, unless memory ran out
 abbrev pub Gives : {X Y : Type 0} → (X → Y) → Result X CodecError → Result Y Fault → Type 0
 Gives view (Ok x) read = read ≡ Ok (view x)
 Gives view (Err e) read = Fails e read
 
--- what a function that takes no memory returned, seen by view, is what reading gives
+-- what a function that takes no memory returned, seen by a view, is what reading gives
 abbrev pub Says : {X Y : Type 0} → (X → Y) → Result X Fault → Result Y Fault → Type 0
 Says view (Ok x) read = read ≡ Ok (view x)
 Says view (Err f) read = read ≡ Err f
 
--- each is below 256
+-- each number of a list is below 256
 abbrev pub IsBytes : List ℕ → Type 0
 IsBytes bytes = (i : ℕ) → slice_index bytes i < 256
 
--- a byte, and those after it
+-- reads a byte
 abbrev pub byte_at : List ℕ → Result (ℕ × List ℕ) Fault
 byte_at [] = Err Truncated
 byte_at (b ∷ rest) = Ok (b, rest)
 
--- a number of so many bits
+-- reads a number of so many bits
 abbrev pub number_at : Width → List ℕ → Result (ℕ × List ℕ) Fault
 number_at w bytes =
     if nat_lt (length bytes) (byte_len w) then Err Truncated
     else Ok (from_be_bytes w (take (byte_len w) bytes), drop (byte_len w) bytes)
 
--- so many bytes
+-- reads so many bytes
 abbrev pub bytes_at : ℕ → List ℕ → Result (List ℕ × List ℕ) Fault
 bytes_at n bytes = if nat_lt (length bytes) n then Err Truncated else Ok (take n bytes, drop n bytes)
 

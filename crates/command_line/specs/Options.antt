@@ -12,7 +12,7 @@ use Rattle.command_line.specs.declared.command.Command.{Command}
 use Rattle.command_line.specs.declared.command.Command.TheVariants as command
 use Rattle.command_line.specs.declared.options.Options.{Options}
 
--- nothing is asked for
+-- no option is given
 abbrev pub no_options : Options
 no_options = record { workers = None; format = None; journal = None; from = None; bytes = false; explain = false }
 
@@ -43,57 +43,57 @@ value_in name (word ∷ rest) = value_behind (behind name word) rest
 abbrev pub worker_count : ℕ → Option ℕ
 worker_count n = if nat_lt 0 n && nat_lt n 65 then Some n else None
 
--- how many workers a word asks for, as a number in scripts
+-- the number of workers that a word asks for
 abbrev pub workers_in : Text → Option ℕ
 workers_in word = option_and_then worker_count (word_number (2 ^ 64) word)
 
--- what was asked for with a number of workers beside it, if there was none, and the words behind it
+-- the options with a number of workers beside them, if there was none, and the words behind it
 abbrev pub with_workers : Options → Text × List Text → Option (Options × List Text)
 with_workers asked given = if is_none asked.workers
     then option_map (λ n. (record asked { workers = Some n }, given.1)) (workers_in given.0) else None
 
--- the same with a form of report
+-- the options with a form of report beside them, if there was none, and the words behind it
 abbrev pub with_format : Options → Text × List Text → Option (Options × List Text)
 with_format asked given = if is_none asked.format
     then option_map (λ f. (record asked { format = Some f }, given.1)) (format_in given.0) else None
 
--- the same with the name of a journal, which may be any word
+-- the options with the name of a journal beside them, if there was none, and the words behind it
 abbrev pub with_journal : Options → Text × List Text → Option (Options × List Text)
 with_journal asked given = if is_none asked.journal
     then Some (record asked { journal = Some given.0 }, given.1) else None
 
--- the same with the line from which a journal is replayed
+-- the options with the line from which a journal is replayed, if there was none, and the words behind it
 abbrev pub with_from : Options → Text × List Text → Option (Options × List Text)
 with_from asked given = if is_none asked.from
     then option_map (λ f. (record asked { from = Some f }, given.1)) (replay_in given.0) else None
 
--- the same with envelopes as bytes
+-- the options with envelopes as bytes, if that was not asked for yet, and the words behind it
 abbrev pub with_bytes : Options → List Text → Option (Options × List Text)
 with_bytes asked [] = None
 with_bytes asked (word ∷ rest) = if bytes_eq word (codes "--bytes") && not asked.bytes
     then Some (record asked { bytes = true }, rest) else None
 
--- the same with an explanation
+-- the options with an explanation, if that was not asked for yet, and the words behind it
 abbrev pub with_explanation : Options → List Text → Option (Options × List Text)
 with_explanation asked [] = None
 with_explanation asked (word ∷ rest) = if bytes_eq word (codes "--explain") && not asked.explain
     then Some (record asked { explain = true }, rest) else None
 
--- the same with the option of a number of workers, as it is spelled
+-- the options with a number of workers, as its option is spelled
 abbrev pub workers_option : Options → List Text → Option (Options × List Text)
 workers_option asked words = option_and_then (with_workers asked) (value_in (codes "--workers") words)
 
--- the same with an option of a journal, as it is spelled: its name, or the line from which it is replayed
+-- the options with a journal, as its options are spelled: its name, or the line from which it is replayed
 abbrev pub journal_option : Options → List Text → Option (Options × List Text)
 journal_option asked words = option_or (option_and_then (with_journal asked) (value_in (codes "--journal") words))
     (option_and_then (with_from asked) (value_in (codes "--from") words))
 
--- the same with an option of `serve`: a number of workers, a journal, envelopes as bytes or an explanation
+-- the options with one of `serve` beside them: a number of workers, a journal, envelopes as bytes or an explanation
 abbrev pub serving_in : Options → List Text → Option (Options × List Text)
 serving_in asked words = option_or (workers_option asked words) (option_or (journal_option asked words)
     (option_or (with_bytes asked words) (with_explanation asked words)))
 
--- what was asked for with the option of a command beside it that the first words are, each once, and the words behind it
+-- the options with the one of a command beside them that the first words are, each once, and the words behind it
 abbrev pub option_in : Command → Options → List Text → Option (Options × List Text)
 option_in command.Table asked words = None
 option_in command.Run asked words = workers_option asked words

@@ -6,7 +6,7 @@ use Rattle.command_line.specs.Words.{Text}
 use Rattle.command_line.specs.declared.replay.ReplayFrom.{ReplayFrom}
 use Rattle.command_line.specs.declared.replay.ReplayFrom.TheVariants.{Line, Open}
 
--- from the line of this number on; lines are numbered from 1
+-- a replay from the line of this number on; lines are numbered from 1
 abbrev pub replay_of_line : ℕ → Option ReplayFrom
 replay_of_line n = if nat_lt 0 n then Some (Line n) else None
 

@@ -4,7 +4,7 @@ use Rattle.compiled.specs.Places.{bit_of, Numbered}
 use Rattle.compiled.specs.Met.{has_needed}
 use Rattle.compiled.specs.declared.answers.Answers.{Answers}
 
--- this number at most is new among those that are noted
+-- one number at most is new among those that are noted
 abbrev pub AreNoted : ℕ → List ℕ → List ℕ → Type 0
 AreNoted n old now = (i : ℕ) → bit_of now i ≡ 1 → (bit_of old i ≡ 1) ⊎ (n ≡ i)
 
@@ -24,7 +24,7 @@ pub record IsAnswer (f : Numbered) (ws : List ℕ) (old now : Answers) (answer :
   pub holds : answer ≡ true → (bit_of old.met f.number ≡ 1) ⊎ (has_needed f.set ws ≡ true)
   pub fails : answer ≡ false → (bit_of old.unmet f.number ≡ 1) ⊎ (has_needed f.set ws ≡ false)
 
--- where there is no form, it is not met
+-- the answer for a place: where there is no form, its slices are not met
 abbrev pub IsAnswerAt : Option Numbered → List ℕ → Answers → Answers → Bool → Type 0
 IsAnswerAt None ws old now answer = (now ≡ old) × (answer ≡ false)
 IsAnswerAt (Some f) ws old now answer = IsAnswer f ws old now answer

@@ -4,7 +4,7 @@ use Rattle.compiled.specs.Places.{bit_of}
 use Rattle.compiled.specs.Met.{one_where}
 use Rattle.compiled.specs.declared.asking.Tally.{Tally}
 
--- the set of all places that pass
+-- the set of all places that pass a test
 pub record ArePassing (passing : ℕ → Bool) (ws : List ℕ) : Type 0 where
   pub bits : (i : ℕ) → bit_of ws i ≡ one_where (passing i)
   pub short : length ws ≤ 2 ^ 58

@@ -5,7 +5,7 @@ use Rattle.protocol.specs.Sets.{Names, among}
 use Rattle.protocol.specs.Satisfaction.{sat, is_blocked}
 use Rattle.compiled.specs.Places.{bit_of, places_in, Sets, none, set, Compiled}
 
--- one where the test holds
+-- one where the test holds, else 0
 abbrev pub one_where : Bool → ℕ
 one_where b = if b then 1 else 0
 
@@ -14,7 +14,7 @@ abbrev pub sets_met : Sets → List ℕ → ℕ
 sets_met none ws = 0
 sets_met (set k ms own rest) ws = one_where (nat_le k (places_in ms ws + sets_met own ws)) + sets_met rest ws
 
--- as many places and inner sets as are needed are in the set
+-- as many places and inner sets as are needed are in a set of places
 abbrev pub has_needed : Compiled → List ℕ → Bool
 has_needed c ws = nat_le c.needed (places_in c.masks ws + sets_met c.inner ws)
 
@@ -23,7 +23,7 @@ abbrev pub nodes_at_from : ℕ → List ℕ → List ℕ → List ℕ
 nodes_at_from i [] ws = []
 nodes_at_from i (u ∷ us) ws = if bit_of ws i == 1 then u ∷ nodes_at_from (suc i) us ws else nodes_at_from (suc i) us ws
 
--- the nodes whose places are in the set
+-- the nodes of a list whose places are in the set
 abbrev pub nodes_at : List ℕ → List ℕ → List ℕ
 nodes_at us ws = nodes_at_from 0 us ws
 
@@ -41,11 +41,11 @@ needed_of false k n = k
 abbrev pub IsCompiled : Bool → List ℕ → Slices → Compiled → Type 0
 IsCompiled blocking us q c = (ws : List ℕ) → has_needed c ws ≡ meets blocking q (among (nodes_at us ws))
 
--- a place is out, and all others are as they were
+-- a place is out of a set of places, and all others are as they were
 abbrev pub IsCleared : ℕ → List ℕ → List ℕ → Type 0
 IsCleared place old now =
     (length now ≡ length old) × ((i : ℕ) → bit_of now i ≡ (if place == i then 0 else bit_of old i))
 
--- a place is in, and all others are as they were
+-- a place is in a set of places, and all others are as they were
 abbrev pub IsAdded : ℕ → List ℕ → List ℕ → Type 0
 IsAdded place old now = (length now ≡ length old) × ((i : ℕ) → bit_of now i ≡ (if place == i then 1 else bit_of old i))

@@ -14,12 +14,12 @@ bit_of ws i = bit_at (get_or ws (i / 64) 0) (i % 64)
 abbrev pub ones_at : Mask → List ℕ → ℕ
 ones_at m ws = count_ones (bit_and m.bits (get_or ws m.index 0))
 
--- and how many of several masks'
+-- how many places of several masks are in a set
 abbrev pub places_in : List Mask → List ℕ → ℕ
 places_in [] ws = 0
 places_in (m ∷ ms) ws = ones_at m ws + places_in ms ws
 
--- how many places masks have
+-- how many places some masks have
 abbrev pub count_in : List Mask → ℕ
 count_in [] = 0
 count_in (m ∷ ms) = count_ones m.bits + count_in ms
@@ -38,7 +38,7 @@ abbrev pub count_sets : Sets → ℕ
 count_sets none = 0
 count_sets (set k ms own rest) = 1 + count_sets rest
 
--- how many of these places and inner sets are needed
+-- a compiled set: how many of these places and inner sets are needed
 pub record Compiled : Type 0 where
   pub needed : ℕ
   pub masks : List Mask
@@ -49,15 +49,17 @@ pub record Numbered : Type 0 where
   pub number : ℕ
   pub set : Compiled
 
+-- the compiled inner sets of a list in code, as the definitions have them
 abbrev pub sets_of : List Compiled → Sets
 sets_of [] = none
 sets_of (c ∷ cs) = set c.needed c.masks c.inner (sets_of cs)
 
--- how many sets and ends there are in all
+-- how many compiled sets and ends there are in all
 abbrev pub weight_of_sets : Sets → ℕ
 weight_of_sets none = 1
 weight_of_sets (set k ms own rest) = 1 + weight_of_sets own + weight_of_sets rest
 
+-- a law: each compiled set of a list weighs less inside than the list does, so a walk into sets ends
 pub most_le : (cs : List Compiled) → most (λ c. weight_of_sets c.inner + 1) cs ≤ weight_of_sets (sets_of cs)
 most_le [] = omega arith
 most_le (c ∷ cs) = omega (arith, most_le cs)
@@ -110,11 +112,13 @@ abbrev pub sets_code : Coded Sets
 sets_code =
     code_by (List Token) (coded_list (coded× coded_ℕ (coded_list mask_code))) tokens_of sets_from sets_from-tokens_of
 
+-- compiled sets are told apart by their parts, so it is decided whether two are equal
 abbrev pub compiled_code : Coded Compiled
 compiled_code =
     code_by (ℕ × (List Mask × Sets)) (coded× coded_ℕ (coded× (coded_list mask_code) sets_code)) (λ c. (c.needed, (c.masks, c.inner)))
     (λ p. record { needed = p.0; masks = p.1.0; inner = p.1.1 }) (λ _. refl)
 
+-- numbered sets are told apart by their parts, so it is decided whether two are equal
 abbrev pub numbered_code : Coded Numbered
 numbered_code =
     code_by (ℕ × Compiled) (coded× coded_ℕ compiled_code) (λ f. (f.number, f.set)) (λ p. record { number = p.0; set = p.1 }) (λ _. refl)

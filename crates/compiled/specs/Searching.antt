@@ -30,16 +30,16 @@ pub record AreCompiled (us : List ℕ) (slices_at : ℕ → Option Slices) (cs :
       → met_at (get_or cs i None) ws ≡ is_satisfied sat (slices_at (get_or us i 0)) (among (nodes_at us ws))
   pub agreed : AreAgreed cs
 
--- no quorum among the supporters has lost a node
+-- a set within the supporters that no quorum among them has lost a node of
 pub record IsLeft (slices_at : ℕ → Option Slices) (supporters set : Names) : Type 0 where
   pub within : AreWithin set supporters
   pub all_quorums : (q : Names) → Quorum sat slices_at q → AreWithin q supporters → AreWithin q set
 
--- the set meets the slices of all its places
+-- a set of places meets the slices of all its places
 abbrev pub AllMet : List (Option Numbered) → List ℕ → Type 0
 AllMet cs ws = (i : ℕ) → i < length cs → bit_of ws i ≡ 1 → IsTrue (met_at (get_or cs i None) ws)
 
--- how many of the first places are in the set
+-- how many of the first places are in the set of places
 abbrev pub live : ℕ → List ℕ → ℕ
 live zero ws = 0
 live (suc n) ws = bit_of ws n + live n ws

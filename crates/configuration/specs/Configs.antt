@@ -13,7 +13,7 @@ abbrev pub index_in : List ℕ → ℕ → Option ℕ
 index_in [] u = None
 index_in (x ∷ xs) u = if x == u then Some 0 else option_map suc (index_in xs u)
 
--- the place of a hosted node
+-- the place of a hosted node among the others, by its name
 abbrev pub index_of_name : List HostedNode → ℕ → Option ℕ
 index_of_name nodes u = index_in (names_of nodes) u
 

@@ -7,7 +7,7 @@ use Rattle.configuration.specs.Configs.{names_of}
 use Rattle.configuration.specs.declared.error.ConfigError.{ConfigError}
 use Rattle.configuration.specs.declared.error.ConfigError.TheVariants.{NodeTwice, NoNodes, TooManyNodes, NoMemory, RosterTwice, RosterTooLong, ShareTooLarge}
 
--- the numbers of the errors
+-- the numbers of the errors of a configuration
 abbrev pub error_number : ConfigError → ℕ
 error_number NodeTwice = 1
 error_number NoNodes = 2
@@ -17,7 +17,7 @@ error_number RosterTwice = 5
 error_number RosterTooLong = 6
 error_number ShareTooLarge = 7
 
--- the first test that holds says the fault
+-- the error of the first test that holds, if one does
 abbrev pub first_fault : List (Bool × ConfigError) → Option ConfigError
 first_fault [] = None
 first_fault (t ∷ ts) = if t.0 then Some t.1 else first_fault ts
@@ -28,7 +28,7 @@ node_tests nodes =
     (not (all_differ (names_of nodes)), NodeTwice) ∷ (length nodes == 0, NoNodes)
     ∷ (nat_lt 256 (length nodes), TooManyNodes) ∷ []
 
--- some share is above the limit
+-- some share of a roster is above the limit
 abbrev pub is_too_large : Shares → Bool
 is_too_large s = nat_lt (2 ^ 40) s.own || nat_lt (2 ^ 40) s.pair || nat_lt (2 ^ 40) s.bytes || nat_lt (2 ^ 40) s.opens
 

@@ -5,7 +5,7 @@ use Rattle.protocol.specs.Rosters.{Shares, Roster}
 use Rattle.protocol.specs.Sets.{IsAscending}
 use Rattle.configuration.specs.Budgets.{AreShares}
 
--- the names and the shares of a roster
+-- names and shares that a roster can have: up to 1,024 names, ascending
 pub record AreReserved (names : List ℕ) (shares : Shares) : Type 0 where
   pub ascending : IsAscending names
   pub few_names : length names ≤ 1024

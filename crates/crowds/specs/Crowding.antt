@@ -18,7 +18,7 @@ defined_crowd (code.OutsideRoster u) = OutsideRoster u
 defined_crowd (code.InputsDiffer place) = InputsDiffer place
 defined_crowd (code.Same replies) = Same replies
 
--- it is the verdict of two submissions, read by this host's decoder
+-- a verdict on two submissions is right, as read by this host's decoder
 abbrev pub IsCrowdHere : History → History → ℕ → ℕ → ℕ → CrowdVerdict → Type 0
 IsCrowdHere one other g i v c = IsCrowd reading one other g i v (defined_crowd c)
 

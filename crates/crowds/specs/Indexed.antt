@@ -9,6 +9,6 @@ abbrev pub config_place : List Config → ℕ → Option ℕ
 config_place [] g = None
 config_place (c ∷ cs) g = if c.number == g then Some 0 else option_map suc (config_place cs g)
 
--- each number has its place in the map, and a number that no configuration has has none
+-- the map has the place of each configuration by its number, and none for other numbers
 pub record IsIndexed (configs : List Config) (places : BTreeMap ℕ ℕ) : Type 0 where
   pub at : (g : ℕ) → get nat_cmp places g ≡ config_place configs g

@@ -8,6 +8,7 @@ use Rattle.hoststep.specs.Logs.{Log}
 use Rattle.crowds.specs.declared.reply.Reply.{Reply as Answered}
 use Rattle.crowds.specs.declared.reply.Reply.TheVariants as answers
 
+-- the code's answer to an event, as a reply of the definitions
 abbrev pub reply_of : Answered → Reply
 reply_of (answers.Done outs) = Done outs.items
 reply_of (answers.Refused r) = Refused r

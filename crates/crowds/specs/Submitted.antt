@@ -14,11 +14,11 @@ use Rattle.network.specs.Decoding.{step_of}
 use Rattle.crowds.specs.declared.submission.SubmissionError.{SubmissionError}
 use Rattle.crowds.specs.declared.submission.SubmissionError.TheVariants.{NetTwice, NoMemory}
 
--- with one more configuration
+-- a submission with one more configuration
 abbrev pub with_config : History → Config → History
 with_config h c = record h { configs = h.configs ++ c ∷ [] }
 
--- with one more event
+-- a submission with one more event
 abbrev pub and_then : History → ℕ → Event → History
 and_then h g e = record h { calls = h.calls ++ (g, e) ∷ [] }
 
@@ -35,7 +35,7 @@ concerns_members R i g c = (c.0 == g) && concerns R i (step_of c.1)
 unfoldable pub concerning_steps_in : Names → ℕ → ℕ → List (ℕ × Event) → List Step
 concerning_steps_in R i g calls = map (λ c. step_of c.1) (filter (concerns_members R i g) calls)
 
--- bytes that are read are an envelope
+-- what a step delivers, if it delivers bytes, is an envelope
 abbrev pub IsReadable : Step → Type 0
 IsReadable (Delivers u size (Fault n)) = ⊥
 IsReadable _ = ⊤
@@ -45,7 +45,7 @@ abbrev pub HasBytes : Event → Type 0
 HasBytes (Deliver u bytes) = IsBytes bytes
 HasBytes _ = ⊤
 
--- the envelope that bytes are, where they are one
+-- bytes are read as this envelope, where they are one
 abbrev pub IsReadAs : Reading → Option Sent → Type 0
 IsReadAs (Read e) (Some d) = e ≡ d
 IsReadAs (Fault n) None = ⊤
@@ -69,6 +69,6 @@ pub record IsNextMarked (marks : List Bool) (from k : ℕ) : Type 0 where
   pub is_marked : slice_get marks k ≡ Some true
   pub skipped : (j : ℕ) → from ≤ j → j < k → slice_get marks j ≡ Some false
 
--- none is from a number on
+-- no event from a number on is marked
 abbrev pub AreUnmarked : List Bool → ℕ → Type 0
 AreUnmarked marks from = (j : ℕ) → from ≤ j → j < length marks → slice_get marks j ≡ Some false

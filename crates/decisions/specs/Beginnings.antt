@@ -5,7 +5,7 @@ use mathlib.Core.List.{IsPrefix}
 use lib.ListN.{get_elem?}
 use Rattle.decisions.specs.declared.decision.Decision.{Decision}
 
--- what is published begins with what each has seen
+-- what is published begins with what each reader has seen
 abbrev pub BeginsWithSeen : List Decision → List (List Decision) → Type 0
 BeginsWithSeen published views =
     (seat : ℕ) (seen : List Decision) → get_elem? views seat ≡ some seen → IsPrefix seen published

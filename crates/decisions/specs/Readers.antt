@@ -7,6 +7,7 @@ use Rattle.decisions.specs.declared.decision.Decision.{Decision}
 use Rattle.decisions.specs.declared.board.Board.{Board}
 use Rattle.decisions.specs.declared.board.Published.{Published}
 
+-- the decisions that a reader was lent last; none without a reader
 abbrev pub seen_by : Option (Reader Board (List Decision) Published Global) → List Decision
 seen_by None = []
 seen_by (Some r) = view r.place

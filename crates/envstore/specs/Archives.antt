@@ -8,23 +8,23 @@ use Rattle.envstore.specs.declared.filed.Filed.{Filed}
 abbrev pub Archived : Type 0
 Archived = List (Option Sent)
 
--- the envelope that was filed
+-- the envelope that a number of an archive stands for
 abbrev pub sent_of : Filed → Sent
 sent_of f = f.put.value
 
--- those that were filed
+-- the envelopes that numbers of an archive stand for
 abbrev pub sents_of : List Filed → List Sent
 sents_of fs = map sent_of fs
 
--- the archive has the envelope at its number
+-- an archive has the envelope at its number
 abbrev pub IsFiled : Archived → Filed → Type 0
 IsFiled archive f = slice_get archive f.number ≡ Some (Some (sent_of f))
 
--- and each of these
+-- an archive has each of these envelopes at its number
 abbrev pub AreFiled : Archived → List Filed → Type 0
 AreFiled archive fs = All (IsFiled archive) fs
 
--- all that was filed before is filed still
+-- all that was filed in the archive before is filed still
 abbrev pub Keeps : Archived → Archived → Type 0
 Keeps old new = (f : Filed) → IsFiled old f → IsFiled new f
 

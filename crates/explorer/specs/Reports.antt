@@ -5,7 +5,7 @@ use Rattle.protocol.specs.Sets.{Names, among, IsAscending}
 use Rattle.protocol.specs.Satisfaction.{Blocks, sat}
 use Rattle.closure.specs.Announcing.{MemberList}
 
--- the closure, and the hosted members, each with those that block it
+-- a report: the closure, and the hosted members, each with those that block it
 pub record Shown : Type 0 where
   pub members : MemberList
   pub hosted : List (ℕ × List ℕ)

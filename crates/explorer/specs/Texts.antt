@@ -33,6 +33,6 @@ name_behind_space u = 32 ∷ text_of_name u
 abbrev pub line_of_blockers : ℕ × List ℕ → Bytes
 line_of_blockers b = codes "blocks " ++ (text_of_name b.0 ++ (flat_map name_behind_space b.1 ++ 10 ∷ []))
 
--- the members in the order in which they were found, then the hosted ones
+-- the text of a report: the members in the order in which they were found, then the hosted ones
 abbrev pub text_of_report : Shown → Bytes
 text_of_report r = lines_from 0 r.members ++ flat_map line_of_blockers r.hosted

@@ -17,7 +17,7 @@ AcceptedAlike =
     → IsTrue b ↔ Accepted sat (slices_by own configured table kind) (standing own table kind position backs) (standing own table kind position accepts) own
     → b ≡ accepted (seen own configured leaders table) kind position backs accepts
 
--- and what is confirmed by it
+-- whatever answers exactly by federated voting over the rows of a table answers what is confirmed by what a node sees
 abbrev pub ConfirmedAlike : Type 0
 ConfirmedAlike =
     (own : ℕ) (configured : Slices) (leaders : List ℕ) (table : List Sent) (kind : Kind) (position : Option Statement) (accepts : Statement → Bool) (b : Bool)

@@ -28,7 +28,7 @@ accepts (Prepare t) = λ s. accepts_prepare s t
 accepts (Commit x low high) = λ s. accepts_ends s x low high
 accepts (Nominate x) = λ s. accepts_nominate s x
 
--- whether a statement passes
+-- whether a statement passes what is asked: whether it backs a claim, accepts one, or how far its ballot is
 abbrev pub asks : Question → Statement → Bool
 asks (Backs claim) = backs claim.now
 asks (Accepts claim) = accepts claim.now

@@ -9,7 +9,7 @@ use Rattle.protocol.specs.States.{below}
 use Rattle.protocol.specs.Candidates.{greatest, has_positive_counter}
 use Rattle.protocol.specs.Views.{Seen}
 
--- below the bound, where there is one
+-- the ballot is below the bound, where there is one
 abbrev pub is_under : Option Ballot → Ballot → Bool
 is_under None t = true
 is_under (Some bound) t = below t bound

@@ -16,14 +16,15 @@ use Rattle.fedvote.specs.Voting.{Accepted, Confirmed}
 abbrev pub standing : ℕ → List Sent → Kind → Option Statement → (Statement → Bool) → Names
 standing own table kind position test = passing_with own table kind (passes test position) test
 
--- accepted by what a node sees: it accepts by the rows of its table, some quorum or some blocking set being there
+-- what a node sees says that it accepts exactly where it does so by the rows of its table: by some quorum or some
+-- blocking set
 abbrev pub AcceptedByRows : Type 0
 AcceptedByRows =
     (own : ℕ) (configured : Slices) (leaders : List ℕ) (table : List Sent) (kind : Kind) (position : Option Statement) (backs accepts : Statement → Bool)
     → IsTrue (accepted (seen own configured leaders table) kind position backs accepts)
     ↔ Accepted sat (slices_by own configured table kind) (standing own table kind position backs) (standing own table kind position accepts) own
 
--- confirmed by what a node sees: some quorum that contains it all accepts by the rows
+-- what a node sees says that it confirms exactly where it does so by the rows of its table: by some quorum
 abbrev pub ConfirmedByRows : Type 0
 ConfirmedByRows =
     (own : ℕ) (configured : Slices) (leaders : List ℕ) (table : List Sent) (kind : Kind) (position : Option Statement) (accepts : Statement → Bool)
@@ -37,7 +38,7 @@ pub record Standpoint : Type 0 where
   pub leaders : List ℕ
   pub table : List Sent
 
--- all that a node sees from there
+-- all that a node sees from a standpoint
 abbrev pub seen_from : Standpoint → Seen
 seen_from at = seen at.own at.configured at.leaders at.table
 

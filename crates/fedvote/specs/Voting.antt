@@ -4,12 +4,12 @@ use Rattle.protocol.specs.Sets.{Names}
 use Rattle.protocol.specs.Satisfaction.{Blocks}
 use Rattle.protocol.specs.Quorums.{HasQuorum}
 
--- some quorum that contains the node all votes for or accepts it, or the set of those who accept it blocks the node's
--- slices
+-- federated voting: some quorum that contains the node all votes for or accepts it, or the set of those who accept it
+-- blocks its slices
 abbrev pub Accepted : {Q : Type 0} → (Q → Names → Bool) → (ℕ → Option Q) → (backing accepting : Names) → ℕ → Type 0
 Accepted sat slices_at backing accepting v =
     HasQuorum sat slices_at backing v ⊎ IsSomeAnd (slices_at v) (λ q. Blocks sat q accepting)
 
--- some quorum that contains the node all accepts it
+-- federated voting: some quorum that contains the node all accepts it
 abbrev pub Confirmed : {Q : Type 0} → (Q → Names → Bool) → (ℕ → Option Q) → (accepting : Names) → ℕ → Type 0
 Confirmed sat slices_at accepting v = HasQuorum sat slices_at accepting v

@@ -2,13 +2,13 @@
 use Rattle.std.specs.Prelude.{◌≡◌, ◌++◌, ◌==◌, ℕ, Bool, true, false, List, [], ◌∷◌, Option, Some, None, if◌then◌else◌}
 use Rattle.scripts.specs.Script.{Bytes}
 
--- bytes stand behind what the file has; all that the file has is on the disk; bytes are told
+-- what is done at a file: bytes are put behind what it has; all that it has is brought to the disk; or bytes are told
 pub data Act : Type 0 where
   Wrote : Bytes → Act
   Synced : Act
   Told : Bytes → Act
 
--- these were done since, where it is known what was done
+-- these acts were done since, where it is known what was done
 abbrev pub Did : Option (List Act) → Option (List Act) → List Act → Type 0
 Did None new acts = Unit {0}
 Did (Some before) None acts = ⊥

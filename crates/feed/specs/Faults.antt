@@ -4,6 +4,7 @@ use Rattle.scripts.specs.declared.input.ReadError.TheVariants as read
 use Rattle.feed.specs.declared.fault.Fault.{Fault}
 use Rattle.feed.specs.declared.fault.Fault.TheVariants as fault
 
+-- the fault to which a failed read comes
 abbrev pub fault_of_read : ReadError → Fault
 fault_of_read read.CannotRead = fault.CannotRead
 fault_of_read read.TooLong = fault.TooLong

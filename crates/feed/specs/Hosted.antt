@@ -69,7 +69,7 @@ IsTold (Err fault.NotAppended) old new acts = Appends old new (told_by acts)
 IsTold (Err fault.NotSynced) old new acts = Appends old new (told_by acts)
 IsTold (Err fault.CannotWrite) old new acts = Unit {0}
 
--- so much was done, and what was told of it, unless telling failed
+-- so much was done of lines, and what was told of it, unless telling failed
 abbrev pub HasDone : Option (List Act) → Option (List Act) → Option Bytes → Option Bytes → Result (Unit {0}) Fault
     → List Act → Type 0
 HasDone before after old new result acts = Did before after acts × IsTold result old new acts

@@ -49,7 +49,7 @@ pub record Watched (S : Type 0) : Type 0 where
   pub server : S
   pub lines : Lines
 
--- of no line
+-- nothing lasts, as before the first line
 abbrev pub no_lines : Lines
 no_lines = record { lasting = record { declarations = []; events = [] }; networks = [] }
 
@@ -66,6 +66,7 @@ nothing_drawn = record { events = 0; bytes = 0; opens = 0 }
 abbrev pub sum_of : ℕ → ℕ → ℕ
 sum_of m n = min (m + n) (2 ^ 64 - 1)
 
+-- two draws together, each number up to the greatest below 2^64
 abbrev pub both_drawn : Drawn → Drawn → Drawn
 both_drawn a b = record {
   events = sum_of a.events b.events;
@@ -79,19 +80,20 @@ both_drawn a b = record {
 abbrev pub new_network : NetworkLines
 new_network = record { declared = []; is_named = false; lost = nothing_drawn; slots = [] }
 
+-- the entry of a number in a list
 abbrev pub value_at : {X : Type 0} → List (ℕ × X) → ℕ → Option X
 value_at entries n = lookup (is_at (nat_cmp n)) entries
 
--- without the entry of a number
+-- a list without the entry of a number
 abbrev pub without : {X : Type 0} → ℕ → List (ℕ × X) → List (ℕ × X)
 without n entries = remove_entry (is_at (nat_cmp n)) entries
 
--- without the entries of these numbers
+-- a list without the entries of these numbers
 abbrev pub without_all : {X : Type 0} → List ℕ → List (ℕ × X) → List (ℕ × X)
 without_all [] entries = entries
 without_all (n ∷ ns) entries = without_all ns (without n entries)
 
--- without the lines of these slots
+-- the open slots of a network without the lines of these slots
 abbrev pub without_slots : {X : Type 0} → List SlotLines → List (ℕ × X) → List (ℕ × X)
 without_slots [] entries = entries
 without_slots (slot ∷ slots) entries = without_slots slots (without_all slot.lines entries)
@@ -124,7 +126,7 @@ abbrev pub events_but : Option SlotLines → List (ℕ × Bytes) → List (ℕ �
 events_but None events = events
 events_but (Some slot) events = without_all slot.lines events
 
--- what lasts behind a line with this number, of a network
+-- what lasts behind a line with this number, by what it did to a network
 abbrev pub lasting_after : ℕ → Bytes → ℕ → Deed → NetworkLines → Lasting → Lasting
 lasting_after n text g Declared net old =
     record old { declarations = insert_entry nat_cmp old.declarations n (record { network = g; text = text }) }
@@ -136,7 +138,7 @@ lasting_after n text g Dropped net old = record {
   events = without_slots (values_of net.slots) old.events;
 }
 
--- a line behind which a network goes on; or one behind which it is none any more
+-- the lines that last behind a line after which its network is there
 abbrev pub with_network : Option NetworkLines → ℕ → Bytes → Done → Lines → Lines
 with_network None n text done old = record {
   lasting = lasting_after n text done.network done.deed new_network old.lasting;
@@ -147,6 +149,7 @@ with_network (Some net) n text done old = record {
   networks = set_value (is_at (nat_cmp done.network)) old.networks (network_after n done.deed net);
 }
 
+-- the lines that last behind a line after which its network is not there
 abbrev pub without_network : Option NetworkLines → ℕ → Bytes → Done → Lines → Lines
 without_network None n text done old = old
 without_network (Some net) n text done old = record {
@@ -167,14 +170,14 @@ lines_after n text done old =
     if is_drop done.deed then without_network (value_at old.networks done.network) n text done old
     else with_network (value_at old.networks done.network) n text done old
 
--- a line that did nothing changes nothing, nor does an empty one
+-- the lines that last behind one more line; one that did nothing and an empty one change nothing
 abbrev pub lines_behind : ℕ → Option Bytes → Option Done → Lines → Lines
 lines_behind n None did old = old
 lines_behind n (Some []) did old = old
 lines_behind n (Some (b ∷ text)) None old = old
 lines_behind n (Some (b ∷ text)) (Some done) old = lines_after n (b ∷ text) done old
 
--- a line is answered as it was, and what lasts is known
+-- a line is answered as it was, and the lines that last are known
 abbrev pub Watching : {S : Type 0} → Serving S → Serving (Watched S)
 Watching serves old n line a new =
     serves old.server n line a new.server × (new.lines ≡ lines_behind n line a.done old.lines)
@@ -190,6 +193,7 @@ abbrev pub less : ℕ → Option ℕ → Bytes → Bytes
 less by None word = word
 less by (Some n) word = decimal (n - by)
 
+-- the number that a word spells, less another one; a word that spells none stays
 abbrev pub lowered_word : ℕ → Bytes → Bytes
 lowered_word by word = less by (word_number (2 ^ 64) word) word
 
@@ -216,7 +220,7 @@ abbrev pub lost_at : Option NetworkLines → Drawn
 lost_at None = nothing_drawn
 lost_at (Some net) = net.lost
 
--- a line that declares something, with what is left of its budgets, and a line feed (10)
+-- a kept line that declares something, with what is left of its budgets, and a line feed (10)
 abbrev pub declaration_text : List (ℕ × NetworkLines) → Declaration → Bytes
 declaration_text networks d = lowered (lost_at (value_at networks d.network)) d.text ++ 10 ∷ []
 

@@ -11,7 +11,7 @@ pub record Held : Type 0 where
   pub given : Option Bytes
   pub hole : Bool
 
--- of nothing
+-- nothing is kept of a line, as at its beginning
 abbrev pub nothing_held : Held
 nothing_held = record { given = Some []; hole = false }
 
@@ -24,7 +24,7 @@ abbrev pub longer_given : ℕ → Option Bytes → Bytes → Option Bytes
 longer_given longest None more = None
 longer_given longest (Some line) more = given longest (line ++ more)
 
--- what is kept of a line that goes on so
+-- what is kept of a line that goes on with more bytes
 abbrev pub longer : ℕ → Held → Bytes → Held
 longer longest h more = record { given = longer_given longest h.given more; hole = h.hole || has_hole more }
 
@@ -41,8 +41,7 @@ IsNextPiece longest old new before after (piece.Last more) =
     (bytes : Bytes) × IsTrue (has_no_feed bytes) × Consumes old new (bytes ++ 10 ∷ []) × Grows longest before after bytes
 IsNextPiece longest old new before after piece.End = Consumes old new [] × IfSome old (λ _. IsAtEnd new)
 
--- what was taken from a reader is its next line, of which this is kept, and the line feed behind it; or, where there was
--- no line feed any more, all that it had
+-- a reader's next line was taken with its line feed, or, where there was none any more, all that was left
 abbrev pub IsNextLine : ℕ → Option Bytes → Option Bytes → Held → Option Bool → Type 0
 IsNextLine longest old new read (Some more) =
     (line : Bytes) × IsTrue (has_no_feed line) × Consumes old new (line ++ 10 ∷ []) × (read ≡ held longest line)

@@ -14,6 +14,7 @@ abbrev pub is_told : Option ℕ → ℕ → Bool
 is_told None n = false
 is_told (Some first) n = nat_le first n
 
+-- a text where it is to be told, else nothing
 abbrev pub told_if : Bool → Bytes → Bytes
 told_if true text = text
 told_if false text = []

@@ -18,6 +18,7 @@ is_kept a = is_some a.done
 abbrev pub unanswered : Reply
 unanswered = record { text = []; done = None }
 
+-- what is told of a line's answer, and what the line did; nothing where the line is skipped
 abbrev pub reply_of : Option Answer → Reply
 reply_of None = unanswered
 reply_of (Some a) = record { text = string_bytes a.block; done = a.done }
@@ -36,16 +37,16 @@ kept_as (Some line) false = []
 abbrev pub journal_line : Option Bytes → Reply → Bytes
 journal_line line a = kept_as line (is_kept a)
 
--- what the journal does not keep of a line changes nothing
+-- a law of servers: what the journal does not keep of a line changes nothing
 abbrev pub OnlyKeptLinesCount : {S : Type 0} → Serving S → Type 0
 OnlyKeptLinesCount {S} serves =
     (s t : S) (n : ℕ) (line : Option Bytes) (a : Reply) → serves s n line a t → journal_line line a ≡ [] → t ≡ s
 
--- an empty line is not answered, and changes nothing
+-- a law of servers: an empty line is not answered, and changes nothing
 abbrev pub EmptyLinesAreSkipped : {S : Type 0} → Serving S → Type 0
 EmptyLinesAreSkipped {S} serves = (s : S) (n : ℕ) → serves s n (Some []) unanswered s
 
--- a line that the journal keeps has no byte 0
+-- a law of servers: a line that the journal keeps has no byte 0
 abbrev pub KeptLinesAreWhole : {S : Type 0} → Serving S → Type 0
 KeptLinesAreWhole {S} serves =
     (s t : S) (n : ℕ) (line : Bytes) (a : Reply) → serves s n (Some line) a t → is_kept a ≡ true → IsTrue (has_no_hole line)

@@ -8,7 +8,7 @@ use Rattle.feed.specs.Acts.Act.{Synced, Told, Wrote}
 use Rattle.feed.specs.declared.fault.Fault.{Fault}
 use Rattle.feed.specs.declared.fault.Fault.TheVariants as fault
 
--- a line was answered, which waits to be told behind what waited
+-- a line was answered, and its answer waits to be told behind those that waited
 abbrev pub HasAnsweredLine : {S : Type 0} → Serving S → S → ℕ → Option Bytes → Bytes → Bool → Bytes → S → Type 0
 HasAnsweredLine serves s n given waits kept new t =
     (a : Reply) × serves s n given a t × (kept ≡ is_kept a) × (new ≡ waits ++ a.text)
@@ -28,7 +28,7 @@ HasServedLine serves s c given waits old new (Err fault.CannotRead) now d t = �
 HasServedLine serves s c given waits old new (Err fault.NotSynced) now d t = ⊥
 HasServedLine serves s c given waits old new (Err fault.CannotWrite) now d t = ⊥
 
--- what waits was told once the journal was on the disk; or why not
+-- the answers that wait were told once the journal was on the disk; or why not
 abbrev pub HasTold : Bytes → Option (List Act) → Option (List Act) → Option Bytes → Option Bytes → Result (Unit {0}) Fault
     → Bytes → Type 0
 HasTold waits before after old new (Ok _) now =

@@ -11,7 +11,7 @@ use Rattle.protocol.specs.Satisfaction.{names}
 use Rattle.flat_slices.specs.declared.flat_set.FlatMember.{FlatMember}
 use Rattle.flat_slices.specs.declared.flat_set.FlatMember.TheVariants.{Name, Inner}
 
--- a set: a threshold over members by number
+-- a set in the form of a list: a threshold over members by number
 pub record Level : Type 0 where
   pub threshold : ℕ
   pub members : List FlatMember
@@ -37,7 +37,7 @@ sets_from us first [] n = nobody
 sets_from us first (s ∷ later) n =
     if first == n then set_by us (sets_from us (suc first) later) s else sets_from us (suc first) later n
 
--- the same, counted from the outermost set, whose number is 0
+-- the set with a number, counted from the outermost one, whose number is 0
 abbrev pub set_at : List ℕ → List Level → ℕ → Slices
 set_at us sets n = sets_from us 0 sets n
 
@@ -46,6 +46,7 @@ abbrev pub IsNumber : ℕ → ℕ → ℕ → FlatMember → Type 0
 IsNumber names sets own (Name i) = i < names
 IsNumber names sets own (Inner n) = (own < n) × (n < sets)
 
+-- each member of each set is the number of a name, or of a later set
 abbrev pub AreNumbers : List ℕ → List Level → Type 0
 AreNumbers us sets = (n : ℕ) (d : Level) → n < length sets → All (IsNumber (length us) (length sets) n) (get_or sets n d).members
 
@@ -64,7 +65,7 @@ count_sets none = 0
 count_sets (node u rest) = count_sets rest
 count_sets (inner k own rest) = suc (count_sets own + count_sets rest)
 
--- how many names stand before this one
+-- how many names of a table stand before one
 abbrev pub place_of : List ℕ → ℕ → ℕ
 place_of [] u = 0
 place_of (x ∷ xs) u = if x == u then 0 else suc (place_of xs u)
@@ -82,7 +83,7 @@ levels_in us first (node u rest) = levels_in us first rest
 levels_in us first (inner k own rest) =
     record { threshold = k; members = numbers_of us (suc first) own } ∷ levels_in us (suc first) own ++ levels_in us (suc first + count_sets own) rest
 
--- a set, and then those inside it
+-- slices as a list of sets: each set, and then those inside it
 abbrev pub levels_of : List ℕ → ℕ → Slices → List Level
 levels_of us first q = record { threshold = q.threshold; members = numbers_of us (suc first) q.members } ∷ levels_in us (suc first) q.members
 
@@ -102,6 +103,7 @@ member_code = code_by (ℕ × ℕ) (coded× coded_ℕ coded_ℕ) to from again
     again (Name i) = refl
     again (Inner n) = refl
 
+-- sets by number are told apart by their parts, so it is decided whether two are equal
 abbrev pub level_code : Coded Level
 level_code =
     code_by (ℕ × List FlatMember) (coded× coded_ℕ (coded_list member_code)) (λ s. (s.threshold, s.members))

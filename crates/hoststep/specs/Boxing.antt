@@ -4,11 +4,11 @@ use Rattle.types.specs.declared.event.Event.{Event}
 use Rattle.types.specs.declared.event.Event.TheVariants.{OpenSlot, CloseSlot, Propose, Deliver, Hear, NominationTimer, BallotTimer, Reslice}
 use Rattle.hoststep.specs.declared.event_room.EventRoom.{EventRoom}
 
--- a number of more than 32 bits
+-- a number has more than 32 bits
 abbrev pub is_wide : ℕ → Bool
 is_wide n = nat_le (2 ^ 32) n
 
--- it brings a value or slices of its own, or tells of what was heard by wide numbers
+-- an event brings a value or slices of its own, or tells of what was heard by wide numbers
 abbrev pub is_large : Event → Bool
 is_large (OpenSlot i) = false
 is_large (CloseSlot i) = false
@@ -19,6 +19,6 @@ is_large (NominationTimer i u r) = false
 is_large (BallotTimer i u n) = false
 is_large (Reslice i u q) = true
 
--- there is a box for it where it is large
+-- there is a box for an event where it is large
 abbrev pub HasBoxFor : Event → EventRoom → Type 0
 HasBoxFor e room = is_large e ≡ true → is_some room.boxed ≡ true

@@ -20,7 +20,7 @@ values_in (ArmBallot n ∷ os) = values_in os
 values_in (Emit e ∷ os) = values_in os
 values_in (Externalized x ∷ os) = x ∷ values_in os
 
--- these values, decided at this slot by this node
+-- these values are decided at this slot by this node
 abbrev pub decided_at : Option (ℕ × ℕ) → List (List ℕ) → List ExternalizedValue
 decided_at None xs = []
 decided_at (Some at) xs = map (λ x. record { slot = at.0; node = at.1; value = x }) xs
@@ -47,6 +47,6 @@ decisions_by (x ∷ xs) = decisions_in x ++ decisions_by xs
 abbrev pub decisions_from : List Entry → ℕ → List ExternalizedValue
 decisions_from entries n = decisions_by (drop n entries)
 
--- a decision that is lent
+-- a decision that is lent, in the words of the definitions
 abbrev pub decided_by : LentDecision → ExternalizedValue
 decided_by d = record { slot = d.slot; node = d.node; value = d.value.now }

@@ -11,7 +11,7 @@ use Rattle.hoststep.specs.declared.entered.Entered.{Entered}
 abbrev pub outs_after : Log → Step → List Out
 outs_after l e = outs_given l.config l.entries e
 
--- it is not refused, and these are its marks and so many whole copies of its outs
+-- an event is not refused after a journal, and these are its marks and so many whole copies of its outs
 pub record IsEnteredWith (old : Log) (e : Step) (count : ℕ) (r : Entered) : Type 0 where
   pub free : refusal_of old.config old.entries e ≡ None
   pub marks : r.marks.items ≡ marks_of old.config old.entries e

@@ -6,11 +6,11 @@ use Rattle.slot.specs.declared.filed.FiledOut.{FiledOut}
 use Rattle.hoststep.specs.declared.outs_list.EntryOuts.{EntryOuts}
 use Rattle.hoststep.specs.declared.outs_list.KeptOuts.{KeptOuts}
 
--- what was given out
+-- what an entry gave out, as it is kept
 abbrev pub kept_outs : KeptOuts → List FiledOut
 kept_outs p = p.outs.value.items
 
--- the number of the entry that gave these out
+-- the number of the entry that gave out what a list keeps
 abbrev pub entry_number : EntryOuts → ℕ
 entry_number x = x.entry
 
@@ -24,6 +24,7 @@ abbrev pub put_behind : List FiledOut → List EntryOuts → EntryOuts → List 
 put_behind [] lists x = lists
 put_behind (o ∷ os) lists x = lists ++ x ∷ []
 
+-- the lists with what an entry gave out, where that is something
 abbrev pub with_outs : ℕ → Vec FiledOut Global → List EntryOuts → List EntryOuts
 with_outs n outs lists = put_behind outs.items lists (record { entry = n; outs = outs })
 

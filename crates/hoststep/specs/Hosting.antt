@@ -4,11 +4,11 @@ use Rattle.protocol.specs.Networks.{HostedNode, Step, slices_of}
 use Rattle.protocol.specs.Networks.Step.{Opens, Closes, Proposes, Delivers, Hears, NominationTimerFires, BallotTimerFires, Reslices}
 use Rattle.hoststep.specs.declared.node_place.NodePlace.{NodePlace}
 
--- the name of the node that stands there
+-- the name of the node that stands at a place
 abbrev pub node_name : NodePlace → ℕ
 node_name p = p.name.value
 
--- it stands there
+-- the node stands at this place among the hosted ones
 abbrev pub IsNodePlace : List HostedNode → NodePlace → Type 0
 IsNodePlace nodes p = option_map (λ h. h.name) (slice_get nodes p.place) ≡ Some (node_name p)
 
@@ -16,7 +16,7 @@ IsNodePlace nodes p = option_map (λ h. h.name) (slice_get nodes p.place) ≡ So
 abbrev pub IsNodeName : List HostedNode → ℕ → Type 0
 IsNodeName nodes u = is_some (slices_of nodes u) ≡ true
 
--- the node whose event it is, and the one that is heard, are hosted
+-- the node of an event, and the one that is heard, are hosted
 abbrev pub NamesNodes : List HostedNode → Step → Type 0
 NamesNodes nodes (Opens i) = ⊤
 NamesNodes nodes (Closes i) = ⊤

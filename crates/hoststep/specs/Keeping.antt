@@ -20,7 +20,7 @@ use Rattle.hoststep.specs.declared.outs_list.EntryOuts.{EntryOuts}
 use Rattle.hoststep.specs.declared.kept.KeptEvent.{KeptEvent}
 use Rattle.hoststep.specs.declared.kept.KeptEvent.TheVariants.{OpenSlot, CloseSlot, Deliver, Hear, NominationTimer, BallotTimer, Large}
 
--- the event, with the whole envelope and with names; bytes that are no envelope are never applied
+-- an event that is kept, with the whole envelope and with names; bytes that are no envelope are never applied
 abbrev pub step_in : KeptEvent → Step
 step_in (OpenSlot i) = Opens i
 step_in (CloseSlot i) = Closes i
@@ -30,10 +30,11 @@ step_in (NominationTimer u r i) = NominationTimerFires i (node_name u) r
 step_in (BallotTimer u n i) = BallotTimerFires i (node_name u) n
 step_in (Large b) = step_of (box_value b)
 
+-- an entry that is kept, with whole envelopes and with names
 abbrev pub entry_of : StoredEntry → Entry
 entry_of x = record { event = step_in x.event; outs = outs_of (kept_outs x.outs) }
 
--- a delivery's bytes are an envelope
+-- the bytes of a delivery are an envelope
 abbrev pub IsReadable : Step → Type 0
 IsReadable (Delivers u size (Fault n)) = ⊥
 IsReadable _ = ⊤
@@ -42,8 +43,8 @@ IsReadable _ = ⊤
 unfoldable pub spelled_size : Sent → ℕ
 spelled_size e = length (spelling e)
 
--- the nodes stand at their places among the hosted ones; the archive has the envelope that was delivered, and as many
--- bytes came as its spelling has; what lies in a box is large
+-- an event is kept: its nodes stand at their places among the hosted ones; the archive has the envelope that was
+-- delivered, and as many bytes came as its spelling has; what lies in a box is large
 abbrev pub IsKeptEvent : List HostedNode → Archived → KeptEvent → Type 0
 IsKeptEvent nodes archive (OpenSlot i) = ⊤
 IsKeptEvent nodes archive (CloseSlot i) = ⊤
@@ -60,14 +61,15 @@ pub record AreListed (lists : List EntryOuts) (xs : List StoredEntry) : Type 0 w
   pub earlier : All (λ x. x.entry < length xs) lists
   pub listed : (k : ℕ) (d : StoredEntry) → k < length xs → listed_at lists k ≡ kept_outs (get_or xs k d).outs
 
--- that of each entry; the archive has what was emitted, and what was given out is listed
+-- a journal is kept: each entry with its event; the archive has what was emitted, and what was given out is listed
 abbrev pub AreKept : List HostedNode → Archived → List EntryOuts → List StoredEntry → Type 0
 AreKept nodes archive lists xs =
     All (λ x. IsKeptEvent nodes archive x.event × AreFiledOuts archive (kept_outs x.outs)) xs × AreListed lists xs
 
--- an entry that is read in place
+-- an entry that is lent, in the words of the definitions
 abbrev pub lent_entry : LentEntry → Entry
 lent_entry x = record { event = step_in x.event.now; outs = outs_of x.outs.now }
 
+-- the archive has the envelopes of an entry that is lent, and its nodes stand at their places
 abbrev pub IsLentEntry : List HostedNode → Archived → LentEntry → Type 0
 IsLentEntry nodes archive x = IsKeptEvent nodes archive x.event.now × AreFiledOuts archive x.outs.now

@@ -8,7 +8,7 @@ use Rattle.protocol.specs.Networks.Step.{Opens, Closes, Proposes, Delivers, Hear
 use Rattle.hoststep.specs.declared.lent_event.LentEvent.{LentEvent}
 use Rattle.hoststep.specs.declared.lent_event.LentEvent.TheVariants.{OpenSlot, CloseSlot, Propose, Deliver, Hear, NominationTimer, BallotTimer, Reslice}
 
--- the event, in the words of the definitions
+-- an event that is lent, in the words of the definitions
 abbrev pub lent_step : LentEvent → Step
 lent_step (OpenSlot i) = Opens i
 lent_step (CloseSlot i) = Closes i

@@ -13,21 +13,21 @@ use Rattle.hoststep.specs.declared.recorded.Recorded.{Recorded}
 use Rattle.network.specs.Decoding.{step_of}
 use Rattle.network.specs.Standing.{AreBytesRead, Machine, StandsFor}
 
--- a configuration, and the entries of the journal, envelopes whole
+-- a journal: a configuration, and the entries, envelopes whole
 pub record Log : Type 0 where
   pub config : Config
   pub entries : List Entry
 
--- the entries are a run, and the machine is what they lead to
+-- the entries of a journal are a run, and the machine is what they lead to
 pub record IsJournal (m : Machine) (entries : List Entry) : Type 0 where
   pub run : IsRun m.config entries
   pub state : StandsFor m (state_of m.config entries)
 
--- one entry more
+-- a journal with one entry more
 abbrev pub with_entry : Log → Step → List Out → Log
 with_entry l e os = record l { entries = l.entries ++ record { event = e; outs = os } ∷ [] }
 
--- an event that is not refused after these entries, and what it gives out
+-- an event is not refused after these entries, and gives this out
 abbrev pub IsEntered : Log → Step → List Out → Type 0
 IsEntered l e os = (refusal_of l.config l.entries e ≡ None) × (os ≡ outs_given l.config l.entries e)
 
@@ -36,7 +36,7 @@ IsEntered l e os = (refusal_of l.config l.entries e ≡ None) × (os ≡ outs_gi
 abbrev pub MayWantMemory : Config → List Entry → Step → Type 0
 MayWantMemory config entries e = (refusal_of config entries e ≡ None) ⊎ AreBytesRead config.nodes e
 
--- this is the first refusal that applies after these entries, or memory is wanting where it may be
+-- the first refusal that applies after these entries; or memory is wanting where it may be
 abbrev pub IsRefused : Log → Step → Refusal → Type 0
 IsRefused l e r =
     ((r ≡ NoMemory) × MayWantMemory l.config l.entries e) ⊎ (refusal_of l.config l.entries e ≡ Some r)
@@ -51,7 +51,7 @@ pub record IsRecorded (old : Log) (event : Event) (r : Recorded) : Type 0 where
   pub event_is : r.event ≡ event
   pub marks : r.marks.items ≡ marks_of old.config old.entries (step_of event)
 
--- an event as it comes, and outs, that are those of an entry
+-- an event as it comes, and outs, are those of an entry
 abbrev pub IsEntryAt : Option Entry → Option (Event × Vec Out Global) → Type 0
 IsEntryAt None None = ⊤
 IsEntryAt (Some x) (Some r) = (step_of r.0 ≡ x.event) × (r.1.items ≡ x.outs)

@@ -4,6 +4,7 @@ use Rattle.scripts.specs.declared.run.Stop.TheVariants as stop
 use Rattle.journal.specs.declared.fault.JournalFault.{JournalFault}
 use Rattle.journal.specs.declared.fault.JournalFault.TheVariants as fault
 
+-- the fault to which a stopped replay comes
 abbrev pub fault_of_stop : Stop → JournalFault
 fault_of_stop stop.CannotRead = fault.CannotRead
 fault_of_stop stop.TooLong = fault.CannotRead

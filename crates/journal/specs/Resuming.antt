@@ -11,7 +11,7 @@ use Rattle.feed.specs.declared.replaying.JournalEnd.{JournalEnd}
 use Rattle.journal.specs.declared.fault.JournalFault.{JournalFault}
 use Rattle.journal.specs.declared.fault.JournalFault.TheVariants as fault
 
--- `resumed L`, and a line feed (10)
+-- the line `resumed L`, with a line feed (10)
 abbrev pub resumed_line : ℕ → Bytes
 resumed_line n = codes "resumed " ++ (decimal n ++ 10 ∷ [])
 
@@ -31,7 +31,7 @@ HasReplayedFile serves longest from s old new (Err fault.CannotWrite) t = Unit {
 HasReplayedFile serves longest from s old new (Err fault.CannotTell) t = Unit {0}
 HasReplayedFile serves longest from s old new (Err fault.NoMemory) t = Unit {0}
 
--- the same, and then it was told how many lines there are
+-- the lines of what a file has were answered again, and then it was told how many there are; or why not
 abbrev pub HasResumed : {S : Type 0} → Serving S → ℕ → Option ℕ → S → Option Bytes → Option Bytes
     → Result ℕ JournalFault → S → Type 0
 HasResumed serves longest from s old new (Ok n) t =

@@ -33,10 +33,12 @@ unfoldable pub index_of : List Sent → List Places
 index_of rows = map (places_of rows) (senders rows)
 
 -- ---- one place more
+-- the place that a sender has for its row of a kind
 abbrev pub place_in : Places → Kind → Option ℕ
 place_in p Nomination = p.nomination
 place_in p Kind.Ballot = p.ballot
 
+-- the places of a sender, with this one for a kind
 abbrev pub with_place : Places → Kind → ℕ → Places
 with_place p Nomination n = record p { nomination = Some n }
 with_place p Kind.Ballot n = record p { ballot = Some n }
@@ -63,11 +65,12 @@ index_with_place (p ∷ ps) u k n =
     ∷ index_with_place ps u k n else (if p.sender == u then with_place p k n ∷ ps else only_place u k n ∷ p ∷ ps)
 
 -- ---- one place less
+-- the places of a sender, without the one for a kind
 abbrev pub without_place : Places → Kind → Places
 without_place p Nomination = record p { nomination = None }
 without_place p Kind.Ballot = record p { ballot = None }
 
--- the sender has no row
+-- the sender has no row, of either kind
 abbrev pub is_vacant : Places → Bool
 is_vacant p = is_none p.nomination && is_none p.ballot
 
@@ -79,7 +82,7 @@ index_without_place (p ∷ ps) u k =
     ∷ index_without_place ps u k
 
 -- ---- an index as the code keeps it
--- these places, as those of a sender
+-- places as the code keeps them, as those of a sender
 abbrev pub of_sender : ℕ → RowPlaces → Places
 of_sender u p = record { sender = u; nomination = p.nomination; ballot = p.ballot }
 
@@ -92,7 +95,7 @@ abbrev pub places_in_index : List Places → ℕ → Places
 places_in_index [] u = record { sender = u; nomination = None; ballot = None }
 places_in_index (p ∷ ps) u = if p.sender == u then p else places_in_index ps u
 
--- rows with their index
+-- rows with their index: one row at most of each sender and kind, and the places of all
 pub record IsIndexed (rows : List Sent) (index : List Places) : Type 0 where
   pub single : has_single_rows rows ≡ true
   pub indexed : index ≡ index_of rows

@@ -9,7 +9,7 @@ use Rattle.latest.specs.declared.table.Put.{Put}
 use Rattle.latest.specs.declared.table.Put.TheVariants.{Stale, NoMemory, Added, Replaced}
 use Rattle.latest.specs.Places.{place_of_row}
 
--- what the answer says of the table before and of the table after
+-- what the answer to a put says of the table before and after
 abbrev pub IsPut : List Filed → Sent → Put → List Filed → Type 0
 IsPut old e Stale new = (is_taken (sents_of old) e ≡ false) × (new ≡ old)
 IsPut old e NoMemory new = (row (sents_of old) e.sender (kind_of e.body) ≡ None) × (new ≡ old)
@@ -20,14 +20,14 @@ IsPut old e (Replaced r) new =
     (row (sents_of old) e.sender (kind_of e.body) ≡ Some (sent_of r)) × (is_taken (sents_of old) e ≡ true)
     × (sents_of new ≡ with_row e (sents_of old))
 
--- the archive has the row that was replaced
+-- the archive has the row that a put replaced
 abbrev pub IsFiledPut : Archived → Put → Type 0
 IsFiledPut archive Stale = ⊤
 IsFiledPut archive NoMemory = ⊤
 IsFiledPut archive Added = ⊤
 IsFiledPut archive (Replaced r) = IsFiled archive r
 
--- the answer without the way back
+-- the answer to a put without the way back
 abbrev pub offer_of : Put → Offer
 offer_of Stale = Offer.Stale
 offer_of NoMemory = Offer.NoMemory
@@ -50,7 +50,7 @@ abbrev pub with_known_row : Filed → List Filed → List Filed
 with_known_row r table =
     with_row_at (place_of_row (sents_of table) (sent_of r).sender (kind_of (sent_of r).body)) r table
 
--- the table from which this answer led to that one
+-- the table before a put, by the one after it
 abbrev pub before_put : Put → List Filed → List Filed
 before_put Stale table = table
 before_put NoMemory table = table

@@ -7,7 +7,7 @@ use Rattle.protocol.specs.Weights.{Fraction, weight}
 use Rattle.protocol.specs.Leaders.{hash, is_near, neighbours, beats}
 use Rattle.slices.specs.Weighing.{whole}
 
--- the leader: the neighbour that no neighbour beats
+-- the leader of a round: the neighbour that no neighbour beats
 pub record IsLeader (slot round v : ℕ) (q : Slices) (u : ℕ) : Type 0 where
   pub neighbour : IsTrue (among (neighbours slot round v q) u)
   pub unbeaten : (w : ℕ) → IsTrue (among (neighbours slot round v q) w) → IsFalse (beats slot round w u)

@@ -22,33 +22,33 @@ pub record ListenerState : Type 0 where
   pub configured : Configured
   pub table : List Filed
 
--- what is known, on the heap, if anything is
+-- what is known of a reach, on the heap, if anything is
 abbrev pub reach_in : Option (Box KnownReach Global) → Option KnownReach
 reach_in = option_map box_value
 
--- the region of it
+-- the region that is known, if one is
 abbrev pub region_of : Option KnownReach → Option Region
 region_of = option_map (λ k. k.region)
 
--- what such a node knows of its reach
+-- what a listener knows of its reach is right
 abbrev pub IsKnownOf : ListenerState → KnownReach → Type 0
 IsKnownOf h k = IsKnown h.configured.name h.configured.slices (sents_of h.table) k
 
--- what is known is what the configuration and the table give
+-- what is known of a reach, if anything is, is what the configuration and the table give
 abbrev pub KnowsReach : Configured → List Sent → Option KnownReach → Type 0
 KnowsReach c table known = IfSome known (λ k. IsKnown c.name c.slices table k)
 
--- so is a region
+-- a region that is known, if one is, is what the configuration and the table give
 abbrev pub KnowsRegion : Configured → List Sent → Option Region → Type 0
 KnowsRegion c table region = IfSome region (λ r. IsRegion c.name c.slices table r)
 
--- and the ballots and the values of a reach that is known, where they are listed
+-- the ballots and the values of a reach that is known are those of the rows, where they are listed
 abbrev pub KnowsLists : Configured → List Sent → Option KnownReach → Type 0
 KnowsLists c table known =
     IfSome known (λ k. IfSome k.ballots (λ b. AreBallotsOf c.name table k.region.nodes.items b) × IfSome k.values (λ v. AreValuesOf c.name table k.region.nodes.items v))
 
--- what an envelope does to the region that such a node knows where the table takes it: nothing, one entry is set, the
--- reach is of some extent then and the region one of before, or it is not known any more
+-- what an envelope does to the region that a listener knows, where the table takes it: nothing; one entry is set; the
+-- reach is of some extent, and the region one of before; or it is not known any more
 abbrev pub IsEffect : Configured → List Sent → Sent → Option Region → Effect → Type 0
 IsEffect c table e region Nothing = KnowsRegion c table region → KnowsRegion c (with_row e table) region
 IsEffect c table e region (Sets x) = IfSome region (λ r. IsEntry c.name c.slices table e r x)
@@ -62,7 +62,7 @@ pub record IsStranger (h : ListenerState) (u : ℕ) : Type 0 where
   pub is : IsReach h.configured.name h.configured.slices (sents_of h.table) reach
   pub outside : IsFalse (among reach u)
 
--- the table has the envelope now
+-- the table has the envelope of a put now
 abbrev pub is_put : Put → Bool
 is_put Stale = false
 is_put NoMemory = false

@@ -28,17 +28,17 @@ pub record Hearing : Type 0 where
 abbrev pub step_of_hearing : ℕ → Hearing → Step
 step_of_hearing i h = Hears i h.node h.emission.from h.emission.kind h.emission.number
 
--- emissions by the names under which others hear them
+-- emissions by the names under which others hear them: node, kind and number
 abbrev pub named : List Sent → List ℕ → List Emission
 named [] ks = []
 named (e ∷ es) [] = []
 named (e ∷ es) (k ∷ ks) = record { from = e.sender; kind = kind_of e.body; number = k } ∷ named es ks
 
--- each of these names hears an emission, but the node whose it is
+-- who hears an emission: each of these names but the node whose it is
 abbrev pub hearings_of : List ℕ → Emission → List Hearing
 hearings_of us e = map (λ u. record { node = u; emission = e }) (filter (λ u. not (u == e.from)) us)
 
--- each of these names hears each of the emissions, one emission after the other
+-- who hears these emissions, one emission after the other: each of the names but the node whose it is
 abbrev pub all_hearings : List ℕ → List Emission → List Hearing
 all_hearings us es = flat_map (hearings_of us) es
 
@@ -58,7 +58,7 @@ pub record Telling : Type 0 where
   pub node : ℕ
   pub reply : Reply
 
--- a step that gave nothing out is not told
+-- what is told of a node's step: what it gave out, or why it was refused; nothing where it gave nothing out
 abbrev pub told_of : ℕ → Reply → List Telling
 told_of u (Done []) = []
 told_of u (Done (o ∷ os)) = record { node = u; reply = Done (o ∷ os) } ∷ []
@@ -86,13 +86,12 @@ pub data AreHeard (i : ℕ) : List Hearing → Net → List Telling → Net → 
       → AreHeard i (hs ++ waits_after old (step_of_hearing i h) r) now told new
       → AreHeard i (h ∷ hs) old (told_of h.node r ++ told) new
 
--- a node, if it is one, stays as it is
+-- a node, if there is one, stays as it is: the event makes no change of its own
 abbrev pub is_left : Option Node → NodeEvent → Bool
 is_left None e = false
 is_left (Some n) e = is_none (change n e)
 
--- what comes of an event that is not refused is nothing: an envelope is delivered that is not newer than what the node
--- has, or a timer that is not live fires
+-- an event is stale: nothing comes of it, since an envelope is not newer than what the node has or a timer is not live
 abbrev pub is_stale : Net → Step → Bool
 is_stale net (Opens i) = false
 is_stale net (Closes i) = false

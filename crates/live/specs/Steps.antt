@@ -6,7 +6,7 @@ use Rattle.network.specs.Standing.{IsStep, Machine, StandsFor}
 use Rattle.live.specs.Serving.{AreHeard, Hearing, Telling, is_stale}
 use Rattle.live.specs.declared.stepping.Given.{Given}
 
--- the network's step, its marks, whose it was, and whether it is stale
+-- an event at a served network: the network's step, its marks, whose it was, and whether it is stale
 pub record IsStepped (old : Machine) (e : Step) (g : Given) (new : Machine) : Type 0 where
   pub step : IsStep old e g.outs.items new
   pub marks : (net : Net) → StandsFor old net → g.marks.items ≡ marks_in net e

@@ -16,7 +16,7 @@ use Rattle.live.specs.declared.hearing.Told.{Told}
 use Rattle.live.specs.declared.served.Served.{Served}
 use Rattle.live.specs.declared.stepping.Given.{Given}
 
--- what a step was answered
+-- what a step was answered, as a reply of the definitions
 abbrev pub outcome_of : Result Given Refusal → Reply
 outcome_of (Ok g) = Done g.outs.items
 outcome_of (Err r) = Refused r
@@ -26,13 +26,16 @@ abbrev pub emissions_of : Result Given Refusal → List Emission
 emissions_of (Ok g) = named (emissions g.outs.items) g.marks.items
 emissions_of (Err r) = []
 
+-- the answer of a step that is told, as a reply of the definitions
 abbrev pub reply_of : Result (Vec Out Global) Refusal → Reply
 reply_of (Ok v) = Done v.items
 reply_of (Err r) = Refused r
 
+-- what is told of one step, in the words of the definitions
 abbrev pub telling_of : Told → Telling
 telling_of t = record { node = t.node; reply = reply_of t.answer }
 
+-- what is told of several steps, in the words of the definitions
 abbrev pub tellings_of : List Told → List Telling
 tellings_of ts = map telling_of ts
 
@@ -40,7 +43,7 @@ abbrev pub ending_by : Option Refusal → Bool → Ending
 ending_by None stale = IsDone stale
 ending_by (Some r) stale = IsRefused r
 
--- how it ended
+-- how an event ended: refused, or done and stale or not
 abbrev pub ending_of : Served → Ending
 ending_of s = ending_by s.refused s.stale
 
@@ -52,8 +55,8 @@ IsHeardByAll i us front old before after new =
     × (tellings_of after.told.items ≡ tellings_of before.told.items ++ told)
     × LeadsTo i front old (all_hearings us more) told new
 
--- for each network that the machine stands for, what waits at the slot is heard, these are told, and the machine after
--- it stands for what becomes of that network
+-- what waits at the slot is heard and told, for each network that the machine stands for, and what becomes of that is
+-- kept
 abbrev pub HaveHeard : ℕ → List Hearing → Machine → List Telling → Machine → Type 0
 HaveHeard i hs old told new =
     (net : Net) → StandsFor old net → (after : Net) × AreHeard i hs net told after × StandsFor new after
@@ -63,7 +66,7 @@ abbrev pub IsToldAt : Option Refusal → ℕ → Step → Type 0
 IsToldAt None i e = i ≡ slot_at (slot_and_node_of e)
 IsToldAt (Some r) i e = Unit {0}
 
--- likewise an event is served, and this came of it
+-- an event is served, for each network that the machine stands for, and what becomes of that is kept
 pub record IsServedBy (old : Machine) (e : Step) (new : Machine) (s : Served) : Type 0 where
   pub slot : IsToldAt s.refused s.slot e
   pub served : (net : Net) → StandsFor old net

@@ -17,7 +17,7 @@ abbrev pub delivered_of : Step → Option Sent
 delivered_of (Delivers u size (Read e)) = Some e
 delivered_of _ = None
 
--- The event is the network's step, with what that gives out, its marks, and so many whole copies; the archive has what
+-- An event is the network's step, with what that gives out, its marks, and so many whole copies; the archive has what
 -- was given out and what was delivered.
 pub record IsApplied (old : Standing) (e : Step) (count : ℕ) (new : Standing) (a : Outcome) : Type 0 where
   pub step : IsStep (machine_of old) e (outs_of a.outs.items) (machine_of new)
@@ -27,7 +27,6 @@ pub record IsApplied (old : Standing) (e : Step) (count : ℕ) (new : Standing) 
   pub delivered : option_map sent_of a.delivered ≡ delivered_of e
   pub filed : IfSome a.delivered (IsFiled new.archive)
 
--- What an event leaves that is refused: all as it was, the archive too; or memory was wanting for an event that no test
--- refuses.
+-- A refused event leaves all as it was, the archive too; or memory was wanting for an event that no test refuses.
 abbrev pub IsLeft : Standing → Step → Standing → Refusal → Type 0
 IsLeft old e new r = (new ≡ old) ⊎ ((r ≡ NoMemory) × IsAllowed (machine_of old) e)

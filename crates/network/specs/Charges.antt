@@ -11,27 +11,27 @@ use Rattle.network.specs.declared.plan.Drawn.TheVariants.{Budgets, Opens, Own, P
 use Rattle.network.specs.declared.tallies.Tally.{Tally}
 
 -- ---- on what it counts
--- one where it draws on the own share of a node
+-- what an event counts on a node's own share: one where it draws on that
 abbrev pub on_own : Drawn → ℕ
 on_own (Own k h) = 1
 on_own _ = 0
 
--- so much where it draws on what a node gets from this name
+-- what an event counts on what a node gets from a name: so much where it draws on that
 abbrev pub on_pair : Drawn → ℕ → ℕ → ℕ
 on_pair (Pair k h w) n u = if w == u then n else 0
 on_pair _ n u = 0
 
--- so much where it draws on the budgets of the network
+-- what an event counts on the budgets of the network: so much where it draws on them
 abbrev pub on_budgets_of : Drawn → ℕ → ℕ
 on_budgets_of Budgets n = n
 on_budgets_of _ n = 0
 
--- one where it draws on openings and closings
+-- what an event counts on openings and closings: one where it draws on them
 abbrev pub on_opens_of : Drawn → ℕ
 on_opens_of Opens = 1
 on_opens_of _ = 0
 
--- the counts of the network stay below their widths
+-- the counts of the network stay below their widths with what an event draws on them
 abbrev pub HasRoomOnNetwork : Drawn → ℕ → ℕ → ℕ → ℕ → Type 0
 HasRoomOnNetwork Budgets n events bytes opens = (events < 2 ^ 40) × (bytes + n ≤ 2 ^ 40)
 HasRoomOnNetwork Opens n events bytes opens = opens < 2 ^ 40
@@ -44,31 +44,32 @@ pub record IsCharged (c : Charge) (old new : Lodging) : Type 0 where
   pub events : (u : ℕ) → events_from new.heard u ≡ events_from old.heard u + on_pair c.drawn 1 u
   pub bytes : (u : ℕ) → bytes_from new.heard u ≡ bytes_from old.heard u + on_pair c.drawn c.size u
 
--- so many more stay below the width, or there are none
+-- so many bytes more stay below the width, or there are none
 abbrev pub FitsOrNone : ℕ → ℕ → Type 0
 FitsOrNone bytes n = (bytes + n ≤ 2 ^ 40) ⊎ (n ≡ 0)
 
--- its counts stay below their widths
+-- the counts of a node stay below their widths with what an event draws on them
 abbrev pub HasRoomInCounts : Drawn → ℕ → ℕ → List Tally → Type 0
 HasRoomInCounts (Own k h) n own heard = own < 2 ^ 40
 HasRoomInCounts (Pair k h u) n own heard = (events_from heard u < 2 ^ 40) × FitsOrNone (bytes_from heard u) n
 HasRoomInCounts _ n own heard = ⊤
 
+-- the counts of a node at a slot stay below their widths with what an event draws on them
 abbrev pub HasRoomFor : Charge → Lodging → Type 0
 HasRoomFor c l = HasRoomInCounts c.drawn c.size l.own l.heard
 
--- there is room for one more name where it draws on what comes from one
+-- there is room for the tally of one more name, where an event draws on what comes from one
 abbrev pub HasRoomToTally : Drawn → TallyBook → Type 0
 HasRoomToTally (Pair k h u) b = 0 < b.room
 HasRoomToTally _ b = ⊤
 
--- one event of the node, which is counted
+-- a node took one event, which is counted at it
 pub record IsActed (c : Charge) (e : NodeEvent) (old new : Lodging) : Type 0 where
   pub instance : instance_in new ≡ after_event e (instance_in old)
   pub charged : IsCharged c old new
 
 -- ---- at the open slots
--- one event of the node at this place of the slot, which is counted
+-- the node at this place of a slot took one event, which is counted at it
 pub record IsSlotActed (c : Charge) (h : ℕ) (e : NodeEvent) (old new : Lodgings) : Type 0 where
   pub number : new.number ≡ old.number
   pub instances : IsChangedAt (IsActed c e) h old.instances new.instances

@@ -18,15 +18,15 @@ abbrev pub reading_of_result : Result Sent Wrong → Reading
 reading_of_result (Ok e) = Read e
 reading_of_result (Err f) = Fault (fault_number f)
 
--- what a text says; every text says something, and exactly one thing
+-- what a text says, by the codec; every text says something, and exactly one thing
 unfoldable pub reading : List ℕ → Reading
 reading bytes = reading_of_result (decoding bytes)
 
--- what an event is to this host
+-- what an event is to this host, which reads bytes by the codec
 abbrev pub step_of : Event → Step
 step_of e = step_of_event reading e
 
--- what the code answers
+-- what the code's answer to bytes says
 abbrev pub said_by : Answer → Reading
 said_by (Says e) = Read e
 said_by (Faulty n) = Fault n
@@ -36,5 +36,6 @@ pub record IsExactly (bytes : List ℕ) : Type 0 where
   pub envelope : (e : Sent) → (reading bytes ≡ Read e) ↔ Spells bytes e
   pub fault : (f : Wrong) → (reading bytes ≡ Fault (fault_number f)) ↔ IsFault bytes f
 
+-- each text is an envelope exactly where it spells that, and a fault exactly where it has that fault
 abbrev pub ReadingsAreExact : Type 0
 ReadingsAreExact = (bytes : List ℕ) → IsBytes bytes → IsExactly bytes

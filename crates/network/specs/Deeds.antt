@@ -46,13 +46,14 @@ slots_after slots (Close k) = remove slots k
 slots_after slots (Act k h e) = slots_after_event slots k h (event_of e)
 slots_after slots (Hand k h e) = slots_after_event slots k h (NodeEvent.Take e)
 
+-- what a deed, which is told by places, gives out
 abbrev pub outs_after : List Slot → Deed → List Out
 outs_after slots (Open s) = []
 outs_after slots (Close k) = []
 outs_after slots (Act k h e) = outs_at (event_of e) (instance_at (slice_get slots k) h)
 outs_after slots (Hand k h e) = outs_at (NodeEvent.Take e) (instance_at (slice_get slots k) h)
 
--- the places of a node are there
+-- there is a node at these places
 abbrev pub IsNodeThere : List Slot → ℕ → ℕ → Type 0
 IsNodeThere slots k h = (s : Slot) × (slice_get slots k ≡ Some s) × (h < length s.instances)
 
@@ -88,10 +89,12 @@ envelope_to_file (Hand k h x) = Some x
 abbrev pub IsSeat : Machine → ℕ → ℕ → Seat → Type 0
 IsSeat m k h y = (x : Seats) × (slice_get m.slots k ≡ Some x) × (slice_get x.seats h ≡ Some y)
 
+-- there is a node at this place of an open slot
 abbrev pub IsSeatThere : Machine → ℕ → ℕ → Type 0
 IsSeatThere m k h = (y : Seat) × IsSeat m k h y
 
 -- ---- on what it draws, by places
+-- what is drawn on by places is this source of the definitions
 abbrev pub IsDrawn : Machine → Drawn → Source → Type 0
 IsDrawn m Budgets s = s ≡ OfBudgets
 IsDrawn m Opens s = (r : Roster) × (m.config.roster ≡ Some r) × (s ≡ OfOpens r.shares)
@@ -102,8 +105,8 @@ IsDrawn m (Pair k h u) s =
     (r : Roster) × (x : Seats) × (y : Seat) × (m.config.roster ≡ Some r) × (slice_get m.slots k ≡ Some x)
     × (slice_get x.seats h ≡ Some y) × (s ≡ OfShare r.shares x.number (PairShare y.instance.node.name u))
 
--- a plan for an event that nothing refuses, whatever network the machine stands for: what is done by places is what the
--- event does
+-- a plan for an event that nothing refuses: what is done by places is what the event does, whatever network the machine
+-- stands for
 pub record IsPlan (m : Standing) (e : Step) (plan : Plan) : Type 0 where
   pub allowed : IsAllowed (machine_of m) e
   pub slots : (net : Net) → StandsFor (machine_of m) net → slots_after net.slots plan.deed ≡ (effect net e).0.slots
@@ -114,33 +117,35 @@ pub record IsPlan (m : Standing) (e : Step) (plan : Plan) : Type 0 where
   pub size : plan.size ≡ size_of e
   pub there : IsThere m.archive (map slot_of (machine_of m).slots) plan.deed
 
--- a plan, or a refusal
+-- a plan for an event, or a refusal of it
 abbrev pub IsPlanned : Standing → Step → Result Plan Refusal → Type 0
 IsPlanned m e (Ok plan) = IsPlan m e plan
 IsPlanned m e (Err r) = IsRefusal (machine_of m) e r
 
--- a plan that takes no memory, or the first refusal that applies
+-- a plan for an event that takes no memory, or the first refusal that applies
 abbrev pub IsPlannedSurely : Standing → Step → Result Plan Refusal → Type 0
 IsPlannedSurely m e (Ok plan) = IsPlan m e plan
 IsPlannedSurely m e (Err r) = IsFirstRefusal (machine_of m) e r
 
--- what it draws on is there
+-- what an event draws on by places is there
 abbrev pub IsDrawnThere : Machine → Drawn → Type 0
 IsDrawnThere m d = (s : Source) × IsDrawn m d s
 
--- there is room on it for one more event, or there is none and this is the refusal, whatever network the machine stands
--- for
+-- there is room for one more event on what is drawn on, whatever network the machine stands for
 abbrev pub HasRoom : Machine → Drawn → Type 0
 HasRoom m d = (s : Source) (net : Net) → IsDrawn m d s → StandsFor m net → (room_test net s).0 ≡ false
 
+-- there is no room for one more event on what is drawn on, and this is the refusal, whatever network the machine stands
+-- for
 abbrev pub HasNoRoom : Machine → Drawn → Refusal → Type 0
 HasNoRoom m d r = (s : Source) (net : Net) → IsDrawn m d s → StandsFor m net → room_test net s ≡ (true, r)
 
--- the same of so many bytes more
+-- there is room for so many bytes more on what is drawn on, whatever network the machine stands for
 abbrev pub HasRoomForBytes : Machine → Drawn → ℕ → Type 0
 HasRoomForBytes m d size =
     (s : Source) (net : Net) → IsDrawn m d s → StandsFor m net → (bytes_test net s size).0 ≡ false
 
+-- there is no room for so many bytes more on what is drawn on, and this is the refusal
 abbrev pub HasNoRoomForBytes : Machine → Drawn → ℕ → Refusal → Type 0
 HasNoRoomForBytes m d size r =
     (s : Source) (net : Net) → IsDrawn m d s → StandsFor m net → bytes_test net s size ≡ (true, r)
@@ -153,12 +158,12 @@ IsPaired (Own k h) = ⊥
 IsPaired (Pair k h u) = ⊤
 
 -- ---- what an event of a node draws on
--- one of its own
+-- what an event of a node's own draws on
 abbrev pub own_source : Option Roster → ℕ → ℕ → Source
 own_source None i u = OfBudgets
 own_source (Some r) i u = share_or_budgets r i (OwnShare u)
 
--- what comes to it from a name
+-- what an event that comes to a node from a name draws on
 abbrev pub pair_source : Option Roster → ℕ → ℕ → ℕ → Source
 pair_source None i u from = OfBudgets
 pair_source (Some r) i u from = share_or_budgets r i (PairShare u from)
@@ -170,13 +175,15 @@ IsRoom m of (Ok d) =
     × ((net : Net) → StandsFor (machine_of m) net → (room_test net (of net.roster)).0 ≡ false)
 IsRoom m of (Err r) = (net : Net) → StandsFor (machine_of m) net → room_test net (of net.roster) ≡ (true, r)
 
--- the slot stands there
+-- the open slot of this number stands at this place
 abbrev pub IsSlotThere : Standing → ℕ → ℕ → Type 0
 IsSlotThere m i k = index_of_slot (map slot_of (machine_of m).slots) i ≡ Some k
 
+-- on what a node's own event draws, where there is room for one more, or the refusal where there is none
 abbrev pub IsOwnRoom : Standing → Spot → ℕ → Result Drawn Refusal → Type 0
 IsOwnRoom m s u result = (i : ℕ) → IsSlotThere m i s.slot_at → IsRoom m (λ o. own_source o i u) result
 
+-- on what an event from a name draws, where there is room for one more, or the refusal where there is none
 abbrev pub IsPairRoom : Standing → Spot → ℕ → ℕ → Result Drawn Refusal → Type 0
 IsPairRoom m s u from result = (i : ℕ) → IsSlotThere m i s.slot_at → IsRoom m (λ o. pair_source o i u from) result
 
@@ -205,6 +212,6 @@ pub record IsOwnEvent (i u : ℕ) (x : FiledEvent) (e : Step) : Type 0 where
   pub named_is : slot_and_node_of e ≡ Some (i, u)
   pub none_is : delivered_of e ≡ None
 
--- a plan for it, or the first refusal that applies
+-- a plan for an event of a node's own that nothing else refuses, or the first refusal that applies
 abbrev pub IsPlannedOwn : Standing → ℕ → ℕ → FiledEvent → Result Plan Refusal → Type 0
 IsPlannedOwn m i u x result = (e : Step) → IsOwnEvent i u x e → IsPlannedSurely m e result

@@ -20,26 +20,25 @@ use Rattle.network.specs.declared.plan.Charge.{Charge}
 use Rattle.network.specs.declared.plan.Deed.{Deed}
 use Rattle.network.specs.declared.plan.Deed.TheVariants.{Open, Close, Act, Hand}
 
--- the slots, with whole envelopes and no counts
+-- open slots of the definitions: their envelopes whole, and no counts
 abbrev pub slots_of : List Lodgings → List Slot
 slots_of slots = map slot_of (map seats_of slots)
 
--- what is read at its places is there, and the archive has what it speaks of; no open slot has the number of one that
--- is opened, and no two have one number where one is closed
+-- a deed can be done: its places are there, the archive has its envelope, and no number of a slot would stand twice
 abbrev pub IsDoable : Archived → Charge → List Lodgings → Deed → Type 0
 IsDoable archive c slots (Open s) = All (IsLodged archive) s.instances × (index_in (numbers_of slots) s.number ≡ None)
 IsDoable archive c slots (Close k) = (k < length slots) × (all_differ (numbers_of slots) ≡ true)
 IsDoable archive c slots (Act k h e) = IsReady c slots k h × IsFiledEvent archive e
 IsDoable archive c slots (Hand k h e) = IsReady c slots k h
 
--- the slots after it, with what is counted at a node
+-- the open slots after a deed, with what is counted at a node
 abbrev pub IsDone : Charge → Deed → List Lodgings → List Lodgings → Type 0
 IsDone c (Open s) old new = new ≡ old ++ s ∷ []
 IsDone c (Close k) old new = new ≡ remove old k
 IsDone c (Act k h e) old new = IsChangedAt (IsSlotActed c h (event_of e)) k old new
 IsDone c (Hand k h e) old new = IsChangedAt (IsSlotActed c h (NodeEvent.Take e)) k old new
 
--- by which numbers its emissions are named, by places
+-- by which numbers hearings name the emissions of a deed
 abbrev pub marks_after : List Slot → Deed → List ℕ
 marks_after slots (Open s) = []
 marks_after slots (Close k) = []
@@ -48,7 +47,7 @@ marks_after slots (Act k h e) =
 marks_after slots (Hand k h e) =
     numbers_by_kind (emitted_at (instance_at (slice_get slots k) h)) (emissions (outs_after slots (Hand k h e)))
 
--- what is given out, its marks, so many whole copies, and what was filed
+-- what a deed gives out, its marks, so many whole copies, and what was filed
 pub record IsAnswer (outs : List Out) (marks : List ℕ) (delivered : Option Sent) (count : ℕ) (archive : Archived)
     (a : Outcome) : Type 0 where
   pub outs_are : outs_of a.outs.items ≡ outs

@@ -12,6 +12,7 @@ places_from kind n [] = []
 places_from kind n (e ∷ es) =
     if is_kind kind (kind_of e.body) then n ∷ places_from kind (suc n) es else places_from kind (suc n) es
 
+-- where the emissions of a kind stand among all that was emitted
 abbrev pub places_of_kind : Kind → List Sent → List ℕ
 places_of_kind kind emitted = places_from kind 0 emitted
 

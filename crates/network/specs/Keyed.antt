@@ -8,7 +8,7 @@ abbrev pub at_key : {X Y : Type 0} → (X → ℕ) → (X → Y) → List X → 
 at_key key val [] u = None
 at_key key val (x ∷ xs) u = if key x == u then Some (val x) else at_key key val xs u
 
--- the place of a key; or nothing has it, and this is where one would keep the keys ascending
+-- the place of a key in a list; or nothing has it, and this is where one would keep the keys ascending
 abbrev pub IsKeyPlace : {X : Type 0} → (X → ℕ) → List X → ℕ → Result ℕ ℕ → Type 0
 IsKeyPlace key xs u (Ok at) = (index_in (map key xs) u ≡ Some at) × (at < length xs)
 IsKeyPlace key xs u (Err at) =

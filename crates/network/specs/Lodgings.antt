@@ -29,24 +29,27 @@ pub record Seat : Type 0 where
   pub own : ℕ
   pub heard : List Tally
 
+-- a node at a slot and its emissions, with whole envelopes
 abbrev pub instance_in : Lodging → Instance
 instance_in l = record { node = l.held.node; emitted = sents_of l.emitted }
 
+-- a node at a slot and its counts, with whole envelopes
 abbrev pub seat_of : Lodging → Seat
 seat_of l = record { instance = instance_in l; own = l.own; heard = l.heard }
 
--- it has drawn nothing
+-- a node at a slot has drawn nothing
 pub record IsUncounted (l : Lodging) : Type 0 where
   pub own : l.own ≡ 0
   pub heard : l.heard ≡ []
 
--- its rows are those of its table; the archive has them, and what it has emitted
+-- the rows of a node at a slot are those of its table; the archive has them, and what the node has emitted
 pub record IsLodged (archive : Archived) (l : Lodging) : Type 0 where
   pub table : l.held.node.table ≡ sents_of l.held.rows
   pub rows : AreFiled archive l.held.rows
   pub emitted : AreFiled archive l.emitted
 
 -- ---- an open slot
+-- an open slot: its number, and its nodes as they were filed
 pub record Lodgings : Type 0 where
   pub number : ℕ
   pub instances : List Lodging
@@ -58,18 +61,21 @@ pub record Seats : Type 0 where
 abbrev pub seats_of : Lodgings → Seats
 seats_of s = record { number = s.number; seats = map seat_of s.instances }
 
+-- the slot of the definitions: its nodes without their counts
 abbrev pub slot_of : Seats → Slot
 slot_of s = record { number = s.number; instances = map (λ x. x.instance) s.seats }
 
+-- the archive has the rows and the emissions of all nodes at all open slots
 abbrev pub AreLodged : Archived → List Lodgings → Type 0
 AreLodged archive slots = All (λ s. All (IsLodged archive) s.instances) slots
 
 -- ---- what was drawn on shares
--- how many events, and how many bytes, were drawn from a name
+-- how many events were drawn from a name
 abbrev pub events_from : List Tally → ℕ → ℕ
 events_from [] u = 0
 events_from (t ∷ ts) u = if t.from == u then t.events else events_from ts u
 
+-- how many delivered bytes were drawn from a name
 abbrev pub bytes_from : List Tally → ℕ → ℕ
 bytes_from [] u = 0
 bytes_from (t ∷ ts) u = if t.from == u then t.bytes else bytes_from ts u
@@ -84,13 +90,14 @@ abbrev pub AreTallied : List Draw → List Seats → Type 0
 AreTallied draws slots = All (λ s. All (IsTallied s.number draws) s.seats) slots
 
 -- ---- what an event of a node answers
--- these outs, filed, these marks, and so many whole copies of the outs
+-- what an event of a node answers: these outs, filed, these marks, and so many whole copies
 pub record IsGiven (outs : List Out) (marks : List ℕ) (count : ℕ) (a : NumberedOuts) : Type 0 where
   pub outs_are : outs_of a.outs.items ≡ outs
   pub marks_are : a.marks.items ≡ marks
   pub copies : map (λ v. v.items) a.copies.items ≡ copies_of count outs
 
 -- ---- room that is made before an event
+-- there is room for so many emissions more, for their places and for their marks
 pub record HaveRoom (count : ℕ) (emitted : Vec Filed Global) (places : PlacesByKind) (marks : Vec ℕ Global)
     : Type 0 where
   pub emissions : vec_len emitted + count ≤ vec_capacity emitted

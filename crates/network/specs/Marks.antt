@@ -18,7 +18,7 @@ slot_and_node_of (NominationTimerFires i u r) = Some (i, u)
 slot_and_node_of (BallotTimerFires i u n) = Some (i, u)
 slot_and_node_of (Reslices i u q) = Some (i, u)
 
--- what a node has emitted
+-- what a node at a slot has emitted; nothing where there is none
 abbrev pub emitted_at : Option Instance → List Sent
 emitted_at None = []
 emitted_at (Some p) = p.emitted
@@ -28,7 +28,7 @@ abbrev pub emitted_before : Net → Option (ℕ × ℕ) → List Sent
 emitted_before net None = []
 emitted_before net (Some at) = emitted_at (node_where_open (instances_at net.slots at.0) at.1)
 
--- the number of each emission among those of its kind, after these
+-- the number of each emission among those of its kind, behind earlier ones
 unfoldable pub numbers_by_kind : List Sent → List Sent → List ℕ
 numbers_by_kind emitted [] = []
 numbers_by_kind emitted (e ∷ es) =

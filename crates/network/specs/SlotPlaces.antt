@@ -6,10 +6,11 @@ use Rattle.network.specs.Lodgings.{Lodgings}
 use Rattle.network.specs.declared.slot_index.SlotPlace.{SlotPlace}
 
 -- ---- places that are kept by number
+-- the number of a slot whose place is kept
 abbrev pub number_kept : SlotPlace → ℕ
 number_kept e = e.number
 
--- the place that is kept for a number
+-- the place that is kept for the number of a slot
 abbrev pub kept_for : List SlotPlace → ℕ → Option ℕ
 kept_for es i = at_key number_kept (λ e. e.place) es i
 
@@ -17,7 +18,7 @@ kept_for es i = at_key number_kept (λ e. e.place) es i
 abbrev pub place_without : ℕ → ℕ → ℕ
 place_without k n = if nat_lt k n then n - 1 else n
 
--- the same of each place that is kept
+-- the places that are kept, once what stood at one is gone: one less where they lay behind it
 abbrev pub slot_places_without : ℕ → List SlotPlace → List SlotPlace
 slot_places_without k es = map (λ e. record { number = e.number; place = place_without k e.place }) es
 
@@ -30,6 +31,7 @@ abbrev pub kept_without : ℕ → ℕ → List SlotPlace → ℕ → Option ℕ
 kept_without number place es i = if number == i then None else option_map (place_without place) (kept_for es i)
 
 -- ---- the open slots
+-- the numbers of open slots, in order
 abbrev pub numbers_of : List Lodgings → List ℕ
 numbers_of slots = map (λ s. s.number) slots
 

@@ -27,7 +27,7 @@ pub record Machine : Type 0 where
   pub bytes : ℕ
   pub opens : ℕ
 
--- the same, its envelopes as they lie in its archive
+-- a network with what each node drew on its shares, with its archive and its envelopes as they lie there
 pub record Standing : Type 0 where
   pub config : Config
   pub archive : Archived
@@ -36,6 +36,7 @@ pub record Standing : Type 0 where
   pub bytes : ℕ
   pub opens : ℕ
 
+-- a network without its archive: its envelopes whole
 abbrev pub machine_of : Standing → Machine
 machine_of m =
     record { config = m.config; slots = map seats_of m.slots; events = m.events; bytes = m.bytes; opens = m.opens }
@@ -54,8 +55,8 @@ net_of m draws = record {
   draws = draws;
 }
 
--- It stands for a network that has its parts and whose draws come to its counts. Networks for which one machine stands
--- differ in the order and the closed slots of their draws alone, which no test and no effect reads.
+-- A machine stands for a network that has its parts and whose draws come to its counts. Networks for which one machine
+-- stands differ only in the order and the closed slots of their draws, which no test and no effect reads.
 pub record StandsFor (m : Machine) (net : Net) : Type 0 where
   pub is : net ≡ net_of m net.draws
   pub tallied : AreTallied net.draws m.slots
@@ -79,7 +80,7 @@ pub record IsTidy (m : Machine) : Type 0 where
 abbrev pub IsStood : Machine → Type 0
 IsStood m = (draws : List Draw) × AreTallied draws m.slots
 
--- and the archive has all its envelopes
+-- a machine stands for a network of the definitions, is tidy, and its archive has all its envelopes
 pub record IsStanding (m : Standing) : Type 0 where
   pub lodged : AreLodged m.archive m.slots
   pub tidy : IsTidy (machine_of m)
@@ -96,7 +97,7 @@ abbrev pub slices_at : Net → ℕ → ℕ → Option Slices
 slices_at net i u = option_map (λ p. p.node.slices) (node_where_open (instances_at net.slots i) u)
 
 -- ---- what an event is answered
--- it is the network's step, for each network for which the machine stands
+-- the answer to an event is the network's step, for each network for which the machine stands
 abbrev pub IsStep : Machine → Step → List Out → Machine → Type 0
 IsStep old e os new =
     (net : Net) → StandsFor old net → StandsFor new (net_step net e).0 × ((net_step net e).1 ≡ Done os)
@@ -114,7 +115,7 @@ abbrev pub is_found_early : Reading → Bool
 is_found_early (Read e) = false
 is_found_early (Fault n) = n == fault_number Version || n == fault_number Kind
 
--- so many bytes that say this may take memory to be read: they are not too many, and have no such fault
+-- bytes may take memory to be read: they are not too many, and no fault of them is found before
 abbrev pub MayTakeMemory : ℕ → Reading → Type 0
 MayTakeMemory size said = (size ≤ most_bytes) × (is_found_early said ≡ false)
 
@@ -123,6 +124,6 @@ abbrev pub AreBytesRead : List HostedNode → Step → Type 0
 AreBytesRead nodes (Delivers u size said) = ((h : ℕ) × (index_of_name nodes u ≡ Some h)) × MayTakeMemory size said
 AreBytesRead nodes _ = ⊥
 
--- this is the first refusal that applies; or memory is wanting, and none applies, save that bytes were being read
+-- the first refusal that applies; or memory is wanting, and none applies, save that bytes were being read
 abbrev pub IsRefusal : Machine → Step → Refusal → Type 0
 IsRefusal m e r = ((r ≡ NoMemory) × (IsAllowed m e ⊎ AreBytesRead m.config.nodes e)) ⊎ IsFirstRefusal m e r

@@ -8,7 +8,7 @@ pub record TallyBook : Type 0 where
   pub tallies : List Tally
   pub room : ℕ
 
--- the names of tallies
+-- the names of which there are tallies
 abbrev pub names_in : List Tally → List ℕ
 names_in ts = map (λ t. t.from) ts
 

@@ -29,7 +29,7 @@ standing_in (x ∷ xs) = filter (λ d. not (list_any (closes_it d) xs)) (decisio
 abbrev pub is_lower : ExternalizedValue → ExternalizedValue → Bool
 is_lower a b = if a.slot == b.slot then nat_lt a.node b.node else nat_lt a.slot b.slot
 
--- the same, ascending by slot and then by name
+-- all that entries decided at slots that are still open, ascending by slot and then by name
 abbrev pub IsDecided : List Entry → List ExternalizedValue → Type 0
 IsDecided entries ds = IsPermutation (standing_in entries) ds × IsSortedBy is_lower ds
 
@@ -44,7 +44,7 @@ left_by None ds = ds
 abbrev pub decided_next : List ExternalizedValue → Entry → List ExternalizedValue
 decided_next ds x = left_by (closed_by x.event) ds ++ decisions_in x
 
--- the same, where there is one
+-- what stands of decisions after one entry more, where there is one
 abbrev pub decided_past : List ExternalizedValue → Option Entry → List ExternalizedValue
 decided_past ds None = ds
 decided_past ds (Some x) = decided_next ds x

@@ -45,7 +45,7 @@ pub data AreHosted (many : ℕ) (opens : List (ℕ × ℕ)) : List Net → List 
       → NoNet ns c.number
       → AreHosted many opens (nets_with n ns) cs ms → AreHosted many opens ns (c ∷ cs) ms
 
--- networks of these configurations, in their order, each with its first slots
+-- networks of these configurations, in their order, each ready with its first slots
 abbrev pub AreReady : ℕ → List (ℕ × ℕ) → List Config → List Net → Type 0
 AreReady many opens cs ns = AllZip (λ (c : Config) n. IsReady c many (slots_of c.number opens) n) cs ns
 

@@ -57,7 +57,7 @@ NewNetworksAgree = (R : Names) (i : ℕ) (one other : Config)
     → ((u : ℕ) → IsTrue (R u) → slices_of one.nodes u ≡ slices_of other.nodes u)
     → AgreeIn R i (new_net one) (new_net other)
 
--- and the closure of a run is closed for the network after each beginning of it
+-- the closure of a run is closed for the network after each beginning of it
 abbrev pub RunsStayClosedIn : Type 0
 RunsStayClosedIn = (config : Config) (run : List Entry) (i v n : ℕ) → IsRun config run
     → IsClosedIn (closure config.nodes i v run) i (state_of config (take n run))
@@ -81,7 +81,7 @@ OtherStepsLeave =
     → (net_step one e).1 ≡ Done os → kept_step R i e ≡ None
     → AgreeIn R i (net_step one e).0 other × ((u : ℕ) → IsTrue (R u) → given_by i u e os ≡ [])
 
--- and the set stays closed for the network
+-- a set that is closed for a network stays so after an applied step of which what is kept names members alone
 abbrev pub StaysClosedIn : Type 0
 StaysClosedIn = (R : Names) (i : ℕ) (net : Net) (e : Step) (os : List Out) → IsClosedIn R i net
     → (net_step net e).1 ≡ Done os → IfSome (kept_step R i e) (IsKeptOfMembers R)

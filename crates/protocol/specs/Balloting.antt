@@ -75,7 +75,7 @@ aborted_by (Some o) (Some p) a =
     if same_value o.value p.value then a else max a
     (if is_lt (bytes_cmp o.value p.value) then o.counter else o.counter + 1)
 
--- in COMMIT only ballots of the ballot's value count
+-- which ballots may be accepted or confirmed as prepared: in COMMIT those of the ballot's value alone
 abbrev pub may_be_prepared : Phase → List ℕ → Ballot → Bool
 may_be_prepared Committing x t = same_value t.value x
 may_be_prepared Preparing x t = true
@@ -119,7 +119,8 @@ abbrev pub unless_aborted : Votes → Option Ballot → Option Ballot
 unless_aborted w None = None
 unless_aborted w (Some c) = if is_aborted w c then None else Some c
 
--- where there is none, it becomes the ballot, once that is confirmed as prepared at its counter and is not aborted
+-- the ballot whose commit is voted for: where there is none, the ballot, once it is confirmed as prepared at its
+-- counter and not aborted
 abbrev pub or_confirmed_ballot : Votes → Option Ballot → Option Ballot → Option Ballot
 or_confirmed_ballot w None c = c
 or_confirmed_ballot w (Some b) None = if (high_counter w b == b.counter) && not (is_aborted w b) then Some b else None

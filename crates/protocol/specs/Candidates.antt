@@ -27,7 +27,7 @@ committed_by (Prepare b p a h c) = ballot_with c b.value ∷ ballot_with h b.val
 committed_by (Commit b p h c) = ballot_with c b.value ∷ ballot_with h b.value ∷ []
 committed_by (Externalize b h) = b ∷ ballot_with h b.value ∷ []
 
--- the counter is from 1 on
+-- the counter of the ballot is from 1 on
 abbrev pub has_positive_counter : Ballot → Bool
 has_positive_counter b = nat_lt 0 b.counter
 
@@ -39,11 +39,11 @@ named_in statements = filter has_positive_counter (flat_map named_by statements)
 abbrev pub committed_in : List Statement → List Ballot
 committed_in statements = filter has_positive_counter (flat_map committed_by statements)
 
--- named are the ballots in the ballot rows of reached senders and in the node's own position, and no others
+-- the candidates: ballots in the ballot rows of reached senders and in the node's own position, and no others
 unfoldable pub named_ballots : Seen → Votes → List Ballot
 named_ballots seen w = named_in (seen.rows Kind.Ballot ++ option_to_list (position w))
 
--- so are the commit counters
+-- the commit counters in the ballot rows of reached senders and in the node's own position, and no others
 unfoldable pub commits : Seen → Votes → List Ballot
 commits seen w = committed_in (seen.rows Kind.Ballot ++ option_to_list (position w))
 
@@ -72,7 +72,7 @@ unfoldable pub least_from : ℕ → ℕ → (ℕ → Bool) → ℕ
 least_from zero n test = n
 least_from (suc fuel) n test = if test n then n else least_from fuel (n + 1) test
 
--- the greatest of this value and those
+-- the greatest of a value and more values
 unfoldable pub greatest_value : List ℕ → List (List ℕ) → List ℕ
 greatest_value x [] = x
 greatest_value x (y ∷ ys) = greatest_value (if is_lt (bytes_cmp x y) then y else x) ys
@@ -83,12 +83,12 @@ combine [] = None
 combine (x ∷ xs) = Some (greatest_value x xs)
 
 -- ---- sets of values, ascending
--- a set with these values too
+-- an ascending set with more values too
 abbrev pub all_with : List (List ℕ) → List (List ℕ) → List (List ℕ)
 all_with [] xs = xs
 all_with (y ∷ ys) xs = with_value y (all_with ys xs)
 
--- these values as a set
+-- values as a set: ascending, none twice
 abbrev pub as_set : List (List ℕ) → List (List ℕ)
 as_set xs = all_with xs []
 

@@ -40,6 +40,6 @@ pub record IsLeastClosed (rules : List Rule) (v : ℕ) (set : Names) : Type 0 wh
 abbrev pub ClosuresAreLeast : Type 0
 ClosuresAreLeast = (rules : List Rule) (v : ℕ) → IsLeastClosed rules v (in_least rules v)
 
--- and its members are those names that are derived
+-- the members of the computed set are those names that are derived
 abbrev pub ClosuresAreDerived : Type 0
 ClosuresAreDerived = (rules : List Rule) (v u : ℕ) → IsTrue (in_least rules v u) ↔ Derived rules v u

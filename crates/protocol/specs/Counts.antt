@@ -55,6 +55,7 @@ pub record IsCountOf (config : Config) (xs : List Entry) (net : Net) : Type 0 wh
   pub share_bytes : (i : ℕ) (s : Share)
       → bytes_drawn i s net.draws ≡ bytes_in (drawing_entries config (is_of_share i s) (since_opened i xs))
 
+-- what a network counts after a run is what its journal says
 abbrev pub RunsAreCounted : Type 0
 RunsAreCounted = (config : Config) (xs : List Entry) → IsRun config xs → IsCountOf config xs (state_of config xs)
 
@@ -80,6 +81,7 @@ IsMet net s size ShareFull = (is_of_budgets s ≡ false) × IsUsedUp net s
 IsMet net s size ShareBytesFull = ExceedsShare net s size
 IsMet net s size _ = Unit {0}
 
+-- a step that is refused for want of room has met the limit of what it draws on
 abbrev pub RefusedWhereMet : Type 0
 RefusedWhereMet = (net : Net) (e : Step) (n : Refusal) → first_that (tests net e) ≡ Some n
     → IsMet net (source net.roster e) (size_of e) n
@@ -107,6 +109,7 @@ HasRoom net (NominationTimerFires i u r) = HasRoomForEvents net (source net.rost
 HasRoom net (BallotTimerFires i u n) = HasRoomForEvents net (source net.roster (BallotTimerFires i u n))
 HasRoom net (Reslices i u q) = HasRoomForEvents net (source net.roster (Reslices i u q))
 
+-- a step that no test refuses has room on what it draws on
 abbrev pub AppliedWhereRoom : Type 0
 AppliedWhereRoom = (net : Net) (e : Step) → first_that (tests net e) ≡ None → HasRoom net e
 
@@ -125,6 +128,7 @@ pub record IsCountedAfter (net : Net) (e : Step) (next : Net) : Type 0 where
       → bytes_drawn i s next.draws
       ≡ bytes_drawn i s net.draws + (if is_of_share i s (source net.roster e) then size_of e else 0)
 
+-- a step that is applied is counted on what it draws on, and nowhere else
 abbrev pub StepsAreCounted : Type 0
 StepsAreCounted = (net : Net) (e : Step) → first_that (tests net e) ≡ None → IsCountedAfter net e (net_step net e).0
 
@@ -139,6 +143,6 @@ pub record IsInRoom (config : Config) (net : Net) : Type 0 where
   pub share_bytes : (r : Roster) → config.roster ≡ Some r → (i : ℕ) (s : Share)
       → bytes_drawn i s net.draws ≤ r.shares.bytes
 
--- after any steps, refused ones too
+-- no more is drawn than there is, after any steps, refused ones too
 abbrev pub StaysInRoom : Type 0
 StaysInRoom = (config : Config) (xs : List Entry) → IsInRoom config (state_of config xs)

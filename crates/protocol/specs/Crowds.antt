@@ -59,7 +59,7 @@ abbrev pub CrowdsExist : Type 0
 CrowdsExist =
     (decode : List ℕ → Reading) (one other : History) (g i v : ℕ) → (c : Crowd) × IsCrowd decode one other g i v c
 
--- and only one
+-- every two submissions have only one answer
 abbrev pub CrowdsAreUnique : Type 0
 CrowdsAreUnique = (decode : List ℕ → Reading) (one other : History) (g i v : ℕ) (a b : Crowd)
     → IsCrowd decode one other g i v a → IsCrowd decode one other g i v b → a ≡ b

@@ -25,7 +25,7 @@ abbrev pub GreatestIsExact : Type 0
 GreatestIsExact =
     (best : Option Ballot) (ts : List Ballot) → IsGreatestIn (option_to_list best ++ ts) (greatest best ts)
 
--- and there is only one
+-- there is only one greatest of the candidates and of what is there
 abbrev pub GreatestIsUnique : Type 0
 GreatestIsUnique = (ts : List Ballot) (g h : Ballot) → IsGreatest ts g → IsGreatest ts h → g ≡ h
 
@@ -36,7 +36,7 @@ pub record IsLowest (test : ℕ → Bool) (x : List ℕ) (low : ℕ) (ts : List 
   pub from : (n ≡ low)
       ⊎ ((t : Ballot) × (IsIn t ts × ((same_value t.value x ≡ true) × ((test t.counter ≡ true) × (t.counter ≡ n)))))
 
--- what the rules call the lowest counter is that
+-- what the rules call the lowest counter is the lowest from which the test holds
 abbrev pub LowestIsExact : Type 0
 LowestIsExact =
     (test : ℕ → Bool) (x : List ℕ) (low : ℕ) (ts : List Ballot) → IsLowest test x low ts (lowest test x low ts)
@@ -48,6 +48,6 @@ pub record IsLeastFrom (test : ℕ → Bool) (fuel n found : ℕ) : Type 0 where
   pub passes : found < n + fuel → test found ≡ true
   pub first : (k : ℕ) → n ≤ k → k < found → test k ≡ false
 
--- what the rules call the least number is that
+-- what the rules call the least number is the least that passes the test
 abbrev pub LeastFromIsExact : Type 0
 LeastFromIsExact = (test : ℕ → Bool) (fuel n : ℕ) → IsLeastFrom test fuel n (least_from fuel n test)

@@ -10,6 +10,7 @@ use Rattle.types.specs.Statements.{Sent}
 use Rattle.protocol.specs.Newer.{is_newer, is_above}
 use Rattle.protocol.specs.Rows.{is_row_of}
 
+-- the statement is an EXTERNALIZE
 abbrev pub is_externalize : Statement → Bool
 is_externalize (Nominate voted accepted) = false
 is_externalize (Prepare ballot prepared aborted high commit) = false

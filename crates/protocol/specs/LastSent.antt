@@ -25,9 +25,9 @@ sent_as Kind.Ballot w = sent_vote w
 abbrev pub SendsItsLast : Instance → Type 0
 SendsItsLast p = (kind : Kind) → last_of kind p.emitted ≡ sent_as kind p.node.votes
 
--- so it is with each hosted node at each open slot, after any entries: what differs from the last one emitted is what
--- differs from the one that would have been sent before.
--- Statements are compared, not envelopes, since slices may change after the last one.
+-- Of each hosted node at each open slot, after any entries, what it emitted last of each kind is what it would send
+-- now: what differs from the last one emitted is what differs from the one that would have been sent before. Statements
+-- are compared, not envelopes, since slices may change after the last one.
 abbrev pub LastIsSent : Type 0
 LastIsSent = (config : Config) (before : List Entry)
     → AllByRecursion (λ s. AllByRecursion SendsItsLast s.instances) (state_of config before).slots

@@ -15,7 +15,7 @@ in_bytes (suc width) n = in_bytes width (n / 256) ++ (n % 256) ∷ []
 unfoldable pub preimage : ℕ → ℕ → ℕ → ℕ → List ℕ
 preimage slot tag round u = in_bytes 8 slot ++ in_bytes 1 tag ++ in_bytes 4 round ++ in_bytes 32 u
 
--- the first eight bytes of its SHA-256 digest, as a big-endian number
+-- the first eight bytes of the SHA-256 digest of slot, tag, round and name, as a big-endian number
 unfoldable pub hash : ℕ → ℕ → ℕ → ℕ → ℕ
 hash slot tag round u = from_be_bytes w64 (take 8 (sha256 (preimage slot tag round u)))
 
@@ -29,7 +29,7 @@ unfoldable pub neighbours : ℕ → ℕ → ℕ → Slices → List ℕ
 neighbours slot round own configured =
     own ∷ filter (λ u. is_near (weight configured u) (hash slot 1 round u)) (names configured)
 
--- the first beats the second: it has the greater second hash, or at a tie the greater name
+-- the first name beats the second: it has the greater second hash or, at a tie, is the greater name
 abbrev pub beats : ℕ → ℕ → ℕ → ℕ → Bool
 beats slot round u w =
     nat_lt (hash slot 2 round w) (hash slot 2 round u) || ((hash slot 2 round u == hash slot 2 round w) && nat_lt w u)
@@ -39,6 +39,6 @@ unfoldable pub best : (ℕ → ℕ → Bool) → ℕ → List ℕ → ℕ
 best beats u [] = u
 best beats u (w ∷ ws) = best beats (if beats w u then w else u) ws
 
--- the leader: the best of the neighbours
+-- the leader of a round: the best of the neighbours
 unfoldable pub leader : ℕ → ℕ → ℕ → Slices → ℕ
 leader slot round own configured = best (beats slot round) own (neighbours slot round own configured)

@@ -21,11 +21,11 @@ SettlesWithin passes =
     (n : Node) → ComesOfEvents n → (e : NodeEvent) (m : Node) → change n e ≡ Some m
     → IsTrue (is_some (settle passes (after_pass m) m.votes))
 
--- no event of such a node is undone by the limit
+-- no event of a node that events lead to is undone by the limit of passes
 abbrev pub NeverLimited : Type 0
 NeverLimited = SettlesWithin most_passes
 
--- four passes are enough
+-- four passes are enough after each event of a node that events lead to
 abbrev pub WithinFour : Type 0
 WithinFour = SettlesWithin 4
 
@@ -33,7 +33,7 @@ WithinFour = SettlesWithin 4
 abbrev pub AllComeOfEvents : List Slot → Type 0
 AllComeOfEvents slots = AllByRecursion (λ s. AllByRecursion (λ p. ComesOfEvents p.node) s.instances) slots
 
--- after any entries, of whatever configuration
+-- after any entries, events led to each node of each open slot, of whatever configuration
 abbrev pub RunsComeOfEvents : Type 0
 RunsComeOfEvents = (config : Config) (before : List Entry) → AllComeOfEvents (state_of config before).slots
 
@@ -41,11 +41,11 @@ RunsComeOfEvents = (config : Config) (before : List Entry) → AllComeOfEvents (
 abbrev pub NodesAreCalm : Type 0
 NodesAreCalm = (n : Node) → ComesOfEvents n → Calm n
 
--- of such a node no more ballot timers have fired than its ballot's counter says
+-- of a node that events lead to no more ballot timers have fired than its ballot's counter says
 abbrev pub TimersAreCounted : Type 0
 TimersAreCounted = (n : Node) → ComesOfEvents n → n.inputs.ballot_timeouts ≤ counter_of n.votes.ballot
 
--- the nomination and the ballot statement that such a node sends are well formed
+-- the nomination and the ballot statement that a node sends to which events lead are well formed
 abbrev pub SendsWellFormed : Type 0
 SendsWellFormed =
     (n : Node) → ComesOfEvents n → IfSome (sent_nomination n.votes) IsWellFormed

@@ -82,6 +82,7 @@ pub record Net : Type 0 where
   pub draws : List Draw
 
 -- ---- looking up
+-- the slices of a hosted node, by its name
 abbrev pub slices_of : List HostedNode → ℕ → Option Slices
 slices_of [] u = None
 slices_of (h ∷ hs) u = if h.name == u then Some h.slices else slices_of hs u
@@ -96,7 +97,7 @@ abbrev pub node_named : List Instance → ℕ → Option Instance
 node_named [] u = None
 node_named (p ∷ ps) u = if p.node.name == u then Some p else node_named ps u
 
--- the node of a name, where the slot is open
+-- the node of a name at a slot, where the slot is open
 abbrev pub node_where_open : Option (List Instance) → ℕ → Option Instance
 node_where_open None u = None
 node_where_open (Some ps) u = node_named ps u
@@ -119,11 +120,11 @@ emission (Some p) kind zero = None
 emission (Some p) kind (suc k) = slice_get (filter (λ e. is_kind kind (kind_of e.body)) p.emitted) k
 
 -- ---- what an event does
--- the node's step
+-- a node at a slot after its step on an event, with what that emits
 unfoldable pub after_event : NodeEvent → Instance → Instance
 after_event e p = record { node = (step p.node e).0; emitted = p.emitted ++ emissions (step p.node e).1 }
 
--- what the node's step gives out
+-- what the step of a node at a slot gives out
 abbrev pub outs_at : NodeEvent → Option Instance → List Out
 outs_at e None = []
 outs_at e (Some p) = (step p.node e).1
@@ -191,7 +192,7 @@ source_by r (NominationTimerFires i u n) = share_or_budgets r i (Own u)
 source_by r (BallotTimerFires i u n) = share_or_budgets r i (Own u)
 source_by r (Reslices i u q) = share_or_budgets r i (Own u)
 
--- without a roster, all on the budgets
+-- what a step draws on: without a roster the budgets, with one by the roster
 abbrev pub source : Option Roster → Step → Source
 source None e = OfBudgets
 source (Some r) e = source_by r e
@@ -271,6 +272,7 @@ first_that [] = None
 first_that (t ∷ ts) = if t.0 then Some t.1 else first_that ts
 
 -- ---- a step of a network
+-- what a step is answered: done, with what it gives out, or refused
 pub data Reply : Type 0 where
   Done : List Out → Reply
   Refused : Refusal → Reply

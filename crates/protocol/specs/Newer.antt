@@ -35,10 +35,11 @@ rank_cmp =
     (then_cmp (on (λ r. r.ballot) ballot_cmp)
     (then_cmp (on (λ r. r.prepared) (option_cmp ballot_cmp)) (on (λ r. r.counters) (slice_cmp nat_cmp))))
 
+-- the order of ballot statements: by phase, then by their fields in message order
 abbrev pub statement_cmp : Statement → Statement → Ordering
 statement_cmp = on rank_of (option_cmp rank_cmp)
 
--- a ballot statement comes after another one in that order
+-- a ballot statement comes after another one in the order of ballot statements
 abbrev pub is_above : Statement → Statement → Bool
 is_above s t = is_gt (statement_cmp s t)
 
@@ -47,7 +48,7 @@ is_above s t = is_gt (statement_cmp s t)
 abbrev pub has_all : List (List ℕ) → List (List ℕ) → Bool
 has_all those these = list_all (λ x. has_value those x) these
 
--- a nomination that has all of these voted and accepted values, and one more
+-- a nomination has all of these voted and accepted values, and one more
 abbrev pub widens : Statement → List (List ℕ) → List (List ℕ) → Bool
 widens (Nominate voted accepted) old_voted old_accepted =
     has_all voted old_voted

@@ -52,11 +52,12 @@ unfoldable pub settle : ℕ → (Votes → Votes) → Votes → Option Votes
 settle zero f w = None
 settle (suc n) f w = if same_votes (f w) w then Some w else settle n f (f w)
 
--- so many passes are tried after an event
+-- how many passes are tried after an event
 abbrev pub most_passes : ℕ
 most_passes = 64
 
 -- ---- the event's own change
+-- the phase is EXTERNALIZE
 abbrev pub is_externalized : Phase → Bool
 is_externalized Preparing = false
 is_externalized Committing = false
@@ -96,7 +97,7 @@ with_timeout n = record n {
 abbrev pub with_slices : Node → Slices → Node
 with_slices n q = record n { slices = q }
 
--- none for a stale envelope, and for a timer that is not live
+-- an event's own change: none for a stale envelope, and for a timer that is not live
 unfoldable pub change : Node → NodeEvent → Option Node
 change n (Propose x) = Some (with_proposal n x)
 change n (Take e) = if is_taken n.table e then Some (record n { table = with_row e n.table }) else None
@@ -105,6 +106,7 @@ change n (BallotTimer c) = if is_counter_live n c then Some (with_timeout n) els
 change n (Reslice q) = Some (with_slices n q)
 
 -- ---- what is given out
+-- this is given out where the test holds, and else nothing
 abbrev pub when : Bool → Out → List Out
 when true o = o ∷ []
 when false o = []
@@ -121,7 +123,7 @@ abbrev pub externalization : Option Ballot → List Out
 externalization None = []
 externalization (Some b) = Decided b.value ∷ []
 
--- from the node before the event and the node after it, in order
+-- what a node gives out, in order, from the node before the event and the node after it
 unfoldable pub outs : Node → Node → List Out
 outs old new =
     when (not (new.inputs.round == old.inputs.round) && is_none new.votes.confirmed_prepared) (ArmNomination new.inputs.round)
@@ -151,6 +153,6 @@ node_and_outs old (Some new) = (new, outs old new)
 unfoldable pub step : Node → NodeEvent → Node × List Out
 step n e = node_and_outs n (after_change (change n e))
 
--- one more pass would change nothing
+-- a node is calm: one more pass would change nothing
 abbrev pub Calm : Node → Type 0
 Calm n = after_pass n n.votes ≡ n.votes

@@ -9,7 +9,7 @@ use Rattle.types.specs.declared.state.Votes.{Votes}
 use Rattle.protocol.specs.States.{nomination_position}
 use Rattle.protocol.specs.Candidates.{values_by, all_with, with_up_to_sixteen}
 
--- what a leader proposes counts for itself too
+-- the node's own proposal: what a leader proposes counts for itself too
 abbrev pub own_proposal : ℕ → Inputs → List (List ℕ)
 own_proposal own g = if among g.leaders own then option_to_list g.proposal else []
 

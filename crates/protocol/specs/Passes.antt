@@ -23,12 +23,12 @@ has_counter n (Prepare b p a h c) = nat_le n b.counter
 has_counter n (Commit b p h c) = nat_le n b.counter
 has_counter n (Externalize b h) = true
 
--- the value of a ballot, else that one
+-- the value of a ballot, if there is one, else that value
 abbrev pub value_or : Option Ballot → List ℕ → List ℕ
 value_or None x = x
 value_or (Some b) x = b.value
 
--- a value that is known, else that one
+-- a value that is known, else that value
 abbrev pub known_or : Option (List ℕ) → List ℕ → List ℕ
 known_or None x = x
 known_or (Some y) x = y
@@ -51,7 +51,7 @@ counter_after_raise seen g b w =
     least_from (cap g.ballot_timeouts - b.counter) b.counter
     (λ n. not (seen.blocking Kind.Ballot (passes (has_counter (n + 1)) (position w)) (has_counter (n + 1))))
 
--- Raise: the ballot goes to that counter.
+-- Raise: the ballot goes to the counter at which those with greater counters do not block, at most to the cap.
 unfoldable pub raise : Seen → Inputs → Ballot → Votes → Votes
 raise seen g b w = record w { ballot = Some (ballot_at_counter w b (counter_after_raise seen g b w)) }
 
@@ -67,7 +67,7 @@ abbrev pub with_ballot : (Ballot → Votes → Votes) → Votes → Option Ballo
 with_ballot f w None = w
 with_ballot f w (Some b) = f b w
 
--- it changes nothing where there is no ballot
+-- a rule of the ballot: it changes nothing where there is no ballot
 abbrev pub on_ballot : (Ballot → Votes → Votes) → Votes → Votes
 on_ballot f w = with_ballot f w w.ballot
 
@@ -83,7 +83,7 @@ while_open Preparing f w = f w
 while_open Committing f w = f w
 while_open Externalized f w = w
 
--- by the phase in which the rule begins
+-- a rule of PREPARE alone, by the phase in which the rule begins
 abbrev pub in_prepare : (Votes → Votes) → Votes → Votes
 in_prepare f w = while_preparing w.phase f w
 
@@ -111,7 +111,7 @@ balloting seen g w = unless_over (counting seen g) (voting seen (start seen w))
 unfoldable pub pass_rules : ℕ → Seen → Inputs → Votes → Votes
 pass_rules own seen g w = balloting seen g (nominate own seen g w)
 
--- One pass. After EXTERNALIZE none changes anything.
+-- One pass of the rules. After EXTERNALIZE none changes anything.
 unfoldable pub pass : ℕ → Seen → Inputs → Votes → Votes
 pass own seen g w = unless_over (pass_rules own seen g) w
 

@@ -66,10 +66,10 @@ CutsAreQuorums {Q} satisfies names = (slices_at : ℕ → Option Q) (set region 
     → HoldsNamesOf names slices_at (cut_to region set) region
     → (u : ℕ) → IsTrue (cut_to region set u) → Quorum satisfies slices_at (cut_to region set)
 
--- so it is for slices of any kind whose answers lie in the names that they have
+-- a quorum cut to a set that has its members' names is a quorum or empty, for slices of any kind that are local
 abbrev pub LocalCutsAreQuorums : Type 0 → Type 0
 LocalCutsAreQuorums Q = (satisfies : Q → Names → Bool) (names : Q → List ℕ) → IsLocal satisfies names → CutsAreQuorums satisfies names
 
--- and for nested slices
+-- a quorum cut to a set that has all names of its members' slices is a quorum or empty, for nested slices
 abbrev pub NestedCutsAreQuorums : Type 0
 NestedCutsAreQuorums = CutsAreQuorums sat names

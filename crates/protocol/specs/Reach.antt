@@ -52,7 +52,7 @@ pub record IsLeastReach (own : ℕ) (configured : Slices) (table : List Sent) (s
   pub holds : HoldsReach own configured table set
   pub least : (other : Names) → HoldsReach own configured table other → AreWithin set other
 
--- the reach is the least such set
+-- the reach is the least set that contains the node and keeps what its members' slices name
 abbrev pub ReachIsLeast : Type 0
 ReachIsLeast = (own : ℕ) (configured : Slices) (table : List Sent)
     → IsLeastReach own configured table (reach_of own configured table)

@@ -34,7 +34,7 @@ pub record IsElseSame (old new : Node) : Type 0 where
 abbrev pub ReslicesChangeVotes : Type 0
 ReslicesChangeVotes = (n : Node) (q : Slices) → IsElseSame n (step n (Reslice q)).0
 
--- the slices that it has already change nothing of a node that events lead to, and it gives nothing out
+-- slices that a node has already change nothing of it, and it gives nothing out
 abbrev pub SameSlicesAreQuiet : Type 0
 SameSlicesAreQuiet = (n : Node) → ComesOfEvents n → step n (Reslice n.slices) ≡ (n, [])
 
@@ -60,7 +60,7 @@ slices_since i u configured now (x ∷ xs) = slices_since i u configured (slices
 abbrev pub slices_at_end : ℕ → ℕ → Slices → List Entry → Slices
 slices_at_end i u configured run = slices_since i u configured configured run
 
--- they are the slices of the node in the state that the run leads to, wherever the slot is open there
+-- the slices of a hosted node at a slot by the run alone are those in the state that the run leads to
 abbrev pub SlicesFollowRuns : Type 0
 SlicesFollowRuns = (config : Config) (run : List Entry) (i u : ℕ) (configured : Slices) (p : Instance) → IsRun config run
     → slices_of config.nodes u ≡ Some configured

@@ -6,6 +6,7 @@ use Rattle.types.specs.declared.kind.Kind.TheVariants.{Nomination}
 use Rattle.types.specs.Statements.{Sent, kind_of}
 use Rattle.protocol.specs.Newer.{is_newer}
 
+-- two kinds are the same, as a test
 abbrev pub is_kind : Kind → Kind → Bool
 is_kind Nomination Nomination = true
 is_kind Nomination Kind.Ballot = false
@@ -21,7 +22,7 @@ abbrev pub has_single_rows : List Sent → Bool
 has_single_rows [] = true
 has_single_rows (e ∷ es) = list_all (λ x. not (is_row_of e.sender (kind_of e.body) x)) es && has_single_rows es
 
--- the sender's row of a kind
+-- the sender's row of a kind in a table
 unfoldable pub row : List Sent → ℕ → Kind → Option Sent
 row table u k = find (is_row_of u k) table
 

@@ -34,7 +34,7 @@ pub record IsRun (config : Config) (entries : List Entry) : Type 0 where
 abbrev pub JournalsAreRuns : Type 0
 JournalsAreRuns = (config : Config) (events : List Step) → IsRun config (journal (new_net config) events)
 
--- and a run is the journal of its own events
+-- a run is the journal of its own events
 abbrev pub RunsAreJournals : Type 0
 RunsAreJournals = (config : Config) (entries : List Entry) → IsRun config entries
     → entries ≡ journal (new_net config) (map (λ x. x.event) entries)

@@ -28,6 +28,7 @@ no_votes = record {
 }
 
 -- ---- ballots
+-- a ballot is below another one: by counter, then by value
 abbrev pub below : Ballot → Ballot → Bool
 below a b = is_lt (ballot_cmp a b)
 
@@ -56,7 +57,7 @@ abbrev pub counter_for : Ballot → Option Ballot → ℕ
 counter_for b None = 0
 counter_for b (Some h) = if same_value h.value b.value then h.counter else 0
 
--- the high counter of the ballot
+-- the high counter of the ballot, as it is sent
 unfoldable pub high_counter : Votes → Ballot → ℕ
 high_counter w b = counter_for b w.confirmed_prepared
 
@@ -66,7 +67,7 @@ abbrev pub counter_up_to : ℕ → Ballot → Option Ballot → ℕ
 counter_up_to most b None = 0
 counter_up_to most b (Some c) = if same_value c.value b.value && nat_le c.counter most then c.counter else 0
 
--- the commit counter of the ballot: 0 where commit is not voted for
+-- the commit counter of the ballot, as it is sent: 0 where commit is not voted for
 unfoldable pub commit_counter : Votes → Ballot → ℕ
 commit_counter w b = counter_up_to (high_counter w b) b w.commit
 
@@ -76,11 +77,11 @@ position_in Preparing w b = Prepare b w.prepared w.aborted (high_counter w b) (c
 position_in Committing w b = Commit b (counter_of w.prepared) w.high w.low
 position_in Externalized w b = Externalize (ballot_with w.low b.value) w.high
 
--- a node without a ballot has no position
+-- the position in balloting: the statement that the node's tests take; none without a ballot
 unfoldable pub position : Votes → Option Statement
 position w = option_map (position_in w.phase w) w.ballot
 
--- the position in nomination
+-- the position in nomination: the node's own nomination, as its tests take it
 unfoldable pub nomination_position : Votes → Option Statement
 nomination_position w = Some (Nominate w.voted w.accepts)
 
@@ -101,11 +102,11 @@ sent_in Preparing w b =
 sent_in Committing w b = Commit b (counter_of w.prepared) w.high w.low
 sent_in Externalized w b = Externalize (ballot_with w.low b.value) w.high
 
--- nothing is sent without a ballot
+-- the ballot statement that is sent: none without a ballot
 unfoldable pub sent_vote : Votes → Option Statement
 sent_vote w = option_map (sent_in w.phase w) w.ballot
 
--- a nomination is sent as soon as one of its sets is not empty
+-- the nomination that is sent, as soon as one of its sets is not empty
 unfoldable pub sent_nomination : Votes → Option Statement
 sent_nomination w =
     if nat_lt 0 (length w.voted) || nat_lt 0 (length w.accepts) then Some (Nominate w.voted w.accepts) else None

@@ -20,8 +20,7 @@ use Rattle.protocol.specs.Views.{Seen, seen}
 abbrev pub ReachesSame : ℕ → Slices → List Sent → List Sent → Type 0
 ReachesSame own configured old new = (u : ℕ) → reach_of own configured new u ≡ reach_of own configured old u
 
--- the votes after a first pass that made these of those: where it changed something, balloting alone goes on until it
--- changes nothing
+-- the votes after a first pass that made these of those: where it changed something, balloting alone goes on
 unfoldable pub settle_after : Seen → Inputs → Votes → Votes → Option Votes
 settle_after seen g before after = if same_votes after before then Some after else settle 63 (balloted_in seen g) after
 
@@ -33,7 +32,7 @@ settle_all own seen g w = settle_after seen g w (pass own seen g w)
 unfoldable pub settle_ballots : Seen → Inputs → Votes → Option Votes
 settle_ballots seen g w = settle_after seen g w (balloted_in seen g w)
 
--- balloting only where nomination confirms a value
+-- the votes after passes in which balloting follows only where nomination confirms a value
 unfoldable pub settle_nominations : ℕ → Seen → Inputs → Votes → Option Votes
 settle_nominations own seen g w =
     let nominated = nominated_in own seen g w in

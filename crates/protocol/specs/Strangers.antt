@@ -31,7 +31,8 @@ pub data HasNamed (R : Names) : Node → Type 0 where
 abbrev pub LeadersAreNear : Type 0
 LeadersAreNear = (R : Names) (n : Node) → HasNamed R n → IsTrue (within n.inputs.leaders R)
 
--- such a set, with the names that the rows of senders in the set give, is closed for the node
+-- a set with a node and the names of all slices that it has had, and with what the rows of senders in the set name, is
+-- closed for it
 abbrev pub HeldIsClosed : Type 0
 HeldIsClosed = (R : Names) (n : Node) → HasNamed R n → HoldsReach n.name n.slices n.table R → IsClosedFor R n
 
@@ -43,14 +44,15 @@ OutsidersAddRows = (R : Names) (n : Node) (e : Sent) → ComesOfEvents n → Hol
     → IsFalse (R e.sender) → IsFalse (among n.inputs.leaders e.sender) → IsTrue (is_taken n.table e)
     → step n (Take e) ≡ (record n { table = with_row e n.table }, [])
 
--- taken or stale, such an envelope makes the node give nothing out, and changes nothing of it but rows of senders
--- outside the set
+-- An envelope from outside a set that has a node and whom it reaches, and not from a leader, makes the node give
+-- nothing out, taken or stale, and changes nothing of it but rows of senders outside the set.
 abbrev pub OutsidersAreQuiet : Type 0
 OutsidersAreQuiet = (R : Names) (n : Node) (e : Sent) → ComesOfEvents n → HoldsReach n.name n.slices n.table R
     → IsFalse (R e.sender) → IsFalse (among n.inputs.leaders e.sender)
     → IsQuiet R n (step n (Take e)).0 (step n (Take e)).1
 
--- and so it is where the node does not reach the sender, and the sender is no leader of its
+-- an envelope of a sender that the node does not reach, and that is no leader of its, adds its row, and nothing else
+-- happens
 abbrev pub StrangersAddRows : Type 0
 StrangersAddRows = (n : Node) (reach : List ℕ) (e : Sent) → ComesOfEvents n → IsReach n.name n.slices n.table reach
     → IsFalse (among reach e.sender) → IsFalse (among n.inputs.leaders e.sender) → IsTrue (is_taken n.table e)

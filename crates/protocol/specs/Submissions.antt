@@ -52,7 +52,7 @@ concerning_answers R i xs = filter (λ x. concerns R i x.step) xs
 abbrev pub concerning_steps : Names → ℕ → List Answer → List Step
 concerning_steps R i xs = map (λ x. x.step) (concerning_answers R i xs)
 
--- and their replies
+-- the replies to the submitted steps that concern a set at a slot
 abbrev pub replied_to : Names → ℕ → List Answer → List Reply
 replied_to R i xs = map (λ x. x.reply) (concerning_answers R i xs)
 
@@ -68,7 +68,7 @@ SameRoster (Some one) (Some other) = ((u : ℕ) → among one.names u ≡ among 
 SameRoster (Some one) None = ⊥
 SameRoster None other = ⊥
 
--- the same roster, and equal budgets of open slots
+-- both networks have the same roster with equal shares, and equal budgets of open slots
 abbrev pub SameReserves : Option Config → Option Config → Type 0
 SameReserves (Some one) (Some other) = SameRoster one.roster other.roster × (one.budgets.slots ≡ other.budgets.slots)
 SameReserves (Some one) None = ⊥
@@ -102,7 +102,8 @@ MembersAreNeverCrowdedOut = (decode : List ℕ → Reading) (one other : History
     × ((u : ℕ) → IsTrue (R u) → IsTrue (is_some (slices_of (nodes_of one.configs g) u))
     → outs_of i u (entries decode one g) ≡ outs_of i u (entries decode other g))
 
--- The same of two networks, each of its own configuration, to which these steps are submitted.
+-- Members are never crowded out of two networks either, each of its own configuration, whatever is submitted to each of
+-- them.
 abbrev pub MembersOfRunsAreNeverCrowdedOut : Type 0
 MembersOfRunsAreNeverCrowdedOut = (one other : Config) (es fs : List Step) (i v : ℕ) →
     let R = closure one.nodes i v (journal (new_net one) es) in
@@ -129,7 +130,7 @@ without_size (NominationTimerFires j u r) = NominationTimerFires j u r
 without_size (BallotTimerFires j u n) = BallotTimerFires j u n
 without_size (Reslices j u q) = Reslices j u q
 
--- then submitted steps that are the same but for lengths are the same
+-- where all spellings of an envelope have one length, submitted steps that are the same but for lengths are the same
 abbrev pub LengthsFollow : Type 0
 LengthsFollow = (decode : List ℕ → Reading) → HasOneLength decode → (one other : History) (g i : ℕ) (R : Names)
     → map without_size (concerning_steps R i (answers decode one g))

@@ -47,12 +47,12 @@ IsVerdict one other runs others i v (Same list) =
     SameCast R v one other
     × ((kept_of R i runs ≡ kept_of R i others) × (IsListOf R one i runs list × IsListOf R one i others list))
 
--- the verdict is determined
+-- two runs have only one right verdict
 abbrev pub VerdictsAreUnique : Type 0
 VerdictsAreUnique = (one other : List HostedNode) (runs others : List Entry) (i v : ℕ) (a b : Verdict)
     → IsVerdict one other runs others i v a → IsVerdict one other runs others i v b → a ≡ b
 
--- and every two runs have one
+-- every two runs have a right verdict
 abbrev pub VerdictsExist : Type 0
 VerdictsExist = (one other : Config) (runs others : List Entry) (i v : ℕ) → IsRun one runs → IsRun other others
     → (verdict : Verdict) × IsVerdict one.nodes other.nodes runs others i v verdict

@@ -12,7 +12,7 @@ use Rattle.protocol.specs.Rows.{row, is_kind}
 use Rattle.protocol.specs.Backing.{slices_by, passing_senders}
 use Rattle.protocol.specs.Reach.{reach_of}
 
--- all that the rules read of a table; each of the two tests is told whether the node's own position passes
+-- all that the rules read of a table; its two federated tests are told whether the node's own position passes
 pub record Seen : Type 0 where
   -- the statements in the rows of the others that are reached
   pub rows : Kind → List Statement
@@ -52,7 +52,7 @@ unfoldable pub blocking_passes : ℕ → Slices → List Sent → Kind → Bool 
 blocking_passes own configured table kind own_passes test =
     is_blocked configured (passing_with own table kind own_passes test)
 
--- what a node with these leaders sees
+-- what a node with these leaders sees of its table
 unfoldable pub seen : ℕ → Slices → List ℕ → List Sent → Seen
 seen own configured leaders table = record {
   rows = rows_seen own configured table;
@@ -61,7 +61,7 @@ seen own configured leaders table = record {
   blocking = blocking_passes own configured table;
 }
 
--- whether a position passes; a node without one supports nothing
+-- whether a position passes a test; a node without one supports nothing
 abbrev pub passes : (Statement → Bool) → Option Statement → Bool
 passes test None = false
 passes test (Some s) = test s
@@ -71,6 +71,6 @@ abbrev pub accepted : Seen → Kind → Option Statement → (Statement → Bool
 accepted seen kind position backs accepts =
     seen.quorum kind (passes backs position) backs || seen.blocking kind (passes accepts position) accepts
 
--- confirmed: a quorum accepts it
+-- confirmed: some quorum that contains the node all accepts it
 abbrev pub confirmed : Seen → Kind → Option Statement → (Statement → Bool) → Bool
 confirmed seen kind position accepts = seen.quorum kind (passes accepts position) accepts

@@ -32,6 +32,6 @@ share sets =
       denominator = product (map (λ s. member_count s.members) sets);
     }
 
--- the weight of a name: its share, where the tree has it
+-- the weight of a name in slices: its share, the product of threshold by count, where the tree has it
 abbrev pub weight : Slices → ℕ → Option Fraction
 weight q u = if among (names q) u then Some (share (sets_around q u)) else None

@@ -51,7 +51,7 @@ replied_without net e None = (counted_without e (effect net e).0, Done (effect n
 abbrev pub step_without : Net → Step → Net × Reply
 step_without net e = replied_without net e (first_that (tests_without net e))
 
--- a network without a roster steps by these rules
+-- a network without a roster steps by the rules without shares
 abbrev pub StepsWithout : Type 0
 StepsWithout = (net : Net) (e : Step) → net.roster ≡ None → net_step net e ≡ step_without net e
 
@@ -61,5 +61,6 @@ pub record HasNoShares (net : Net) : Type 0 where
   pub opens : net.opens ≡ 0
   pub draws : net.draws ≡ []
 
+-- a network without a roster never has shares
 abbrev pub StaysWithout : Type 0
 StaysWithout = (config : Config) (before : List Entry) → config.roster ≡ None → HasNoShares (state_of config before)

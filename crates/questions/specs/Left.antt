@@ -7,7 +7,7 @@ use Rattle.requests.specs.Outlines.{Outlined}
 use Rattle.scripts.specs.Script.{Bytes}
 use Rattle.questions.specs.declared.left.Left.{Left}
 
--- what is configured, less what is used up; no openings and closings, where there is no roster
+-- what is left of budgets: what is configured, less what is used up; no openings and closings, where there is no roster
 abbrev pub left_of : Config → Used → Left
 left_of c used = record {
   events = c.budgets.events - used.events;
@@ -16,7 +16,7 @@ left_of c used = record {
   opens = option_map (λ r. r.shares.opens - used.opens) c.roster;
 }
 
--- all that has been declared
+-- what is left of the budgets of a network that waits: all that has been declared
 abbrev pub all_left : Outlined → Left
 all_left d = record {
   events = d.budgets.events;
@@ -25,7 +25,7 @@ all_left d = record {
   opens = option_map (λ r. r.1.opens) d.roster;
 }
 
--- a number, or `-` (45) where there is none
+-- a number of openings and closings, or `-` (45) where there is none
 abbrev pub text_of_opens : Option ℕ → Bytes
 text_of_opens None = 45 ∷ []
 text_of_opens (Some n) = decimal n

@@ -99,6 +99,6 @@ known_lines front n = state_line front n ++ (value_lines front n.votes ++ row_li
 abbrev pub lines_of : Bytes → Node → List ℕ → Bytes
 lines_of front n us = known_lines front n ++ silent_line front us
 
--- these are the lines, for the line of a number, of a node at a slot of a network
+-- these are the lines that show a node at a slot of a network, for the line of a number
 abbrev pub Shows : ℕ → ℕ → ℕ → Node → Bytes → Type 0
 Shows line g i n lines = (us : List ℕ) × AreSilent n us × (lines ≡ lines_of (front_of line g i n.name) n us)

@@ -12,7 +12,7 @@ pub data KeepsReach (reach : List ℕ) (table : List Sent) (e : Sent) : Type 0 w
   same_slices : option_map (λ r. r.slices) (row table e.sender (kind_of e.body)) ≡ Some e.slices
       → KeepsReach reach table e
 
--- the names in the envelope's slices, the node itself and the names of its configured slices
+-- the names in an envelope's slices, the node itself, and the names of its configured slices
 abbrev pub kept_names : ℕ → Slices → Sent → Names
 kept_names own configured e u = among (names e.slices) u || also own (among (names configured)) u
 

@@ -29,7 +29,7 @@ has_mark [] bs u = false
 has_mark (x ∷ xs) [] u = false
 has_mark (x ∷ xs) (b ∷ bs) u = (b && x == u) || has_mark xs bs u
 
--- as a list
+-- the nodes at the places that have a mark, as a list
 abbrev pub with_marks : List ℕ → List Bool → List ℕ
 with_marks [] bs = []
 with_marks (x ∷ xs) [] = []
@@ -44,10 +44,11 @@ count_unmarked (b ∷ bs) = (if b then 0 else 1) + count_unmarked bs
 abbrev pub at_places : List ℕ → List ℕ → Names
 at_places nodes places u = among (map (λ i. get_or nodes i 0) places) u
 
--- what a search has found, what of it is pending, and what of it is done
+-- the nodes that a search has found
 abbrev pub found_in : Search → Names
 found_in s u = has_mark s.known.nodes.now s.marks.items u || among s.others.found u
 
+-- the nodes that a search has found and whose rows it has not looked at
 abbrev pub pending_in : Search → Names
 pending_in s u = at_places s.known.nodes.now s.places.items u || among s.others.pending u
 
@@ -64,10 +65,11 @@ pub record IsSearchOf (k : KnownNodes) (marks : List Bool) (pending : List ℕ) 
   pub apart : AreApart (among others.found) (among k.nodes.now)
   pub within : AreWithin (among others.pending) (among others.found)
 
+-- a search is sound: a mark or none for each known node, none of which is among the others, and pending ones are found
 abbrev pub IsSearch : Search → Type 0
 IsSearch s = IsSearchOf s.known s.marks.items s.places.items s.others
 
--- a set was found: what was not found before is pending
+-- a search has found a set: what of it was not found before is pending
 pub record Finds (old new : Search) (set : Names) : Type 0 where
   pub known : new.known ≡ old.known
   pub search : IsSearch new
@@ -96,13 +98,13 @@ pub record AreRowsOf (table : List Sent) (u : ℕ) (rows : SenderRows) : Type 0 
   pub nomination : option_map (λ r. r.now) rows.nomination ≡ row table u Nomination
   pub ballot : option_map (λ r. r.now) rows.ballot ≡ row table u Kind.Ballot
 
--- a pending node was taken, with its rows
+-- a search took a pending node, with its rows
 pub record IsTakenWith (table : List Sent) (old new : Search) (rows : SenderRows) : Type 0 where
   pub node : ℕ
   pub taken : IsTakenFrom old new node
   pub theirs : AreRowsOf table node rows
 
--- nothing is pending, and what was found stays
+-- a search is over: nothing is pending, and what was found stays
 pub record IsOver (old new : Search) : Type 0 where
   pub over : (u : ℕ) → pending_in old u ≡ false
   pub search : IsSearch new

@@ -20,7 +20,7 @@ abbrev pub asked_by_event : ℕ → Event → Option (ℕ × Ask)
 asked_by_event g (Hear i u from kind k) = None
 asked_by_event g e = Some (g, ask.Serve e)
 
--- what the request of a line of scripts asks of the network of a number
+-- what a line of scripts asks of a live host: all that its request is, but for hearings and slots that settle
 abbrev pub asked_by : ℕ × Request → Option (ℕ × Ask)
 asked_by (g, request.Declare d) = Some (g, ask.Declare d)
 asked_by (g, request.Apply e) = asked_by_event g e
@@ -30,7 +30,7 @@ abbrev pub for_all_by_event : ℕ → Event → Option (ℕ × Ask)
 for_all_by_event g (Deliver u bytes) = Some (g, ask.ForAll bytes)
 for_all_by_event g e = None
 
--- what is delivered to one node, for all nodes
+-- what a delivery to one node asks for, with the bytes for all nodes
 abbrev pub for_all_by : ℕ × Request → Option (ℕ × Ask)
 for_all_by (g, request.Declare d) = None
 for_all_by (g, request.Apply e) = for_all_by_event g e
@@ -40,38 +40,39 @@ for_all_by (g, request.Settle i) = None
 abbrev pub IsOfScript : (ℕ × Request → Option (ℕ × Ask)) → List Bytes → Option (ℕ × Ask) → Type 0
 IsOfScript by fields asked = (r : Option (ℕ × Request)) × IsRequested fields r × (asked ≡ option_and_then by r)
 
+-- what a line asks for without its last word, where that is `served`; any other asks for nothing
 abbrev pub IsServedNet : Bool → List Bytes → Option (ℕ × Ask) → Type 0
 IsServedNet true before asked = IsOfScript asked_by before asked
 IsServedNet false before asked = asked ≡ None
 
--- `net N events E bytes B slots S served`: what the line asks for without its last word
+-- the line `net N events E bytes B slots S served` asks for what it does without its last word
 abbrev pub IsNet : List Bytes → Option (ℕ × Ask) → Type 0
 IsNet fields asked =
     ((fields ≡ []) × (asked ≡ None))
     ⊎ ((before : List Bytes) × (last : Bytes) × (fields ≡ before ++ last ∷ [])
     × IsServedNet (is_word last (codes "served")) before asked)
 
--- `deliver N * HEX`, `say N * FROM I SLICES STATEMENT`: what the line delivers to a node of some name
+-- the line `deliver N * HEX` or `say N * FROM I SLICES STATEMENT` asks for all nodes what it asks for one of any name
 abbrev pub IsForAll : List Bytes → Option (ℕ × Ask) → Type 0
 IsForAll (w ∷ g ∷ star ∷ more) asked = IsOfScript for_all_by (w ∷ g ∷ codes "A" ∷ more) asked
 IsForAll fields asked = asked ≡ None
 
--- `drop N`
+-- the line `drop N` asks that the network is taken back
 abbrev pub dropped_in : List Bytes → Option (ℕ × Ask)
 dropped_in (w ∷ number ∷ []) = option_map (λ g. (g, ask.Drop)) (word_counter number)
 dropped_in fields = None
 
--- `left N`
+-- the line `left N` asks what is left of the budgets
 abbrev pub left_in : List Bytes → Option (ℕ × Ask)
 left_in (w ∷ number ∷ []) = option_map (λ g. (g, ask.Left)) (word_counter number)
 left_in fields = None
 
--- the node of these words at their slot
+-- what is asked of the node and the slot that two words spell
 abbrev pub shown_of : ℕ → Bytes → Bytes → Option (ℕ × Ask)
 shown_of g slot node =
     option_and_then (λ i. option_map (λ u. (g, ask.Show i u)) (word_name node)) (slot_in slot)
 
--- `show N I NODE`
+-- the line `show N I NODE` asks for the node at the slot
 abbrev pub shown_in : List Bytes → Option (ℕ × Ask)
 shown_in (w ∷ number ∷ slot ∷ node ∷ []) = option_and_then (λ g. shown_of g slot node) (word_counter number)
 shown_in fields = None

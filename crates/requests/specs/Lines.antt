@@ -45,6 +45,7 @@ verb_in = meaning_in verbs
 abbrev pub kinds : List (Bytes × Kind)
 kinds = (codes "nom", Nomination) ∷ (codes "bal", Kind.Ballot) ∷ []
 
+-- the kind of emissions that a word names
 abbrev pub kind_in : Bytes → Option Kind
 kind_in = meaning_in kinds
 
@@ -77,48 +78,50 @@ five fields = None
 abbrev pub slot_and_node_in : Bytes → Bytes → Option (ℕ × ℕ)
 slot_and_node_in i name = option_and_then (λ slot. option_map (λ u. (slot, u)) (word_name name)) (slot_in i)
 
--- an emission by its sender, its kind and its number
+-- an emission by the words of its sender, its kind and its number
 abbrev pub emission_in : Bytes → Bytes → Bytes → Option (ℕ × Kind × ℕ)
 emission_in sender kind number =
     option_and_then (λ from. option_and_then (λ k. option_map (λ n. (from, k, n)) (word_number (2 ^ 64) number)) (kind_in kind)) (word_name sender)
 
--- who says something, of which slot, and the statement
+-- who says something, of which slot, and the statement, as three words spell them
 abbrev pub saying_in : Bytes → Bytes → Bytes → Option (ℕ × ℕ × Statement)
 saying_in from i statement =
     option_and_then (λ u. option_and_then (λ slot. option_map (λ s. (u, slot, s)) (word_statement statement)) (slot_in i)) (word_name from)
 
 -- ---- the event that the fields after the number of the network ask for, on a line of each kind
 
+-- the opening of a slot, from the fields after the number of the network
 abbrev pub opening_in : List Bytes → Option Event
 opening_in (i ∷ []) = option_map (λ slot. OpenSlot slot) (slot_in i)
 opening_in fields = None
 
+-- the closing of a slot, from the fields after the number of the network
 abbrev pub closing_in : List Bytes → Option Event
 closing_in (i ∷ []) = option_map (λ slot. CloseSlot slot) (slot_in i)
 closing_in fields = None
 
--- of a slot, a node and a value
+-- a proposal, from the fields: a slot, a node and a value
 abbrev pub proposal_in : List Bytes → Option Event
 proposal_in fields =
     option_and_then (λ w. option_and_then (λ at. option_map (λ x. Propose at.0 at.1 x) (word_proposal w.2)) (slot_and_node_in w.0 w.1)) (three fields)
 
--- of a node and bytes
+-- a delivery, from the fields: a node and bytes
 abbrev pub delivery_in : List Bytes → Option Event
 delivery_in (name ∷ digits ∷ []) =
     option_and_then (λ u. option_map (λ bytes. Deliver u bytes) (octets_in digits)) (word_name name)
 delivery_in fields = None
 
--- of a slot, a node and an emission
+-- a hearing, from the fields: a slot, a node and an emission
 abbrev pub hearing_in : List Bytes → Option Event
 hearing_in fields =
     option_and_then (λ w. option_and_then (λ at. option_map (λ x. Hear at.0 at.1 x.0 x.1 x.2) (emission_in w.2 w.3 w.4)) (slot_and_node_in w.0 w.1)) (five fields)
 
--- of a slot, a node and a round
+-- a nomination timer, from the fields: a slot, a node and a round
 abbrev pub nomination_timer_in : List Bytes → Option Event
 nomination_timer_in fields =
     option_and_then (λ w. option_and_then (λ at. option_map (λ r. NominationTimer at.0 at.1 r) (word_counter w.2)) (slot_and_node_in w.0 w.1)) (three fields)
 
--- of a slot, a node and a counter
+-- a ballot timer, from the fields: a slot, a node and a counter
 abbrev pub ballot_timer_in : List Bytes → Option Event
 ballot_timer_in fields =
     option_and_then (λ w. option_and_then (λ at. option_map (λ n. BallotTimer at.0 at.1 n) (word_counter w.2)) (slot_and_node_in w.0 w.1)) (three fields)
@@ -133,6 +136,7 @@ abbrev pub AsksResliceOf : Option (Bytes × Bytes × Bytes) → Event → Type 0
 AsksResliceOf None e = ⊥
 AsksResliceOf (Some w) e = IsResliced (slot_and_node_in w.0 w.1) w.2 e
 
+-- the fields ask for a change of slices: a slot, a node and slices
 abbrev pub AsksReslice : List Bytes → Event → Type 0
 AsksReslice fields e = AsksResliceOf (three fields) e
 
@@ -152,10 +156,11 @@ abbrev pub AsksSayOf : Option (Bytes × Bytes × Bytes × Bytes × Bytes) → Ev
 AsksSayOf None e = ⊥
 AsksSayOf (Some w) e = IsSaid (word_name w.0) w e
 
+-- the fields ask for a delivery in words: a node, and sender, slot, slices and statement of an envelope
 abbrev pub AsksSay : List Bytes → Event → Type 0
 AsksSay fields e = AsksSayOf (five fields) e
 
--- what is read of what is asked for: that, or nothing where nothing is
+-- what is read is what was asked for, or nothing where nothing was
 abbrev pub IsRead : {X : Type 0} → (X → Type 0) → Option X → Type 0
 IsRead asks (Some x) = asks x
 IsRead {X} asks None = (x : X) → ¬ asks x

@@ -13,15 +13,15 @@ pub record Named : Type 0 where
   pub running : List ℕ
   pub served : List ℕ
 
--- before the first line
+-- no number is named, as before the first line
 abbrev pub new_named : Named
 new_named = record { numbers = []; running = []; served = [] }
 
--- the number is among them
+-- a number is among these
 abbrev pub is_in : List ℕ → ℕ → Bool
 is_in us g = list_any (is_at (nat_cmp g)) us
 
--- with one more, in its place, unless it is there
+-- the numbers with one more, in its place, unless it is there
 abbrev pub with_number : List ℕ → ℕ → List ℕ
 with_number us g = insert_key nat_cmp us g
 

@@ -11,7 +11,7 @@ use Rattle.requests.specs.declared.order.Order.TheVariants as order
 use Rattle.requests.specs.Asking.{IsAsked}
 use Rattle.requests.specs.Requests.{IsRequested}
 
--- a network is declared as served, and all else of it as of any other
+-- what a declaration orders: a network is declared as served, and all else of it as of any other
 abbrev pub declared_by : ℕ → Declaration → Option (ℕ × Order)
 declared_by g (Net b) = Some (g, order.Serve b)
 declared_by g (Node u q) = None
@@ -37,5 +37,6 @@ IsOrderedBy None fields ordered =
 abbrev pub IsOrdered : List Bytes → Option (ℕ × Order) → Type 0
 IsOrdered fields ordered = (r : Option (ℕ × Request)) × IsRequested fields r × IsOrderedBy r fields ordered
 
+-- a line with these fields orders this of the network of a number
 abbrev pub Orders : List Bytes → ℕ → Order → Type 0
 Orders fields g o = IsOrdered fields (Some (g, o))

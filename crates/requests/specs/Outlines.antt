@@ -26,13 +26,15 @@ Waiting = List (ℕ × Outlined)
 
 -- ---- what lines change
 
--- a network without nodes and without a roster
+-- a network that is declared, without nodes and without a roster
 abbrev pub fresh : Budgets → Outlined
 fresh b = record { budgets = b; nodes = []; roster = None }
 
+-- a declared network with one more node
 abbrev pub with_node : Outlined → ℕ → Slices → Outlined
 with_node d u q = record d { nodes = d.nodes ++ record { name = u; slices = q } ∷ [] }
 
+-- a declared network with a roster
 abbrev pub with_roster : Outlined → List ℕ → Shares → Outlined
 with_roster d names shares = record d { roster = Some (names, shares) }
 
@@ -40,7 +42,7 @@ with_roster d names shares = record d { roster = Some (names, shares) }
 abbrev pub waiting_at : Waiting → ℕ → Option Outlined
 waiting_at ws g = lookup (is_at (nat_cmp g)) ws
 
--- with one more, in the place of its number
+-- the waiting networks with one more, in the place of its number
 abbrev pub waiting_with : Waiting → ℕ → Outlined → Waiting
 waiting_with ws g d = insert_entry nat_cmp ws g d
 
@@ -48,11 +50,11 @@ waiting_with ws g d = insert_entry nat_cmp ws g d
 abbrev pub waiting_set : Waiting → ℕ → Outlined → Waiting
 waiting_set ws g d = set_value (is_at (nat_cmp g)) ws d
 
--- without the one of a number
+-- the waiting networks without the one of a number
 abbrev pub waiting_without : Waiting → ℕ → Waiting
 waiting_without ws g = remove_entry (is_at (nat_cmp g)) ws
 
--- the network of a number, which waits, is replaced by that
+-- the waiting network of a number is replaced by another outline of it
 abbrev pub IsRevised : ℕ → (Outlined → Outlined) → Waiting → Waiting → Type 0
 IsRevised g change old new = (d : Outlined) × (waiting_at old g ≡ Some d) × (new ≡ waiting_set old g (change d))
 

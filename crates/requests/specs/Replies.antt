@@ -28,6 +28,7 @@ refusal_number NoMemory = 13
 refusal_number ShareFull = 15
 refusal_number ShareBytesFull = 16
 
+-- the word of a refusal
 abbrev pub refusal_name : Refusal → Bytes
 refusal_name NoSuchNetwork = codes "NoSuchNetwork"
 refusal_name NoSuchNode = codes "NoSuchNode"
@@ -61,7 +62,7 @@ text_of_out (ArmBallot counter) = codes "arm-ballot " ++ decimal counter
 text_of_out (Emit e) = codes "emit " ++ text_of_statement e.body
 text_of_out (Externalized v) = codes "externalized " ++ text_of_value v
 
--- the same with a space (32) before it
+-- what an event gives out, in words behind a space (32)
 abbrev pub behind_space : Out → Bytes
 behind_space out = 32 ∷ text_of_out out
 
@@ -70,5 +71,6 @@ abbrev pub reply_text : Result (List Out) Refusal → Bytes
 reply_text (Ok outs) = codes "ok" ++ flat_map behind_space outs
 reply_text (Err r) = refusal_text r
 
+-- a text is the line of an answer: `ok` and what the event gives out, or the refusal
 abbrev pub IsReply : Result (List Out) Refusal → Bytes → Type 0
 IsReply r text = text ≡ reply_text r

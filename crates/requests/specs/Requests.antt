@@ -31,12 +31,12 @@ abbrev pub budgets_of : ℕ → ℕ → ℕ × List Bytes → Option Budgets
 budgets_of events bytes (slots, []) = Some (record { events = events; bytes = bytes; slots = slots })
 budgets_of events bytes (slots, field ∷ more) = None
 
--- the numbers of budgets, each behind its word
+-- the budgets that fields spell, each number behind its word
 abbrev pub budgets_in : List Bytes → Option Budgets
 budgets_in fields =
     option_and_then (λ events. option_and_then (λ bytes. option_and_then (λ slots. budgets_of events.0 bytes.0 slots) (number_behind (codes "slots") bytes.1)) (number_behind (codes "bytes") events.1)) (number_behind (codes "events") fields)
 
--- the numbers are budgets that a network can have
+-- these are budgets that a network can have, and the line declares it with them
 abbrev pub AreAllowed : Option Budgets → Request → Type 0
 AreAllowed None r = ⊥
 AreAllowed (Some b) r = AreBudgets b.events b.bytes b.slots × (r ≡ Declare (Net b))
@@ -46,12 +46,12 @@ abbrev pub IsNode : Option ℕ → Bytes → Request → Type 0
 IsNode None slices r = ⊥
 IsNode (Some u) slices r = (q : _) × AreSlices slices (Some q) × (r ≡ Declare (Node u q))
 
--- a name and slices
+-- the fields, a name and slices, ask to declare a node
 abbrev pub AsksNode : List Bytes → Request → Type 0
 AsksNode (name ∷ slices ∷ []) r = IsNode (word_name name) slices r
 AsksNode fields r = ⊥
 
--- the numbers of shares, each behind its word, and the fields that follow
+-- the shares that fields spell, each number behind its word, and the fields that follow
 abbrev pub shares_in : List Bytes → Option (Shares × List Bytes)
 shares_in fields =
     option_and_then (λ own. option_and_then (λ pair. option_and_then (λ bytes. option_map (λ opens. (record { own = own.0; pair = pair.0; bytes = bytes.0; opens = opens.0 }, opens.1))
@@ -61,7 +61,7 @@ shares_in fields =
 abbrev pub names_in : Bytes → Option (List ℕ)
 names_in list = each_word word_name (slice_split (λ b. b == 44) list)
 
--- the only field is a list of names
+-- the names that the only field spells
 abbrev pub only_names : List Bytes → Option (List ℕ)
 only_names (list ∷ []) = names_in list
 only_names fields = None
@@ -72,13 +72,13 @@ IsReserved None r = ⊥
 IsReserved (Some w) r =
     (d : Reservation) × (only_names w.1 ≡ Some d.names.items) × (d.shares ≡ w.0) × (r ≡ Declare (Roster d))
 
--- shares and names
+-- the fields, shares and names, ask to declare a roster
 abbrev pub AsksRoster : List Bytes → Request → Type 0
 AsksRoster fields r = IsReserved (shares_in fields) r
 
 -- ---- requests
 
--- the only field is the slot
+-- the slot that is to settle, which is the only field
 abbrev pub settling_in : List Bytes → Option Request
 settling_in (i ∷ []) = option_map (λ slot. Settle slot) (slot_in i)
 settling_in fields = None

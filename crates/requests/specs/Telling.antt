@@ -39,7 +39,7 @@ IsBare (Some d) = d.nodes ≡ []
 abbrev pub HasNoNode : Waiting → ℕ → Type 0
 HasNoNode ws g = IsBare (waiting_at ws g)
 
--- the same, as a test
+-- the network of a number waits and has no node, as a test
 abbrev pub is_bare : Option Outlined → Bool
 is_bare None = false
 is_bare (Some d) = length d.nodes == 0
@@ -86,9 +86,9 @@ may_apply n g e = not (is_in n.served g && is_hearing e)
 abbrev pub is_unserved : Waiting → Named → ℕ → Bool
 is_unserved ws n g = is_declared ws n g && not (is_in n.served g)
 
--- what orders this of the network of a number is bad: a declaration that is not taken; an event, and a slot that is to
--- settle, that a served network does not have, or whose network has no node; what served networks alone have, of one that
--- is declared and not served, or bytes for all nodes of one that has none
+-- an order is bad: a declaration that is not taken; an event, or a slot that is to settle, that a served network does
+-- not have, or whose network has no node; what served networks alone have, of one that is declared and not served, or
+-- bytes for all nodes of one that has none
 abbrev pub IsBadOrder : Waiting → Named → ℕ → Order → Type 0
 IsBadOrder ws n g (order.Request (Declare d)) = takes ws n g d ≡ false
 IsBadOrder ws n g (order.Request (Apply e)) = IsBadToAsk (may_apply n g e) ws g

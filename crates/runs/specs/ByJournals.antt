@@ -106,20 +106,21 @@ pub record FollowsJournals (h : Hosting) : Type 0 where
   pub room : HaveRoom h.waiting h.named h.logs
   pub slots : AreFollowed h.logs h.followed
 
--- so it is before the first line, and each line that is run keeps it
+-- what is kept of open slots is what the journals have, before the first line, and each line that is run keeps it
 abbrev pub LinesFollowJournals : Type 0
 LinesFollowJournals =
     FollowsJournals new_hosting
     × ((old new : Hosting) (fields : List Bytes) (printed : Option Bytes) → FollowsJournals old → Tells old fields printed new → FollowsJournals new)
 
--- so it is after the lines of any text, all of which were run from the first one on
+-- what is kept of open slots is what the journals have, after the lines of any text that were run from the first one on
 abbrev pub RunsFollowJournals : Type 0
 RunsFollowJournals =
     (text : Bytes) (before after : Option Bytes) (new : Hosting)
     → HasRun Tells RefusesLine new_hosting text before after (Ok tt) new → FollowsJournals new
 
--- in such a state each emission that is kept of an open slot is found by its number among what its node has emitted
--- there, as the one that the entries emitted; so that is what a node gets that hears it
+-- Where what is kept of open slots is what the journals have, each emission that is kept is found by its number among
+-- what its node has emitted at the slot, as the one that the entries emitted; so that is what a node gets that hears
+-- it.
 abbrev pub KeptAreFound : Type 0
 KeptAreFound =
     (h : Hosting) → FollowsJournals h → (g i n : ℕ) (l : Log) (o : OpenSlot) (e : Emission) → log_at h.logs g ≡ Some l
@@ -133,14 +134,14 @@ KeptAreFound =
 abbrev pub NothingWaits : Hosting → Type 0
 NothingWaits h = (g i : ℕ) → is_in h.named.served g ≡ true → waiting h.followed g i ≡ None
 
--- so it is before the first line, and each line that is run keeps it; so what waits where an event of a served network was
--- applied is what that event gave out
+-- in a served network no emission waits at any slot, before the first line, and each line that is run keeps it; so what
+-- waits where an event of a served network was applied is what that event gave out
 abbrev pub LinesLeaveNothing : Type 0
 LinesLeaveNothing =
     NothingWaits new_hosting
     × ((old new : Hosting) (fields : List Bytes) (printed : Option Bytes) → FollowsJournals old → NothingWaits old → Tells old fields printed new → NothingWaits new)
 
--- so it is after the lines of any text, all of which were run from the first one on
+-- in a served network no emission waits at any slot, after the lines of any text that were run from the first one on
 abbrev pub RunsLeaveNothing : Type 0
 RunsLeaveNothing =
     (text : Bytes) (before after : Option Bytes) (new : Hosting)

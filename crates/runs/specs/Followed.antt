@@ -17,7 +17,7 @@ use Rattle.runs.specs.Emissions.{OpenSlot, OpenSlots, at_number, changed_at, han
 abbrev pub Followed : Type 0
 Followed = List (ℕ × OpenSlots)
 
--- a network joins, and none of its slots is open
+-- the followed networks with one more that joins, of which no slot is open
 abbrev pub followed_with : Config → Followed → Followed
 followed_with c f = insert_entry nat_cmp f c.number (record { names = names_of c.nodes; slots = [] })
 
@@ -38,7 +38,7 @@ names_at f g = option_map (λ m. m.names) (at_number f g)
 abbrev pub open_slot : Followed → ℕ → ℕ → Option OpenSlot
 open_slot f g slot = option_and_then (λ m. at_number m.slots slot) (at_number f g)
 
--- the first emission there that has not been handed on
+-- the first emission at an open slot of a network that has not been handed on
 abbrev pub waiting : Followed → ℕ → ℕ → Option Emission
 waiting f g slot = option_and_then waits (open_slot f g slot)
 
@@ -47,10 +47,11 @@ abbrev pub handed_in : Option OpenSlot → ℕ
 handed_in None = 0
 handed_in (Some o) = o.handed
 
+-- how many emissions have been handed on at a slot of a network
 abbrev pub handed_at : Followed → ℕ → ℕ → ℕ
 handed_at f g slot = handed_in (open_slot f g slot)
 
--- the first emission there that waited has been handed on
+-- the followed networks, where the first emission that waited at a slot has been handed on
 abbrev pub with_handed : ℕ → ℕ → Followed → Followed
 with_handed g slot f = changed_at f g (λ m. record m { slots = changed_at m.slots slot handed_on })
 
@@ -66,6 +67,6 @@ after_turn (Opens slot) outs m = with_slot slot m
 after_turn (Closes slot) outs m = without_slot slot m
 after_turn Within outs m = noted_outs outs m
 
--- an event of the network of a number has been applied
+-- the followed networks, where an event of the network of a number has been applied
 abbrev pub followed_after : ℕ → Turn → List Out → Followed → Followed
 followed_after g turn outs f = changed_at f g (after_turn turn outs)

@@ -19,7 +19,7 @@ pub record Hosting : Type 0 where
   pub followed : Followed
   pub logs : List Log
 
--- before the first line
+-- no network is there, as before the first line
 abbrev pub new_hosting : Hosting
 new_hosting = record { waiting = []; named = new_named; followed = []; logs = [] }
 
@@ -29,7 +29,8 @@ new_hosting = record { waiting = []; named = new_named; followed = []; logs = []
 abbrev pub has_room : List Log → ℕ → Bool
 has_room logs g = not (is_some (log_at logs g)) && nat_lt (length logs) 4096
 
--- a network joins, and nothing has happened to it; where there is no room for it, it is left out
+-- the journals with that of a network that joins, to which nothing has happened; it is left out, if there is no room
+-- for it
 abbrev pub logs_joined : Joins (List Log)
 logs_joined c logs = if has_room logs c.number then logs_with (record { config = c; entries = [] }) logs else logs
 

@@ -13,6 +13,7 @@ NetworkIsNamedAt joins g None ws us old new = (us ≡ ws) × (new ≡ old)
 NetworkIsNamedAt joins g (Some d) ws us old new =
     (us ≡ waiting_without ws g) × ((c : Config) × IsConfigOf g d c × (new ≡ joins c old))
 
+-- a line names the network of a number, which joins if it waited
 abbrev pub NetworkIsNamed : {S : Type 0} → Joins S → ℕ → Waiting → Waiting → S → S → Type 0
 NetworkIsNamed joins g ws us old new = NetworkIsNamedAt joins g (waiting_at ws g) ws us old new
 

@@ -8,6 +8,6 @@ pub record Plan : Type 0 where
   pub submitted : Submitting
   pub opens : List (ℕ × ℕ)
 
--- before the first line
+-- nothing is planned, as before the first line
 abbrev pub new_plan : Plan
 new_plan = record { submitted = new_submitting; opens = [] }

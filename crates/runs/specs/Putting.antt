@@ -41,7 +41,7 @@ IsNoJob ws g e = IsBadToAsk (not (is_closing e)) ws g
 abbrev pub only_jobs : Allowed
 only_jobs = record { settling = false; closing = false }
 
--- the line is bad
+-- a line is bad in a script that gives jobs: one that closes a slot too, or has one settle
 abbrev pub RefusesToPut : Plan → List Bytes → Type 0
 RefusesToPut old fields = Refuses only_jobs old.submitted.waiting old.submitted.named fields
 

@@ -61,7 +61,7 @@ pub data Tells : Hosting → List Bytes → Option Bytes → Hosting → Type 0 
       → IsDropped (is_declared old.waiting old.named g) g old text new
       → Tells old fields (Some text) new
 
--- the line is bad
+-- a line is bad in a script of networks
 abbrev pub RefusesLine : Hosting → List Bytes → Type 0
 RefusesLine old fields = RefusesOrder old.waiting old.named fields
 

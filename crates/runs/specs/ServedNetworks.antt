@@ -36,7 +36,7 @@ pub data AllIsHeard (g slot : ℕ) (names : List ℕ) : Hosting → Hosting → 
       → AreTold g slot e names old now
       → AllIsHeard g slot names (handed_over g slot None now) new → AllIsHeard g slot names old new
 
--- by the names of the nodes of the network, if it is there
+-- the other nodes of a network hear what waits, if the network is there
 abbrev pub IsHeardByOthers : ℕ → ℕ → Option (List ℕ) → Hosting → Hosting → Type 0
 IsHeardByOthers g slot None old new = new ≡ old
 IsHeardByOthers g slot (Some names) old new = AllIsHeard g slot names old new
@@ -46,8 +46,8 @@ abbrev pub IsHeardAt : ℕ → Option Sent → Hosting → Hosting → Type 0
 IsHeardAt g None old new = new ≡ old
 IsHeardAt g (Some e) old new = IsHeardByOthers g e.slot (names_at old.followed g) old new
 
--- the others hear what an event of a served network gave out; of a refused one there is nothing to hear, and in other
--- networks nobody hears anything by himself
+-- the others hear what an event of a served network gave out; after a refused one, and in other networks, nobody hears
+-- anything by itself
 abbrev pub IsHeardOf : Bool → ℕ → Result (List Out) Refusal → Hosting → Hosting → Type 0
 IsHeardOf false g r old new = new ≡ old
 IsHeardOf true g (Err r) old new = new ≡ old
@@ -58,7 +58,7 @@ abbrev pub IsServed : ℕ → Event → Result (Vec Out Global) Refusal → Host
 IsServed g e r old new =
     (now : Hosting) × IsApplied g e r old now × IsHeardOf (is_in old.named.served g) g (items_of r) now new
 
--- the same where the event may be the first that names the network, and the answer is printed
+-- an event is put to the network of a number, which it may be the first to name, and the answer is printed
 abbrev pub IsPut : ℕ → Event → Hosting → Bytes → Hosting → Type 0
 IsPut g e old text new =
     (begun : Hosting) × (r : Result (Vec Out Global) Refusal) × IsBegun g old begun × IsServed g e r begun new
@@ -66,7 +66,7 @@ IsPut g e old text new =
 
 -- ---- bytes for all nodes
 
--- the bytes come to each of these nodes, one after the other, each with what is heard of it
+-- the bytes come to each of these nodes, one after the other, and what is given out is heard of
 pub data AreDelivered (g : ℕ) (bytes : Bytes) : List ℕ → Hosting → List (Result (Vec Out Global) Refusal) → Hosting
     → Type 0 where
   none_left : {h : Hosting} → AreDelivered g bytes [] h [] h
@@ -80,6 +80,7 @@ abbrev pub AreDeliveredTo : ℕ → Bytes → Option (List ℕ) → Hosting → 
 AreDeliveredTo g bytes None old rs new = (new ≡ old) × (rs ≡ Err NoSuchNetwork ∷ [])
 AreDeliveredTo g bytes (Some names) old rs new = AreDelivered g bytes names old rs new
 
+-- bytes come to all nodes of the network of a number, if it is there; else that is the one answer
 abbrev pub AreAllDelivered : ℕ → Bytes → Hosting → List (Result (Vec Out Global) Refusal) → Hosting → Type 0
 AreAllDelivered g bytes old rs new = AreDeliveredTo g bytes (names_at old.followed g) old rs new
 
@@ -92,7 +93,7 @@ pub record IsTakenBack (g : ℕ) (old new : Hosting) : Type 0 where
   pub followed : IsUnfollowed g old.followed new.followed
   pub logs : new.logs ≡ logs_without g old.logs
 
--- by whether lines have declared it: if none has, that is the refusal
+-- the network of a number is taken back, if lines have declared it; else that is the refusal
 abbrev pub IsDropped : Bool → ℕ → Hosting → Bytes → Hosting → Type 0
 IsDropped false g old text new = (text ≡ refusal_text NoSuchNetwork) × (new ≡ old)
 IsDropped true g old text new = (text ≡ codes "ok") × IsTakenBack g old new

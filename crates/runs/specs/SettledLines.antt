@@ -16,7 +16,7 @@ text_of_decided (Some v) = text_of_value v
 abbrev pub text_of_speaker : Speaker → Bytes
 text_of_speaker s = 32 ∷ (text_of_name s.name ++ 61 ∷ text_of_decided s.decided)
 
--- the same of each of them, in order
+-- the names of nodes with what they have decided, in order, each as ` NAME=VALUE`
 abbrev pub text_of_speakers : List Speaker → Bytes
 text_of_speakers speakers = flat_map text_of_speaker speakers
 

@@ -20,7 +20,7 @@ use Rattle.runs.specs.SettledLines.{settled_text}
 abbrev pub hearing : ℕ → ℕ → Emission → Event
 hearing slot u e = Hear slot u e.from e.kind e.number
 
--- those of the names that are not the one of its sender
+-- these names but the one of a sender
 abbrev pub others : Emission → List ℕ → List ℕ
 others e names = filter (λ u. not (u == e.from)) names
 
@@ -64,7 +64,7 @@ HeardWaitsOn =
     → waiting old.followed g slot ≡ Some e → IsHeardBy g slot e us old ended now
     → (waiting now.followed g slot ≡ Some e) × (handed_at now.followed g slot ≡ handed_at old.followed g slot)
 
--- so the one that is handed on is the one that was heard, and it is one more
+-- the emission that is handed on is the one that was heard, and it is one more
 abbrev pub HandedOnIsCounted : Type 0
 HandedOnIsCounted =
     (g slot : ℕ) (e : Emission) (names : List ℕ) (old now : Hosting) → waiting old.followed g slot ≡ Some e
@@ -73,7 +73,7 @@ HandedOnIsCounted =
 
 -- ---- what is printed
 
--- the refusal, if there is one; else what each node has decided at the slot
+-- the line of a slot that settles: the refusal, if there is one; else what each node has decided there
 abbrev pub line_of : Option Refusal → Option OpenSlot → Bytes
 line_of None o = settled_text o
 line_of (Some r) o = refusal_text r
@@ -87,11 +87,12 @@ HasSettledAt g slot None o old ended new = (new ≡ old) × (ended ≡ Some NoSu
 HasSettledAt g slot (Some names) None old ended new = (new ≡ old) × (ended ≡ Some SlotNotOpen)
 HasSettledAt g slot (Some names) (Some o) old ended new = AreHandedOn g slot names old ended new
 
+-- what becomes of the networks where a slot settles, with what ended it
 abbrev pub HasSettled : ℕ → ℕ → Hosting → Option Refusal → Hosting → Type 0
 HasSettled g slot old ended new =
     HasSettledAt g slot (names_at old.followed g) (open_slot old.followed g slot) old ended new
 
--- the same where the line may be the first that names the network, and what came of it is printed
+-- a slot of a network settles, by a line that may be the first that names it, and what came of it is printed
 abbrev pub IsSettled : ℕ → ℕ → Hosting → Bytes → Hosting → Type 0
 IsSettled g slot old text new =
     (begun : Hosting) × (ended : Option Refusal) × IsBegun g old begun × HasSettled g slot begun ended new

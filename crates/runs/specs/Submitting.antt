@@ -17,7 +17,7 @@ pub record Submitting : Type 0 where
   pub named : Named
   pub history : History
 
--- before the first line
+-- nothing is submitted, as before the first line
 abbrev pub new_submitting : Submitting
 new_submitting = record { waiting = []; named = new_named; history = record { configs = []; calls = [] } }
 
@@ -50,7 +50,7 @@ pub data Submits : Submitting → List Bytes → Option Bytes → Submitting →
 abbrev pub no_settling : Allowed
 no_settling = record { settling = false; closing = true }
 
--- the line is bad
+-- a line is bad in a script that is submitted, in which no slot settles
 abbrev pub RefusesToSubmit : Submitting → List Bytes → Type 0
 RefusesToSubmit old fields = Refuses no_settling old.waiting old.named fields
 

@@ -72,7 +72,7 @@ abbrev pub TellsUnprinted : Unprinted → List Bytes → Option Bytes → Unprin
 TellsUnprinted old fields printed new = (g : ℕ) × (printed ≡ None) × IsRunBy g fields old.hosting new.hosting
     × (new.trace ≡ trace_after g new.hosting.logs old.trace)
 
--- the line is bad
+-- a line is bad in a script that prints nothing, as in one whose answers are printed
 abbrev pub RefusesUnprinted : Unprinted → List Bytes → Type 0
 RefusesUnprinted old fields = RefusesLine old.hosting fields
 
@@ -91,12 +91,12 @@ origin_from k [] g n = None
 origin_from k (line ∷ t) g n =
     if has_more g n line && not (list_any (has_no_more g n) t) then Some k else origin_from (k + 1) t g n
 
--- the same with one line more behind those so far, as it was found among those
+-- the line that an entry of a network comes from, with one line more behind those among which it was found
 abbrev pub origin_with : Option ℕ → ℕ → ℕ × ℕ → ℕ → ℕ → Option ℕ
 origin_with found k line g n =
     if line.0 == g then (if nat_lt n line.1 then Some (unwrap_or found k) else None) else found
 
--- the same, counted from 0
+-- the line that an entry of a network comes from, by the trace of all lines, counted from 0
 abbrev pub origin_in : Option Trace → ℕ → ℕ → Option ℕ
 origin_in None g n = None
 origin_in (Some t) g n = origin_from 0 t g n

@@ -26,8 +26,8 @@ pub record IsUsageOf (words : List Text) (usage : Usage) : Type 0 where
   pub none : (call : Call) → IsCall words call → usage ≡ NoMemory
   pub fits : IsUsage words usage
 
--- words are answered: they are a call, which is carried out, and the status is that of how it ended; or they are not
--- taken as one, which is told
+-- words are answered: they are a call, which is carried out, with the status of how that ended; or they are not taken
+-- as one, which is told
 abbrev pub HasAnsweredWords : List Text → Option Bytes → Option Bytes → ℕ → Type 0
 HasAnsweredWords words old new status =
     ((call : Call) × (end : End) × IsCall words call × IsCarriedOut call old new end × (status ≡ status_of_end end))

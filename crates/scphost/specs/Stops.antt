@@ -20,7 +20,7 @@ status_of stop.CannotWrite = 4
 abbrev pub End : Type 0
 End = Result Bool Stop
 
--- the exit status: 1 for a difference
+-- the exit status of a call: 1 for a difference, else 0 or that of the stop
 abbrev pub status_of_end : End → ℕ
 status_of_end (Ok differs) = if differs then 1 else 0
 status_of_end (Err stop) = status_of stop

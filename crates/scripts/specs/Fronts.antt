@@ -14,11 +14,11 @@ use Rattle.scripts.specs.Words.{word_threshold}
 unfoldable pub plain_count : Bytes → ℕ
 plain_count text = position_or_len (λ b. not (is_ascii_alphanumeric b)) text
 
--- the letters and digits at the front
+-- the letters and digits at the front of a word
 abbrev pub plain_part : Bytes → Bytes
 plain_part text = take (plain_count text) text
 
--- what follows them
+-- what follows the letters and digits at the front of a word
 abbrev pub behind_plain : Bytes → Bytes
 behind_plain text = drop (plain_count text) text
 
@@ -27,7 +27,7 @@ threshold_and_rest None rest = None
 threshold_and_rest (Some k) [] = None
 threshold_and_rest (Some k) (b ∷ rest) = if b == 91 then Some (k, rest) else None
 
--- the threshold, and what follows the opening bracket (91) behind it
+-- the threshold at the front of a word, and what follows the opening bracket (91) behind it
 abbrev pub threshold_front : Bytes → Option (ℕ × Bytes)
 threshold_front text = threshold_and_rest (word_threshold (plain_part text)) (behind_plain text)
 
@@ -59,7 +59,7 @@ members_front inner zero text = None
 members_front inner (suc room) text =
     option_and_then (λ r. with_more r.0 r.1 (members_front inner room)) (member_front inner text)
 
--- at most 64
+-- the members at the front of a word, at most 64
 unfoldable pub members_in : SetReader → Bytes → Option (List Member × Bytes)
 members_in inner text = members_front inner 64 text
 
@@ -71,7 +71,7 @@ abbrev pub set_front : SetReader → SetReader
 set_front inner text =
     option_and_then (λ t. option_map (λ r. (set_of t.0 r.0, r.1)) (members_in inner t.1)) (threshold_front text)
 
--- a set where so many levels of sets may be, none for 0
+-- a set at the front of a word, where so many levels of sets may be, none for 0
 abbrev pub inner_front : ℕ → SetReader
 inner_front zero text = None
 inner_front (suc levels) text = set_front (inner_front levels) text

@@ -26,7 +26,7 @@ name_of_bytes bytes =
 
 -- ---- printed
 
--- without the zero bytes at the end
+-- the bytes of a name without the zero bytes at its end
 abbrev pub short : Bytes → Bytes
 short [] = []
 short (b ∷ more) = if (length (short more) == 0) && (b == 0) then [] else b ∷ short more
@@ -34,7 +34,7 @@ short (b ∷ more) = if (length (short more) == 0) && (b == 0) then [] else b �
 abbrev pub is_short_name : Bytes → Bool
 is_short_name front = nat_lt 0 (length front) && is_plain front
 
--- the short form where there is one, else hexadecimal digits
+-- the bytes of a name in words: letters and digits where there are such, else hexadecimal digits
 abbrev pub text_of_bytes : Bytes → Bytes
 text_of_bytes bytes = if is_short_name (short bytes) then short bytes else encode_lower bytes
 
@@ -44,7 +44,7 @@ text_of_name u = text_of_bytes (bytes_of_name u)
 
 -- ---- read
 
--- up to 32 bytes, and zero bytes after them up to 32
+-- up to 32 bytes as a name: with zero bytes after them, up to 32
 abbrev pub name_with_zeros : Bytes → Bytes
 name_with_zeros front = front ++ replicate (32 - length front) 0
 

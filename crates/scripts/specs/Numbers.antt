@@ -7,6 +7,7 @@ abbrev pub decimal_from : ℕ → List ℕ → ℕ
 decimal_from n [] = n
 decimal_from n (digit ∷ digits) = decimal_from (n * 10 + (digit - 48)) digits
 
+-- the number that digits spell
 abbrev pub decimal : List ℕ → ℕ
 decimal = decimal_from 0
 

@@ -27,7 +27,7 @@ behind_commas (inner k own rest) = 44 ∷ (text_of_set k (drop 1 (behind_commas 
 abbrev pub text_of_slices : Slices → Bytes
 text_of_slices q = text_of_set q.threshold (drop 1 (behind_commas q.members))
 
--- a comma, but not before the first
+-- a comma between members, not before the first
 abbrev pub comma : Bool → Bytes
 comma true = []
 comma false = 44 ∷ []
@@ -65,7 +65,7 @@ fields_of_statement (Prepare b p a h c) =
 fields_of_statement (Commit b p h c) = text_of_ballot b ++ (behind_comma p ++ (behind_comma h ++ behind_comma c))
 fields_of_statement (Externalize b h) = text_of_ballot b ++ behind_comma h
 
--- the word of its kind, with the bracket behind it
+-- the word of a statement's kind, with the bracket behind it
 abbrev pub kind_text : Statement → Bytes
 kind_text (Nominate voted accepted) = codes "nom("
 kind_text (Prepare b p a h c) = codes "prep("

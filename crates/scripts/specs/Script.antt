@@ -4,7 +4,7 @@ use Rattle.std.specs.Prelude.{if◌then◌else◌, nat_lt}
 use Rattle.std.specs.List.{enumerate_from, join_with_byte, list_all, onto_first}
 use Rattle.std.specs.Char.{is_ascii_graphic}
 
--- bytes in a row
+-- bytes in a row, as numbers
 abbrev pub Bytes : Type 0
 Bytes = List ℕ
 
@@ -49,10 +49,11 @@ is_field (b ∷ more) = list_all is_ascii_graphic (b ∷ more)
 abbrev pub AreFields : Bytes → List Bytes → Type 0
 AreFields line fields = (join_with_byte 32 fields ≡ line) × IsTrue (list_all is_field fields)
 
+-- each byte is below 128
 abbrev pub is_ascii : Bytes → Bool
 is_ascii = list_all (λ b. nat_lt b 128)
 
--- the line is empty or begins with `#` (35)
+-- the line is empty or a comment: it begins with `#` (35)
 abbrev pub is_no_record : Bytes → Bool
 is_no_record [] = true
 is_no_record (b ∷ more) = b == 35

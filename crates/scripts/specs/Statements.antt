@@ -15,7 +15,7 @@ use Rattle.scripts.specs.WordLists.{each_word}
 
 -- ---- pieces of a word
 
--- what stands before the first such byte, between it and the second, and behind that
+-- the three parts of a word that the first two such bytes make
 abbrev pub split_twice : ℕ → Bytes → Option (Bytes × Bytes × Bytes)
 split_twice at text = option_and_then (λ p. option_map (λ q. (p.0, q.0, q.1)) (split_once at p.1)) (split_once at text)
 
@@ -38,7 +38,7 @@ inside_brackets head word = option_and_then before_bracket (behind head word)
 abbrev pub word_values : Bytes → Option (List Bytes)
 word_values list = if length list == 0 then Some [] else each_word word_value (slice_split (λ b. b == 43) list)
 
--- a ballot, or `-` (45) for none
+-- a ballot that a word spells, or `-` (45) for none
 abbrev pub word_optional : Bytes → Option (Option Ballot)
 word_optional word = if pointwise nat_eq word (45 ∷ []) then Some None else option_map (λ b. Some b) (word_ballot word)
 
@@ -62,20 +62,20 @@ commit counters ballot = option_and_then (λ n. option_map (λ b. Commit b n.0 n
 abbrev pub externalize : Option ℕ → Option Ballot → Option Statement
 externalize counter ballot = option_and_then (λ h. option_map (λ b. Externalize b h) ballot) counter
 
--- the values voted for and those accepted, with a bar (124) between
+-- the fields of a nomination in words: the values voted for and those accepted, with a bar (124) between
 abbrev pub nomination_in : Bytes → Option Statement
 nomination_in fields = option_and_then (λ w. nomination (word_values w.0) (word_values w.1)) (split_once 124 fields)
 
--- the ballot, the prepared one, and three counters
+-- the fields of PREPARE in words: the ballot, the prepared one, and three counters
 abbrev pub prepare_in : Bytes → Option Statement
 prepare_in fields =
     option_and_then (λ w. prepare (three_counters w.2) (word_ballot w.0) (word_optional w.1)) (split_twice 44 fields)
 
--- the ballot and three counters
+-- the fields of COMMIT in words: the ballot and three counters
 abbrev pub commit_in : Bytes → Option Statement
 commit_in fields = option_and_then (λ w. commit (three_counters w.1) (word_ballot w.0)) (split_once 44 fields)
 
--- the ballot and a counter
+-- the fields of EXTERNALIZE in words: the ballot and a counter
 abbrev pub externalize_in : Bytes → Option Statement
 externalize_in fields = option_and_then (λ w. externalize (word_counter w.1) (word_ballot w.0)) (split_once 44 fields)
 

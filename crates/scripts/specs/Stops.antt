@@ -4,6 +4,7 @@ use Rattle.scripts.specs.declared.input.ReadError.TheVariants as read
 use Rattle.scripts.specs.declared.run.Stop.{Stop}
 use Rattle.scripts.specs.declared.run.Stop.TheVariants as stop
 
+-- the stop to which a failed read comes
 abbrev pub stop_of_read : ReadError → Stop
 stop_of_read read.CannotRead = stop.CannotRead
 stop_of_read read.TooLong = stop.TooLong

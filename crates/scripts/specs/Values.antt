@@ -14,10 +14,11 @@ is_plain = list_all is_ascii_alphanumeric
 abbrev pub is_lower_digit : ℕ → Bool
 is_lower_digit c = is_in_range 48 57 c || is_in_range 97 102 c
 
+-- lower-case hexadecimal digits alone
 abbrev pub is_lower_hex : List ℕ → Bool
 is_lower_hex = list_all is_lower_digit
 
--- the bytes, where they are one to 256
+-- these bytes as a value, where they are one to 256
 abbrev pub value_in : List ℕ → Option (List ℕ)
 value_in bytes = if length bytes == 0 then None else if nat_lt 256 (length bytes) then None else Some bytes
 
@@ -35,7 +36,7 @@ abbrev pub word_value : List ℕ → Option (List ℕ)
 word_value [] = None
 word_value (c ∷ rest) = if c == 35 then digits_value rest else if is_plain (c ∷ rest) then value_in (c ∷ rest) else None
 
--- letters and digits as they are, else `#` (35) and the digits of the bytes
+-- the word of a value: letters and digits as they are, else `#` (35) and the digits of the bytes
 abbrev pub text_of_value : List ℕ → List ℕ
 text_of_value v = if is_plain v then v else 35 ∷ encode_lower v
 

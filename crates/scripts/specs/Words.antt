@@ -26,15 +26,16 @@ word_number bound word = if is_decimal word && nat_lt (number word) bound then S
 abbrev pub word_counter : Bytes → Option ℕ
 word_counter = word_number (2 ^ 32)
 
--- the same below 2^8
+-- the number that a word spells, where it is below 2^8
 abbrev pub word_threshold : Bytes → Option ℕ
 word_threshold = word_number (2 ^ 8)
 
+-- a counter, if there is one, with what stands behind it
 abbrev pub with_counter : Option ℕ → Bytes → Option (ℕ × Bytes)
 with_counter (Some counter) behind = Some (counter, behind)
 with_counter None behind = None
 
--- a counter, and what stands behind it
+-- the counter at the front of a word, and what stands behind it
 abbrev pub counter_and_rest : Option (Bytes × Bytes) → Option (ℕ × Bytes)
 counter_and_rest (Some parts) = with_counter (word_counter parts.0) parts.1
 counter_and_rest None = None
@@ -48,6 +49,6 @@ ballot_of_parts None = None
 abbrev pub word_ballot : Bytes → Option Ballot
 word_ballot word = ballot_of_parts (counter_and_rest (split_once 58 word))
 
--- a counter, a colon (58) and a value
+-- the word of a ballot: a counter, a colon (58) and a value
 abbrev pub text_of_ballot : Ballot → Bytes
 text_of_ballot b = decimal b.counter ++ 58 ∷ text_of_value b.value

@@ -35,12 +35,12 @@ pub record IsOrdered (l : Live) : Type 0 where
   pub running : AreFrom 0 l.running
   pub apart : (g : ℕ) → (waiting_at l.waiting g ≡ None) ⊎ (live_at l g ≡ None)
 
--- a host stays so with each line
+-- the networks of a host stay ascending by number with each line, those that wait and those that run
 abbrev pub HostsStayOrdered : Type 0
 HostsStayOrdered =
     (l t : Live) (n : ℕ) (line : Option Bytes) (a : Reply) → IsOrdered l → Serves l n line a t → IsOrdered t
 
--- one that lines lead to is so
+-- the networks of a host that lines lead to are ascending by number
 abbrev pub ReachedHostsAreOrdered : Type 0
 ReachedHostsAreOrdered =
     (longest : ℕ) (bytes : Bool) (n : ℕ) (lines journal : List Bytes) (text : Bytes) (l : Live)
@@ -72,14 +72,14 @@ LinesAreAnsweredNextToOthers =
     → Serves (alone d.network l) n line a own → a.done ≡ Some d
     → (t : Live) × Serves l n line a t × (alone d.network t ≡ own) × OthersStay d.network l t
 
--- So it is with all that a line may ask of a network, questions and what is refused too, where there is room for one that
--- may be declared: it is answered as if there were no other.
+-- What a line may ask of a network, questions too, is answered as if there were no other, if there is room for one that
+-- may be declared.
 abbrev pub AnswersAreLocal : Type 0
 AnswersAreLocal =
     (l t : Live) (n g : ℕ) (asked : Ask) (a : Reply) → IsOrdered l → HasRoom l → IsAnswer n g asked l a t
     → IsAnswer n g asked (alone g l) a (alone g t) × OthersStay g l t
 
--- and what it is answered where there is no other it may be answered next to others
+-- what a question or an event is answered where there is no other network, it may be answered next to others
 abbrev pub AnswersAreGivenNextToOthers : Type 0
 AnswersAreGivenNextToOthers =
     (l own : Live) (n g : ℕ) (asked : Ask) (a : Reply) → IsOrdered l → HasRoom l → IsAnswer n g asked (alone g l) a own
@@ -151,7 +151,7 @@ NetworksGoOnByTheirOwnLines =
     (behind_numbers k blocks) (alone g t))
     × AreAllSameButForNumbers (own_of g run) (own_of g again))
 
--- and so from a host without networks on
+-- what becomes of a network among others, from a host without networks on, becomes of it by its own lines alone
 abbrev pub NetworksFollowTheirOwnLines : Type 0
 NetworksFollowTheirOwnLines =
     (longest : ℕ) (bytes : Bool) (n : ℕ) (lines journal : List Bytes) (text : Bytes) (t : Live)
@@ -212,6 +212,6 @@ abbrev pub HostsAreAlikeByNetworks : Type 0
 HostsAreAlikeByNetworks =
     (l other : Live) → IsOrdered l → IsOrdered other → ((g : ℕ) → AreAlike (alone g l) (alone g other)) → AreAlike l other
 
--- and of alike hosts each network alone is alike
+-- of alike hosts each network alone is alike
 abbrev pub NetworksOfAlikeHostsAreAlike : Type 0
 NetworksOfAlikeHostsAreAlike = (l other : Live) (g : ℕ) → AreAlike l other → AreAlike (alone g l) (alone g other)

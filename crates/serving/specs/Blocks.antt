@@ -22,13 +22,13 @@ use Rattle.serving.specs.declared.block.Closing.TheVariants as closing
 abbrev pub space_between : Bytes → Bytes → Bytes
 space_between one other = one ++ 32 ∷ other
 
--- what is given out: as in scripts; or an envelope as its bytes, in lower-case hexadecimal
+-- what is given out, in words or, if that is asked, with an envelope as its bytes in lower-case hexadecimal
 abbrev pub text_of_out_as : Bool → Out → Bytes
 text_of_out_as true (Emit e) = codes "emit " ++ encode_lower (spelling e)
 text_of_out_as true out = text_of_out out
 text_of_out_as false out = text_of_out out
 
--- the same with a space (32) before it
+-- what is given out, so printed, behind a space (32)
 abbrev pub behind_space_as : Bool → Out → Bytes
 behind_space_as bytes out = 32 ∷ text_of_out_as bytes out
 

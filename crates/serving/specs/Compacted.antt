@@ -232,6 +232,7 @@ IsSmallDeclaration (declaration.Net b) = (b.events < 2 ^ 64) × (b.bytes < 2 ^ 6
 IsSmallDeclaration (declaration.Node u q) = Unit {0}
 IsSmallDeclaration (declaration.Roster r) = r.shares.opens < 2 ^ 64
 
+-- what a line declares has budgets, and openings and closings, below 2^64
 abbrev pub DeclarationsAreSmall : Type 0
 DeclarationsAreSmall =
     (fields : List Bytes) (g : ℕ) (d : DeclarationOf) → IsAsked fields (Some (g, ask.Declare d)) → IsSmallDeclaration d

@@ -92,15 +92,16 @@ abbrev pub opens_slot : Step → Bool
 opens_slot (Opens i) = true
 opens_slot _ = false
 
--- A step at another slot that is done is done without the slot too, if there is room afterwards for all that is drawn yet.
+-- A step at another slot that is done is done where one slot is left out too, if there is room afterwards for all that
+-- is drawn yet.
 abbrev pub ErasedNetsStepAlike : Type 0
 ErasedNetsStepAlike =
     (i : ℕ) (rest lost : Drawn) (net left : Net) (e : Step) (os : List Out) → IsErased i rest lost net left
     → is_step_at i e ≡ false → (net_step net e).1 ≡ Done os → HasRoomFor rest (net_step net e).0
     → ((net_step left e).1 ≡ Done os) × IsErased i rest lost (net_step net e).0 (net_step left e).0
 
--- One that is refused is refused without the slot too, if not always for the same reason; but for an opening, since there
--- may be too many slots with this one.
+-- a step that is refused is refused where one slot is left out too, if not always for the same reason; but for an
+-- opening, since there may be too many slots with this one
 abbrev pub ErasedNetsRefuseAlike : Type 0
 ErasedNetsRefuseAlike =
     (i : ℕ) (rest lost : Drawn) (net left : Net) (e : Step) (r : Refusal) → IsErased i rest lost net left
@@ -122,8 +123,8 @@ pub data AreToldAs : List Telling → List Telling → Type 0 where
   wanting_so : {ts ss : List Telling} (u : ℕ) (r : Refusal) → AreToldAs ts ss
       → AreToldAs (record { node = u; reply = Refused NoMemory } ∷ ts) (record { node = u; reply = Refused r } ∷ ss)
 
--- An event at another slot that is done, with all that the others hear of it, is done without the slot too, if there is
--- room afterwards for all that is drawn yet.
+-- An event at another slot that is done, with all that the others hear of it, is done where one slot is left out too,
+-- if there is room afterwards for all that is drawn yet.
 abbrev pub ErasedNetsServeAlike : Type 0
 ErasedNetsServeAlike =
     (i : ℕ) (rest lost : Drawn) (net left : Net) (e : Step) (stale : Bool) (told : List Telling) (after : Net)
@@ -132,7 +133,8 @@ ErasedNetsServeAlike =
     → (told_too : List Telling) × (after_too : Net) × AreToldAs told told_too × IsServed left e (IsDone stale) told_too after_too
     × IsErased i rest lost after after_too
 
--- one that is refused is refused without the slot too, if not always for the same reason; but for an opening
+-- an event that is refused is refused where one slot is left out too, if not always for the same reason; but for an
+-- opening
 abbrev pub ErasedNetsRefuseEventsAlike : Type 0
 ErasedNetsRefuseEventsAlike =
     (i : ℕ) (rest lost : Drawn) (net left : Net) (e : Step) (r : Refusal) (told : List Telling) (after : Net)
@@ -192,8 +194,8 @@ CameAs s t =
     ⊎ ((r : Refusal) × (other : Refusal) × (s.refused ≡ Some r) × (other ≡ NoMemory → ⊥)
     × (t ≡ record s { refused = Some other }))
 
--- An event at another slot comes to the same without the slot, where memory sufficed, and there is room afterwards for all
--- that is drawn yet.
+-- An event at another slot comes to the same where one slot is left out, if memory sufficed, and there is room
+-- afterwards for all that is drawn yet.
 abbrev pub ErasedMachinesServeAlike : Type 0
 ErasedMachinesServeAlike =
     (i : ℕ) (rest lost : Drawn) (m left : Machine) (e : Step) (after : Machine) (s : Served)
@@ -218,7 +220,7 @@ pub data CameAllAs : List NodeAnswer → List NodeAnswer → Type 0 where
   next_came : {a b : NodeAnswer} {answers others : List NodeAnswer}
       → b.node ≡ a.node → CameAs a.served b.served → CameAllAs answers others → CameAllAs (a ∷ answers) (b ∷ others)
 
--- bytes of another slot that come to nodes come to the same without the slot
+-- bytes of another slot that come to nodes come to the same where one slot is left out
 abbrev pub ErasedMachinesServeAllAlike : Type 0
 ErasedMachinesServeAllAlike =
     (i : ℕ) (rest lost : Drawn) (m left : Machine) (bytes : Bytes) (us : List ℕ) (answers : List NodeAnswer)
@@ -325,7 +327,7 @@ abbrev pub drawn_of : List ℕ → List Line → Drawn
 drawn_of [] lines = none_drawn
 drawn_of (i ∷ slots) lines = both (drawn_of slots lines) (drawn_at i lines)
 
--- so may the lines of several slots be left out, if none of them is open at the end
+-- the lines of several slots may be left out, if none of them is open at the end
 abbrev pub AllClosedSlotsAreErased : Type 0
 AllClosedSlotsAreErased =
     (slots : List ℕ) (c : Config) (lines : List Line) (m : Machine) → AreApart slots → AreRun (begun c) lines m

@@ -48,20 +48,20 @@ moved d m = record m {
 }
 
 -- ---- what comes of an event is the same
--- A step is answered alike, and what becomes of the one network is what becomes of the other, with so much more.
+-- A step is answered alike if so much more is declared and used up, and what becomes of the networks differs only by
+-- that.
 abbrev pub MovedNetsStepAlike : Type 0
 MovedNetsStepAlike =
     (d : Drawn) (net : Net) (e : Step)
     → net_step (moved_net d net) e ≡ (moved_net d (net_step net e).0, (net_step net e).1)
 
--- What an event comes to, with all that the others hear of it, it comes to with so much more.
+-- An event comes to the same, with all that the others hear of it, if so much more is declared and used up.
 abbrev pub MovedMachinesServeAlike : Type 0
 MovedMachinesServeAlike =
     (d : Drawn) (old new : Machine) (e : Step) (s : Served)
     → IsServedBy old e new s → IsServedBy (moved d old) e (moved d new) s
 
--- And what it comes to with so much more, it comes to without. Here the network has to stand for one of the definitions,
--- since of one that stands for none nothing is said.
+-- What an event comes to with so much more, it comes to without, if the network stands for one of the definitions.
 abbrev pub MovedMachinesServeNoMore : Type 0
 MovedMachinesServeNoMore =
     (d : Drawn) (old moved_new : Machine) (e : Step) (s : Served) → IsStood old → IsServedBy (moved d old) e moved_new s
@@ -97,7 +97,7 @@ AlikeHostsAnswerAlike =
     (l other new : Live) (n : ℕ) (line : Option Bytes) (a : Reply) → AreAlike l other → Serves l n line a new
     → (other_new : Live) × Serves other n line a other_new × AreAlike new other_new
 
--- so it is with all further lines: what may be told of them, and what journals may have of them, is the same
+-- all further lines are answered alike by two alike hosts: what may be told, and what journals may have, is the same
 abbrev pub FuturesAreAlike : Type 0
 FuturesAreAlike =
     (longest : ℕ) (l other new : Live) (n : ℕ) (lines journal : List Bytes) (text : Bytes) → AreAlike l other
@@ -105,10 +105,11 @@ FuturesAreAlike =
     → (other_new : Live) × ServesAll Serves longest other n lines journal text other_new × AreAlike new other_new
 
 -- ---- which hosts are alike
--- one that is alike another has that one alike it
+-- a host that is alike another has that one alike it
 abbrev pub AlikeBothWays : Type 0
 AlikeBothWays = (l other : Live) → AreAlike l other → AreAlike other l
 
+-- a host that is alike one that is alike a third is alike the third
 abbrev pub AlikeInTurn : Type 0
 AlikeInTurn = (l other third : Live) → AreAlike l other → AreAlike other third → AreAlike l third
 
@@ -122,7 +123,7 @@ ReachedHostsAreAlike =
 abbrev pub StandingIsAlike : Type 0
 StandingIsAlike = (m : Machine) → IsStood m → IsAlike m m
 
--- and what is alike it is so with so much more
+-- what is alike a network is so with so much more too
 abbrev pub MovedIsAlike : Type 0
 MovedIsAlike = (d : Drawn) (m n : Machine) → IsAlike m n → IsAlike m (moved d n)
 
@@ -143,7 +144,7 @@ NumbersStandInFront =
     → (rests : List Bytes) × (a.text ≡ behind_number n rests)
     × ((k : ℕ) → Serves l k line (record { text = behind_number k rests; done = a.done }) new)
 
--- So alike hosts answer all further lines alike but for their numbers, if one of them counts from another number on.
+-- Alike hosts answer all further lines alike but for their numbers, if one of them counts from another number on.
 abbrev pub FuturesAreAlikeButForNumbers : Type 0
 FuturesAreAlikeButForNumbers =
     (longest : ℕ) (l other new : Live) (n : ℕ) (lines journal : List Bytes) (text : Bytes) → AreAlike l other

@@ -60,12 +60,12 @@ live_at l g = lookup (is_at (nat_cmp g)) l.running
 abbrev pub with_live : Live → ℕ → Machine → Live
 with_live l g m = record l { running = set_value (is_at (nat_cmp g)) l.running m }
 
--- the answer that is one line
+-- the answer that is one line: how it closes
 abbrev pub one_line : ℕ → Closing → Option Done → Reply
 one_line n c done = record { text = closing_line n c; done = done }
 
 -- ---- what a line did
--- this is what it did to the network of a number, if it is taken
+-- what a line did to the network of a number, if it is taken
 abbrev pub done_if : Bool → ℕ → Deed → Option Done
 done_if true g d = Some (record { network = g; deed = d })
 done_if false g d = None
@@ -74,7 +74,7 @@ done_if false g d = None
 abbrev pub used_of : Machine → Used
 used_of m = record { events = m.events; bytes = m.bytes; slots = length m.slots; opens = m.opens }
 
--- what is used up afterwards, less what was used up before
+-- what was drawn: what is used up afterwards, less what was used up before
 abbrev pub drawn_between : Used → Used → Drawn
 drawn_between before after = record {
   events = after.events - before.events;
@@ -109,7 +109,7 @@ takes l g (declaration.Net b) =
 takes l g (declaration.Node u q) = takes_node (waiting_at l.waiting g) u
 takes l g (declaration.Roster r) = takes_roster (waiting_at l.waiting g) r.names.items r.shares
 
--- it is taken, and changes the networks that wait; or it is not, and changes nothing
+-- a declaration is taken, and changes the networks that wait; or it is not, and changes nothing
 abbrev pub IsDeclared : ℕ → Declaration → Live → Bool → Live → Type 0
 IsDeclared g d old true new =
     (takes old g d ≡ true) × Prepares g d old.waiting new.waiting × (new.running ≡ old.running) × (new.bytes ≡ old.bytes)
@@ -148,6 +148,7 @@ IsServedAt (Some m) n g e old a new =
       done = Some (record { network = g; deed = deed_of e s (drawn m after) });
     })
 
+-- the answer to an event of the network of a number, if it runs: it is served, and the line is kept
 abbrev pub IsEventAnswered : ℕ → ℕ → Event → Live → Reply → Live → Type 0
 IsEventAnswered n g e old a new =
     (running : Option Machine) × (live_at old g ≡ running) × IsServedAt running n g e old a new
@@ -165,6 +166,7 @@ abbrev pub slot_of_answer : Option Refusal → ℕ → Option ℕ → Option ℕ
 slot_of_answer None i others = Some i
 slot_of_answer (Some r) i others = others
 
+-- the slot of the first of these answers that is no refusal
 abbrev pub slot_of_answers : List NodeAnswer → Option ℕ
 slot_of_answers [] = None
 slot_of_answers (a ∷ answers) = slot_of_answer a.served.refused a.served.slot (slot_of_answers answers)
@@ -179,15 +181,16 @@ abbrev pub lines_of_node : Option Refusal → Bool → ℕ → ℕ → ℕ → N
 lines_of_node None b n g i a = flat_map (line_of_telling b n g i) (tellings_of a.served.told.items)
 lines_of_node (Some r) b n g i a = line_of_telling b n g i (record { node = a.node; reply = Refused r })
 
+-- the lines of a node's answer: what was told, or why it was refused
 abbrev pub lines_of_answer : Bool → ℕ → ℕ → ℕ → NodeAnswer → Bytes
 lines_of_answer b n g i a = lines_of_node a.served.refused b n g i a
 
--- where one of them was not refused there are lines of all
+-- the lines of the answers of all nodes, if one of them is no refusal
 abbrev pub lines_of_answers : Option ℕ → Bool → ℕ → ℕ → List NodeAnswer → Bytes
 lines_of_answers None b n g answers = []
 lines_of_answers (Some i) b n g answers = flat_map (lines_of_answer b n g i) answers
 
--- of two closings: `ok`, else `stale`, else the first
+-- the better of two closings of a block: `ok`, else `stale`, else the first
 abbrev pub better : Closing → Closing → Closing
 better closing.Taken c = closing.Taken
 better closing.Stale closing.Taken = closing.Taken
@@ -197,6 +200,7 @@ better (closing.Refused r) closing.Stale = closing.Stale
 better (closing.Refused r) c = closing.Refused r
 better closing.Bad c = c
 
+-- how the block of several answers closes: with the best of their closings
 abbrev pub closing_of_answers : List NodeAnswer → Closing
 closing_of_answers [] = closing.Refused NoSuchNode
 closing_of_answers (a ∷ answers) = better (closing_of (ending_of a.served)) (closing_of_answers answers)
@@ -217,6 +221,7 @@ AreServedAt (Some m) n g bytes old a new =
       done = Some (record { network = g; deed = deed_of_all (slot_of_answers answers) (drawn m after) });
     })
 
+-- the answer to bytes for all nodes of the network of a number, if it runs: they are served, and the line is kept
 abbrev pub AreAllAnswered : ℕ → ℕ → Bytes → Live → Reply → Live → Type 0
 AreAllAnswered n g bytes old a new =
     (running : Option Machine) × (live_at old g ≡ running) × AreServedAt running n g bytes old a new
@@ -246,6 +251,7 @@ left_by None running = option_map (λ m. left_of m.config (used_of m)) running
 abbrev pub left_at : Live → ℕ → Option Left
 left_at l g = left_by (waiting_at l.waiting g) (live_at l g)
 
+-- the block of what is left of a network's budgets, or that there is no such network
 abbrev pub IsLeftText : ℕ → ℕ → Option Left → Bytes → Type 0
 IsLeftText n g None text = text ≡ closing_line n (closing.Refused NoSuchNetwork)
 IsLeftText n g (Some left) text = text ≡ left_line n g left ++ closing_line n closing.Taken
@@ -255,7 +261,7 @@ abbrev pub not_shown : Option Outlined → ℕ → Refusal
 not_shown None u = NoSuchNetwork
 not_shown (Some d) u = if list_any (λ hosted. hosted.name == u) d.nodes then SlotNotOpen else NoSuchNode
 
--- why a node of a network that runs is not at a slot
+-- why a node of a network that runs is not at a slot: it is not hosted, or the slot is not open
 abbrev pub not_there : Config → ℕ → Refusal
 not_there c u = if is_some (index_of_name c.nodes u) then SlotNotOpen else NoSuchNode
 
@@ -307,7 +313,7 @@ abbrev pub IsAnswerTo : ℕ → Option (ℕ × Ask) → Live → Reply → Live 
 IsAnswerTo n None old a new = IsBadLine n old a new
 IsAnswerTo n (Some asked) old a new = IsAnswer n asked.0 asked.1 old a new
 
--- the answer to a line with these fields
+-- the answer to a line with these fields: to what they ask for, or that it is bad
 abbrev pub AreFieldsAnswered : ℕ → List Bytes → Live → Reply → Live → Type 0
 AreFieldsAnswered n fields old a new =
     (asked : Option (ℕ × Ask)) × IsAsked fields asked × IsAnswerTo n asked old a new

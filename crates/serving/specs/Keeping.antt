@@ -94,10 +94,12 @@ line-counts old new n line a kept is (inr (runs, inl bad)) e = bad.1.1
 line-counts old new n line a true is (inr (runs, inr fields)) e = absurd (runs (subst IsSkipped (sym e) (refl, refl)))
 line-counts old new n line a false is (inr (runs, inr (fields, are, (asked, of, answer)))) e = asked-counts n asked old new a answer is
 
+-- a law: only kept lines change a live host
 pub only_kept_lines_count : OnlyKeptLinesCount Serves
 only_kept_lines_count old new n None a bad e = bad.1
 only_kept_lines_count old new n (Some line) a answer e = line-counts old new n line a (is_kept a) refl answer e
 
+-- a law: empty lines are not answered by a live host, and change nothing
 pub empty_lines_are_skipped : EmptyLinesAreSkipped Serves
 empty_lines_are_skipped s n = inl ((refl, refl), refl, refl)
 
@@ -132,6 +134,7 @@ fields-are-whole (field ∷ next ∷ fields) e =
     ∙ ap (λ first. first && has_no_hole (join_with_byte 32 (next ∷ fields))) (field-is-whole field both.0)
     ∙ fields-are-whole (next ∷ fields) both.1
 
+-- a law: the lines that a live host keeps have no byte 0
 pub kept_lines_are_whole : KeptLinesAreWhole Serves
 kept_lines_are_whole old new n line a (inl skipped) kept = not-both kept (kept-by skipped.1)
 kept_lines_are_whole old new n line a (inr (runs, inl bad)) kept = not-both kept (kept-by bad.1.0)

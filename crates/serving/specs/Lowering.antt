@@ -72,7 +72,7 @@ LoweredLinesDeclareLess =
     (d : Drawn) (line : Bytes) (g : ℕ) (x : Declaration) → AsksToDeclare line g x
     → AsksToDeclare (lowered d line) g (less_declared d x)
 
--- one that declares a node stays
+-- a line that declares a node stays as it is when it is lowered
 abbrev pub NodeLinesStay : Type 0
 NodeLinesStay =
     (d : Drawn) (line : Bytes) (g u : ℕ) (q : Slices) → AsksToDeclare line g (declaration.Node u q) → lowered d line ≡ line
@@ -99,6 +99,7 @@ abbrev pub AllDeclare : {longest n : ℕ} {s t : Live} {lines journal : List Byt
 AllDeclare g none = Unit {0}
 AllDeclare g (next a serves others) = (a.done ≡ declared_of g) × AllDeclare g others
 
+-- the lines of a run each of which declares something of a network are such lines one after the other
 abbrev pub RunsDeclare : Type 0
 RunsDeclare =
     (longest g n : ℕ) (l t : Live) (lines journal : List Bytes) (text : Bytes)
@@ -108,13 +109,13 @@ RunsDeclare =
 abbrev pub taken_block : Bytes → List Bytes
 taken_block line = (text_of_closing closing.Taken ++ 10 ∷ []) ∷ []
 
--- such lines are all kept, and this is told of them
+-- lines that each declare something of one network are all kept, and this is told of them
 abbrev pub DeclarationsAreServed : Type 0
 DeclarationsAreServed =
     (longest g n : ℕ) (l t : Live) (lines : List Bytes) → AreDeclared longest g l n lines t
     → ServesAll Serves longest l n lines lines (behind_numbers n (map taken_block lines)) t
 
--- lowered, and counted from any number, they declare as much less
+-- lines that declare a network declare as much less, once lowered, from any number on
 abbrev pub LoweredDeclarationsDeclareLess : Type 0
 LoweredDeclarationsDeclareLess =
     (d : Drawn) (longest g n k : ℕ) (l t : Live) (lines : List Bytes) → AreDeclared longest g l n lines t
@@ -124,7 +125,7 @@ LoweredDeclarationsDeclareLess =
 abbrev pub waits_alone : Bool → ℕ → Outlined → Live
 waits_alone b g o = record { bytes = b; waiting = (g, o) ∷ []; running = [] }
 
--- where there was no network, they leave the one
+-- lines that declare something of one network leave that network, where there was none
 abbrev pub DeclarationsLeaveOne : Type 0
 DeclarationsLeaveOne =
     (longest g n : ℕ) (b : Bool) (t : Live) (line : Bytes) (lines : List Bytes)
@@ -142,7 +143,7 @@ pub record Covers (c : Config) (d : Drawn) : Type 0 where
   pub bytes : d.bytes ≤ c.budgets.bytes
   pub opens : IfSome c.roster (λ r. d.opens ≤ r.shares.opens)
 
--- with so much more it is what it was
+-- what is configured with less is, with so much more, what it was
 abbrev pub LessIsMovedBack : Type 0
 LessIsMovedBack = (d : Drawn) (c : Config) → Covers c d → moved_config d (less_config d c) ≡ c
 
@@ -158,7 +159,7 @@ BegunWithLess = (d : Drawn) (c : Config) → Covers c d → moved d (begun (less
 abbrev pub runs_alone : Bool → ℕ → Machine → Live
 runs_alone b g m = record { bytes = b; waiting = []; running = (g, m) ∷ [] }
 
--- and so an event that names what waits with less begins it
+-- an event that names a network which waits with less begins it with less
 abbrev pub LessBegins : Type 0
 LessBegins =
     (d : Drawn) (g : ℕ) (b : Bool) (o : Outlined) (c : Config) → IsConfigOf g o c

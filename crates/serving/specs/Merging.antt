@@ -34,19 +34,19 @@ pub data RunsAlone (longest g : ℕ) : Live → List Bytes → Live → Type 0 w
       → Serves l n (given longest line) a now → a.done ≡ Some d → d.network ≡ g → RunsAlone longest g now lines new
       → RunsAlone longest g l (line ∷ lines) new
 
--- what such lines come to, they come to from any number on, and a journal has them all
+-- lines that a network is served alone may be served from any number on, and a journal has them all
 abbrev pub LinesAloneAreServed : Type 0
 LinesAloneAreServed =
     (longest g : ℕ) (l new : Live) (lines : List Bytes) → AreAlike l l → RunsAlone longest g l lines new
     → (n : ℕ) → (text : Bytes) × ServesAll Serves longest l n lines lines text new
 
--- the one and then the other
+-- lines that a network is served alone, and then others, may be served as one sequence of lines
 abbrev pub LinesAloneInTurn : Type 0
 LinesAloneInTurn =
     (longest g : ℕ) (l now new : Live) (lines more : List Bytes) → RunsAlone longest g l lines now
     → RunsAlone longest g now more new → RunsAlone longest g l (lines ++ more) new
 
--- the lines of a network in a run are such lines
+-- the lines of a network in a run are lines that it is served alone
 abbrev pub OwnLinesRunAlone : Type 0
 OwnLinesRunAlone =
     (longest : ℕ) (bytes : Bool) (n : ℕ) (lines journal : List Bytes) (text : Bytes) (t : Live)

@@ -4,7 +4,7 @@ use Rattle.std.specs.Option.{option_or}
 use Rattle.types.specs.Trees.{Members, none, node, inner, Slices, member_count}
 use Rattle.protocol.specs.Weights.{Fraction}
 
--- all of it
+-- the weight 1/1: all of it
 abbrev pub whole : Fraction
 whole = record { numerator = 1; denominator = 1 }
 
@@ -18,6 +18,6 @@ share_in none u = None
 share_in (node w rest) u = if w == u then Some whole else share_in rest u
 share_in (inner k own rest) u = option_or (option_map (part_of k (member_count own)) (share_in own u)) (share_in rest u)
 
--- the same of a set
+-- the share of a name in a set: the product of its threshold's part and that of the inner set
 abbrev pub share_of : Slices → ℕ → Option Fraction
 share_of q u = option_map (part_of q.threshold (member_count q.members)) (share_in q.members u)

@@ -11,7 +11,7 @@ use Rattle.slot.specs.declared.filed.FiledOut.{FiledOut}
 use Rattle.slot.specs.declared.filed.GivenOut.{GivenOut}
 use Rattle.slot.specs.declared.filed.FiledOut.TheVariants.{ArmNomination, ArmBallot, Emit, Externalized}
 
--- the event, with the whole envelope
+-- an event of a node, with the whole envelope
 abbrev pub event_of : FiledEvent → NodeEvent
 event_of (Propose x) = NodeEvent.Propose x
 event_of (Take f) = NodeEvent.Take (sent_of f)
@@ -19,7 +19,7 @@ event_of (NominationTimer r) = NodeEvent.NominationTimer r
 event_of (BallotTimer n) = NodeEvent.BallotTimer n
 event_of (Reslice q) = NodeEvent.Reslice q
 
--- the archive has its envelope
+-- the archive has the envelope of an event, if there is one
 abbrev pub IsFiledEvent : Archived → FiledEvent → Type 0
 IsFiledEvent archive (Propose x) = ⊤
 IsFiledEvent archive (Take f) = IsFiled archive f
@@ -34,23 +34,26 @@ out_of (ArmBallot n) = Out.ArmBallot n
 out_of (Emit f) = Out.Emit (sent_of f)
 out_of (Externalized x) = Out.Externalized x
 
+-- all that is given out, with whole envelopes
 abbrev pub outs_of : List FiledOut → List Out
 outs_of os = map out_of os
 
--- the archive has its envelope, whose widths and rules are kept
+-- the archive has the envelope of what is given out, whose widths and rules are kept
 abbrev pub IsFiledOut : Archived → FiledOut → Type 0
 IsFiledOut archive (ArmNomination r) = ⊤
 IsFiledOut archive (ArmBallot n) = ⊤
 IsFiledOut archive (Emit f) = IsFiled archive f × IsEnvelope (sent_of f)
 IsFiledOut archive (Externalized x) = ⊤
 
+-- the archive has the envelopes of all that is given out, whose widths and rules are kept
 abbrev pub AreFiledOuts : Archived → List FiledOut → Type 0
 AreFiledOuts archive os = All (IsFiledOut archive) os
 
--- so many whole copies; of nothing none is made
+-- so many whole copies of outs; of nothing none is made
 abbrev pub copies_of : ℕ → List Out → List (List Out)
 copies_of count [] = []
 copies_of count (o ∷ os) = replicate count (o ∷ os)
 
+-- what is given out comes with so many whole copies, and with none if it is nothing
 abbrev pub HasCopies : ℕ → GivenOut → Type 0
 HasCopies count g = map (λ v. v.items) g.copies.items ≡ copies_of count (outs_of g.outs.items)

@@ -16,7 +16,7 @@ pub record Held : Type 0 where
   pub node : Node
   pub rows : List Filed
 
--- what a listener has, with inputs and votes
+-- the node that a listener is part of, with inputs and votes
 abbrev pub node_of : ListenerState → Inputs → Votes → Node
 node_of h inputs votes = node_from_parts h.configured inputs votes (sents_of h.table)
 

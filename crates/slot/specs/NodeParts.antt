@@ -15,17 +15,17 @@ use Rattle.protocol.specs.Limits.{ComesOfEvents}
 use Rattle.listening.specs.declared.configured.Configured.{Configured}
 use Rattle.slot.specs.declared.changes.Changed.{Changed}
 
--- who it is with its slices, its inputs, its votes, and the table
+-- a node of the definitions from the parts of the one in code: who it is, its inputs, its votes, and the table
 abbrev pub node_from_parts : Configured → Inputs → Votes → List Sent → Node
 node_from_parts c inputs votes table =
     record { name = c.name; slot = c.slot; slices = c.slices; inputs = inputs; votes = votes; table = table }
 
--- the inputs as a round begins with its leader
+-- the inputs of a node as a round begins with its leader
 abbrev pub inputs_in_round : Configured → Inputs → ℕ → Inputs
 inputs_in_round c inputs round =
     record inputs { round = round; leaders = inputs.leaders ++ leader c.slot round c.name c.slices ∷ [] }
 
--- a statement as the node sends it
+-- a statement as the node sends it: an envelope with its name, slot and slices
 abbrev pub sent_by : Configured → Statement → Sent
 sent_by c statement = record { sender = c.name; slot = c.slot; slices = c.slices; body = statement }
 
@@ -53,8 +53,8 @@ pub record IsChange (new : Node) : Type 0 where
   pub reached : ComesOfEvents before
   pub is : change before event ≡ Some new
 
--- the envelope is the node's own: it carries the node's name, its slot and the slices that are configured at this
--- moment, and it keeps the widths and the rules of an envelope
+-- the envelope is the node's own: it carries its name, its slot and its slices of the moment, and keeps the widths and
+-- rules
 pub record IsSentBy (n : Node) (e : Sent) : Type 0 where
   pub sender : e.sender ≡ n.name
   pub slot : e.slot ≡ n.slot

@@ -32,7 +32,7 @@ settled_by All own seen g w = settle_all own seen g w
 settled_by Ballots own seen g w = settle_ballots seen g w
 settled_by Nominations own seen g w = settle_nominations own seen g w
 
--- the other rules have nothing to do: these passes lead where whole ones lead
+-- passes that begin with some rules lead where whole ones lead, since the other rules have nothing to do
 abbrev pub Stirs : Stirred → ℕ → Seen → Inputs → Votes → Type 0
 Stirs stirred own seen g w = settled_by stirred own seen g w ≡ settle most_passes (pass own seen g) w
 
@@ -40,7 +40,7 @@ Stirs stirred own seen g w = settled_by stirred own seen g w ≡ settle most_pas
 abbrev pub StirsIn : Stirred → Node → Type 0
 StirsIn stirred n = Stirs stirred n.name (seen_by n) n.inputs n.votes
 
--- passes may start with these rules: the votes settle, and what is sent then is well formed
+-- passes may start with some rules: the votes settle, and what is sent then is well formed
 pub record IsStart (stirred : Stirred) (n : Node) : Type 0 where
   pub stirs : StirsIn stirred n
   pub settles : IsTrue (is_some (settle most_passes (after_pass n) n.votes))
@@ -52,7 +52,7 @@ IsStirred All c old e new = ⊤
 IsStirred Ballots c old e new = (kind_of e.body ≡ Kind.Ballot) × ReachesSame c.name c.slices old new
 IsStirred Nominations c old e new = (kind_of e.body ≡ Nomination) × ReachesSame c.name c.slices old new
 
--- what these rules go through is listed: values for nomination, ballots for balloting
+-- what some rules go through is listed: values for nomination, ballots for balloting
 abbrev pub is_listed : Stirred → KnownReach → Bool
 is_listed All k = is_some k.values && is_some k.ballots
 is_listed Ballots k = is_some k.ballots

@@ -39,7 +39,7 @@ abbrev pub Begins : List Bytes → Configured → Type 0
 Begins (word ∷ fields) c = (word ≡ codes "self") × AreOwn fields c
 Begins [] c = ⊥
 
--- the line asks about the ballot
+-- `ask COUNTER:VALUE`: the line asks whether quorums back the ballot
 abbrev pub Asks : List Bytes → Ballot → Type 0
 Asks fields b = (word : Bytes) × (fields ≡ codes "ask" ∷ word ∷ []) × (word_ballot word ≡ Some b)
 
@@ -76,7 +76,7 @@ pub data Backs (h : HeardRows) (b : Ballot) : Option Bytes → Type 0 where
   yes : IsBacked h b → Backs h b (Some (codes "yes"))
   no : ¬ IsBacked h b → Backs h b (Some (codes "no"))
 
--- what becomes of an envelope, in a word
+-- what becomes of an envelope that a listener hears, in a word
 pub data Takes (h : HeardRows) (e : Sent) : Option Bytes → HeardRows → Type 0 where
   replaced : e.slot ≡ h.configured.slot → is_taken h.rows e ≡ true
       → Takes h e (Some (codes "replaced")) (record h { rows = table_with_offer h.rows e })

@@ -30,7 +30,7 @@ abbrev pub IsVerdictOn : Option Log → Option Log → ℕ → ℕ → Verdict �
 IsVerdictOn one other i v verdict =
     verdicts.IsVerdict (nodes_in one) (nodes_in other) (entries_in one) (entries_in other) i v (defined_verdict verdict)
 
--- It is right of a network in two histories, whose bytes are read as the codec reads them.
+-- A verdict is right of a network in two histories, whose bytes are read as the codec reads them.
 abbrev pub IsVerdictBetween : History → History → ℕ → ℕ → ℕ → Verdict → Type 0
 IsVerdictBetween h k g i v verdict =
     verdicts.IsVerdict (nodes_of h.configs g) (nodes_of k.configs g) (entries reading h g) (entries reading k g) i v (defined_verdict verdict)

@@ -6,7 +6,7 @@ use Rattle.protocol.specs.Networks.{HostedNode}
 use Rattle.protocol.specs.Hosts.{Entry}
 use Rattle.protocol.specs.Isolation.{is_of, outs_of}
 
--- each of the names with its outs at the slot
+-- each of these names with what it gave out at the slot
 abbrev pub outs_of_each : ℕ → List Entry → List ℕ → List (ℕ × List Out)
 outs_of_each i run list = map (λ u. (u, outs_of i u run)) list
 

@@ -13,11 +13,11 @@ abbrev pub AreVerdictsOn : List Log → List Log → List Subject → List Verdi
 AreVerdictsOn one other subjects verdicts =
     AllZip (λ s r. IsVerdictOn (log_at one s.net) (log_at other s.net) s.slot s.node r) subjects verdicts
 
--- It is right of its network in two histories.
+-- There is one verdict a subject, and it is right of its network in two histories.
 abbrev pub AreVerdictsBetween : History → History → List Subject → List Verdict → Type 0
 AreVerdictsBetween h k subjects verdicts = AllZip (λ s r. IsVerdictBetween h k s.net s.slot s.node r) subjects verdicts
 
--- Each subject is isolated.
+-- Each subject is isolated: if both worlds have its cast and its kept steps, its members gave out the same.
 abbrev pub AreAllIsolated : List Log → List Log → List Subject → Type 0
 AreAllIsolated one other subjects =
     All (λ s. AreIsolated (log_at one s.net) (log_at other s.net) s.slot s.node) subjects

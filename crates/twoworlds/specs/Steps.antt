@@ -14,7 +14,7 @@ use Rattle.protocol.specs.Isolation.KeptStep.{Opening, Closing, EventAt, Hearing
 abbrev pub event_at : List Entry → ℕ → Option Step
 event_at run n = option_map (λ x. x.event) (slice_get run n)
 
--- the step concerns the members at the slot
+-- a step concerns the members at the slot, and so is kept
 abbrev pub is_kept : Names → ℕ → Step → Bool
 is_kept R i (Opens j) = j == i
 is_kept R i (Closes j) = j == i
@@ -26,12 +26,12 @@ is_kept R i (NominationTimerFires j u r) = (j == i) && R u
 is_kept R i (BallotTimerFires j u n) = (j == i) && R u
 is_kept R i (Reslices j u q) = (j == i) && R u
 
--- and there is such a step
+-- there is a step, and it is kept
 abbrev pub is_kept_in : Names → ℕ → Option Step → Bool
 is_kept_in R i None = false
 is_kept_in R i (Some s) = is_kept R i s
 
--- what is kept of a step that is
+-- what is kept of a step that concerns the members
 abbrev pub core : Step → KeptStep
 core (Opens j) = Opening
 core (Closes j) = Closing
@@ -43,10 +43,11 @@ core (NominationTimerFires j u r) = EventAt u (NominationTimer r)
 core (BallotTimerFires j u n) = EventAt u (BallotTimer n)
 core (Reslices j u q) = EventAt u (Reslice q)
 
--- the node of a step at the slot
+-- a node, where its step is at the slot
 abbrev pub at_slot : Bool → ℕ → Option ℕ
 at_slot b u = if b then Some u else None
 
+-- the node of a step at the slot; none of an opening or closing, or at another slot
 abbrev pub node_of : ℕ → Step → Option ℕ
 node_of i (Opens j) = None
 node_of i (Closes j) = None
@@ -58,7 +59,7 @@ node_of i (NominationTimerFires j u r) = at_slot (j == i) u
 node_of i (BallotTimerFires j u n) = at_slot (j == i) u
 node_of i (Reslices j u q) = at_slot (j == i) u
 
--- where there is a step
+-- the node of a step at the slot, where there is a step
 abbrev pub node_in : ℕ → Option Step → Option ℕ
 node_in i None = None
 node_in i (Some s) = node_of i s

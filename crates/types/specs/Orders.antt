@@ -5,10 +5,10 @@ use Rattle.std.specs.Ordering.{nat_cmp, on, then_cmp}
 use Rattle.std.specs.Cmp.Lexicographic.{slice_cmp}
 use Rattle.types.specs.declared.ballot.Ballot.{Ballot}
 
--- bytes, from the left
+-- the order of bytes: from the left, byte by byte
 abbrev pub bytes_cmp : List ℕ → List ℕ → Ordering
 bytes_cmp = slice_cmp nat_cmp
 
--- counter, then value
+-- the order of ballots: by counter, then by value
 abbrev pub ballot_cmp : Ballot → Ballot → Ordering
 ballot_cmp = then_cmp (on (λ b. b.counter) nat_cmp) (on (λ b. b.value) bytes_cmp)

@@ -4,6 +4,7 @@ use Rattle.types.specs.Trees.{Members, none, node, inner}
 use Rattle.types.specs.declared.nested.Member.{Member}
 use Rattle.types.specs.declared.nested.Member.TheVariants.{Node, Set}
 
+-- the members of a set in code, as the definitions have them
 abbrev pub members_of : List Member → Members
 members_of [] = none
 members_of (Node u ∷ rest) = node u (members_of rest)

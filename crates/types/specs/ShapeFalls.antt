@@ -8,6 +8,7 @@ use Rattle.types.specs.declared.nested.Member.{Member}
 use Rattle.types.specs.declared.nested.Member.TheVariants.{Node, Set}
 use Rattle.types.specs.declared.nested.SliceSet.TheDeep.{deep-Member}
 
+-- a law: each inner set weighs less than the set that holds it, so a walk into sets ends
 pub most_le : (ms : List Member) → most deep-Member ms ≤ weight_of (members_of ms)
 most_le [] = omega arith
 most_le (Node u ∷ rest) = omega (arith, most_le rest)

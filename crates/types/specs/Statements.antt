@@ -19,11 +19,12 @@ kind_of (Commit b p h c) = Kind.Ballot
 kind_of (Externalize b h) = Kind.Ballot
 
 -- ---- the widths of fields
+-- a ballot's counter is below 2^32, and its value has 1 to 256 bytes
 pub record IsBallot (b : Ballot) : Type 0 where
   pub counter : b.counter < 2 ^ 32
   pub value : IsValue b.value
 
--- each field fits where it is kept
+-- each number and each value of a statement fits where it is kept
 abbrev pub HasWidths : Statement → Type 0
 HasWidths (Nominate voted accepted) = AllByRecursion IsValue voted × AllByRecursion IsValue accepted
 HasWidths (Prepare b p a h c) = IsBallot b × IfSome p IsBallot × (a < 2 ^ 32) × (h < 2 ^ 32) × (c < 2 ^ 32)
@@ -55,6 +56,7 @@ pub record IsExternalize (commit : Ballot) (h : ℕ) : Type 0 where
   pub counted : 1 ≤ commit.counter
   pub ordered : commit.counter ≤ h
 
+-- a statement keeps the rules of its kind
 abbrev pub IsWellFormed : Statement → Type 0
 IsWellFormed (Nominate voted accepted) = IsNomination voted accepted
 IsWellFormed (Prepare ballot prepared a h c) = IsPrepare ballot prepared a h c
@@ -69,7 +71,7 @@ pub record Sent : Type 0 where
   pub slices : Slices
   pub body : Statement
 
--- its parts have their widths, and its slices and its statement keep their rules
+-- an envelope's parts have their widths, and its slices and its statement keep their rules
 pub record IsEnvelope (e : Sent) : Type 0 where
   pub sender : IsName e.sender
   pub slot : e.slot < 2 ^ 64
@@ -78,10 +80,12 @@ pub record IsEnvelope (e : Sent) : Type 0 where
   pub rules : IsWellFormed e.body
 
 -- ---- the rules as tests
+-- the ballot that may be missing is not above the other one
 abbrev pub is_up_to : Option Ballot → Ballot → Bool
 is_up_to None b = true
 is_up_to (Some a) b = not (is_gt (ballot_cmp a b))
 
+-- a statement keeps the rules of its kind, as a test
 abbrev pub is_well_formed : Statement → Bool
 is_well_formed (Nominate voted accepted) =
     is_nomination_set voted && (is_nomination_set accepted && nat_lt 0 (length voted + length accepted))

@@ -10,7 +10,7 @@ pub data Members : Type 0 where
   node : ℕ → Members → Members
   inner : ℕ → Members → Members → Members
 
--- a set: a threshold over its members
+-- slices: a threshold over members, each of which is a name or an inner set
 pub record Slices : Type 0 where
   pub threshold : ℕ
   pub members : Members
@@ -21,19 +21,19 @@ member_count none = 0
 member_count (node u rest) = 1 + member_count rest
 member_count (inner k own rest) = 1 + member_count rest
 
--- all names of the tree, in order, as often as they stand in it
+-- all names of a tree, in order, as often as they stand in it
 abbrev pub names_in : Members → List ℕ
 names_in none = []
 names_in (node u rest) = u ∷ names_in rest
 names_in (inner k own rest) = names_in own ++ names_in rest
 
--- how many levels of inner sets there are
+-- how many levels of inner sets a tree has
 abbrev pub depth_of : Members → ℕ
 depth_of none = 0
 depth_of (node u rest) = depth_of rest
 depth_of (inner k own rest) = max (1 + depth_of own) (depth_of rest)
 
--- how many members and ends there are in all
+-- how many members and ends a tree has in all
 abbrev pub weight_of : Members → ℕ
 weight_of none = 1
 weight_of (node u rest) = 1 + weight_of rest
@@ -46,26 +46,26 @@ most_members = 64
 abbrev pub most_names : ℕ
 most_names = 256
 
--- of inner sets
+-- the most levels of inner sets: 8
 abbrev pub most_levels : ℕ
 most_levels = 8
 
 -- ---- the rules
--- a name is a number of 32 bytes
+-- a name is a number below 2^256: 32 bytes
 abbrev pub IsName : ℕ → Type 0
 IsName u = u < 2 ^ 256
 
--- 1 <= k <= n <= 64
+-- a threshold of at least 1 and at most the number of members, of which there are at most 64
 abbrev pub HasThreshold : ℕ → Members → Type 0
 HasThreshold k ms = (0 < k) × (k ≤ member_count ms) × (member_count ms ≤ most_members)
 
--- the same of each inner set
+-- each inner set has a threshold and members within the limits
 abbrev pub HaveThresholds : Members → Type 0
 HaveThresholds none = Unit {0}
 HaveThresholds (node u rest) = HaveThresholds rest
 HaveThresholds (inner k own rest) = HasThreshold k own × HaveThresholds own × HaveThresholds rest
 
--- at each level at most 64 members and a threshold within them, eight inner levels, 256 names, and no name twice
+-- slices that keep the rules: thresholds within their sets of at most 64, eight inner levels, 256 names, none twice
 pub record IsNested (q : Slices) : Type 0 where
   pub outer : HasThreshold q.threshold q.members
   pub inner_sets : HaveThresholds q.members
@@ -120,37 +120,40 @@ pub members_from-tokens_of : (m : Members) → members_from (tokens_of m) ≡ m
 members_from-tokens_of m =
     ap (λ (p : Members × List Token). p.0) (members-again m (length (tokens_of m)) [] (omega (arith, length-tokens m [])))
 
+-- members are told apart by lists of numbers, so it is decided whether two are equal
 abbrev pub members_code : Coded Members
 members_code = code_by (List Token) (coded_list (coded× coded_ℕ coded_ℕ)) tokens_of members_from members_from-tokens_of
 
+-- slices are told apart by their threshold and members, so it is decided whether two are equal
 abbrev pub slices_code : Coded Slices
 slices_code =
     code_by (ℕ × Members) (coded× coded_ℕ members_code) (λ s. (s.threshold, s.members)) (λ p. record { threshold = p.0; members = p.1 }) (λ _. refl)
 
 -- ---- the rules as tests
+-- a threshold of at least 1 and at most the number of members, of which there are at most 64, as a test
 abbrev pub has_threshold : ℕ → Members → Bool
 has_threshold k ms = nat_lt 0 k && (nat_le k (member_count ms) && nat_le (member_count ms) most_members)
 
--- the inner sets have their thresholds, and no more levels than so many
+-- the inner sets have their thresholds, and no more levels than so many, as a test
 abbrev pub is_shaped : ℕ → Members → Bool
 is_shaped levels none = true
 is_shaped levels (node u rest) = is_shaped levels rest
 is_shaped zero (inner k own rest) = false
 is_shaped (suc levels) (inner k own rest) = has_threshold k own && (is_shaped levels own && is_shaped (suc levels) rest)
 
--- no more levels of inner sets than so many
+-- there are no more levels of inner sets than so many, as a test
 abbrev pub has_levels : ℕ → Members → Bool
 has_levels levels none = true
 has_levels levels (node u rest) = has_levels levels rest
 has_levels zero (inner k own rest) = false
 has_levels (suc levels) (inner k own rest) = has_levels levels own && has_levels (suc levels) rest
 
--- no name stands twice
+-- no name of the list stands twice
 abbrev pub all_differ : List ℕ → Bool
 all_differ [] = true
 all_differ (u ∷ us) = not (list_any (λ w. w == u) us) && all_differ us
 
--- each name is below the next
+-- each name of the list is below the next
 abbrev pub rises : List ℕ → Bool
 rises [] = true
 rises (u ∷ []) = true

@@ -10,5 +10,6 @@ act_of (deed.Wrote bytes) = Wrote bytes.items
 act_of deed.Synced = Synced
 act_of (deed.Told bytes) = Told bytes.items
 
+-- what a test's file was told to do, as acts
 abbrev pub acts_of : List Deed → List Act
 acts_of deeds = map act_of deeds

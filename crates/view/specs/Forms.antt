@@ -30,7 +30,7 @@ pub record ArePart (us : List ℕ) (slices_at : ℕ → Option Slices) (fs : Lis
   pub agreed : AreAgreed fs
   pub below : AreBelow (length fs) fs
 
--- the form stands in the list at the place of a node with these slices
+-- a form stands in the list at the place of a node with these slices
 pub record IsTwin (us : List ℕ) (slices_at : ℕ → Option Slices) (fs : List (Option Numbered)) (q : Slices)
     (f : Numbered) : Type 0 where
   pub place : ℕ
@@ -43,7 +43,7 @@ pub record IsTwin (us : List ℕ) (slices_at : ℕ → Option Slices) (fs : List
 abbrev pub IsFound : List ℕ → (ℕ → Option Slices) → List (Option Numbered) → ℕ → Slices → Numbered → Type 0
 IsFound us slices_at fs n q f = IsTwin us slices_at fs q f ⊎ ((f.number ≡ n) × IsCompiled false us q f.set)
 
--- the same where the slices of a new one name these nodes alone
+-- the form of these slices is one of the list, or a new one of this number whose slices name these nodes alone
 abbrev pub IsFoundWithin : List ℕ → (ℕ → Option Slices) → List (Option Numbered) → ℕ → Slices → Numbered → Type 0
 IsFoundWithin us slices_at fs n q f =
     IsTwin us slices_at fs q f ⊎ ((f.number ≡ n) × IsCompiled false us q f.set × IsTrue (within (names q) (among us)))
@@ -76,11 +76,12 @@ pub record IsFormer (all : List ℕ) (slices_at : ℕ → Option Slices) (us : L
   pub within : NameWithinBut sender us slices_at
   pub closed : NamesWithin names slices_at (among all)
 
--- so it is with these
+-- some nodes of a region have these forms, of their slices, which name no others, but for those of one; and their
+-- places among all
 abbrev pub IsFormerOf : List ℕ → (ℕ → Option Slices) → Former → Type 0
 IsFormerOf all slices_at f = IsFormer all slices_at f.nodes.now f.forms.now f.places.now f.sender.now
 
--- the form is that of a node, another than that one
+-- the form of a node of a former region, of another node than the one that is left out
 pub record IsFormOf (f : Former) (u : ℕ) (form : Numbered) : Type 0 where
   pub place : ℕ
   pub inside : place < length f.nodes.now

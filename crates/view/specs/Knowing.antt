@@ -27,7 +27,7 @@ pub record AreBallotsOf (own : ℕ) (table : List Sent) (nodes : List ℕ) (b : 
 abbrev pub AreValuesOf : ℕ → List Sent → List ℕ → List (List ℕ) → Type 0
 AreValuesOf own table nodes values = values ≡ values_in (rows_of_others own Nomination table nodes)
 
--- the ballots of which rows speak in this way
+-- the ballots that are listed of those of which rows speak in one way
 abbrev pub listed_as : Mention → ReachedBallots → List Ballot
 listed_as Named b = b.named
 listed_as Committed b = b.committed
@@ -38,7 +38,7 @@ AreSearched own kind table nodes b =
     FindsAsAmong b.named (named_in (rows_of_others own kind table nodes))
     × FindsAsAmong b.committed (committed_in (rows_of_others own kind table nodes))
 
--- the region of a node, and the ballots and nominated values in it where they are listed
+-- what is known of a node's reach: its region, and its ballots and nominated values where they are listed
 pub record IsKnown (own : ℕ) (configured : Slices) (table : List Sent) (k : KnownReach) : Type 0 where
   pub region : IsRegion own configured table k.region
   pub ballots : IfSome k.ballots (AreBallotsOf own table k.region.nodes.items)
@@ -55,11 +55,11 @@ pub record IsTaken (old new : List Sent) (e : Sent) (before : Option Sent) : Typ
 abbrev pub is_of_another : ℕ → List ℕ → Sent → Bool
 is_of_another own nodes e = not (own == e.sender) && among nodes e.sender
 
--- and of this kind
+-- an envelope is of one of these nodes, another than this one, and of one kind
 abbrev pub is_heard : Kind → ℕ → List ℕ → Sent → Bool
 is_heard kind own nodes e = is_kind kind (kind_of e.body) && is_of_another own nodes e
 
--- a table took such an envelope of ballots: what it says, and what the row before it said
+-- a table took an envelope of ballots of another of the nodes: what it says, and what the row before it said
 pub record IsHeard (own : ℕ) (nodes : List ℕ) (old new : List Sent) (now : Statement) (before : Option Statement)
     : Type 0 where
   pub envelope : Sent

@@ -10,7 +10,7 @@ use Rattle.fedvote.specs.Searching.{is_under, next_under}
 abbrev pub IsDescending : List Ballot → Type 0
 IsDescending ts = (i j : ℕ) (d : Ballot) → i < j → j < length ts → below (get_or ts j d) (get_or ts i d) ≡ true
 
--- listed are these ballots and no others
+-- a list has these ballots and no others
 abbrev pub AreListed : List Ballot → List Ballot → Type 0
 AreListed listed ts = (t : Ballot) → Contains listed t ↔ Contains ts t
 
@@ -19,7 +19,7 @@ abbrev pub AreLeft : List Ballot → List Ballot → List Ballot → List Ballot
 AreLeft staying going old new =
     (t : Ballot) → Contains new t ↔ (Contains old t × (Contains staying t ⊎ (Contains going t → ⊥)))
 
--- whether a ballot is one of these
+-- a ballot is one of these
 abbrev pub is_one_of : List Ballot → Ballot → Bool
 is_one_of [] t = false
 is_one_of (s ∷ ts) t = same_ballot s t || is_one_of ts t
@@ -28,7 +28,7 @@ is_one_of (s ∷ ts) t = same_ballot s t || is_one_of ts t
 abbrev pub FindsAsAmong : List Ballot → List Ballot → Type 0
 FindsAsAmong listed ts = (bound : Option Ballot) → next_under bound listed ≡ next_under bound ts
 
--- the place in a list at which those begin that are below the bound, where there is one
+-- the place in a list of ballots at which those begin that are below the bound, where there is one
 pub record IsPlaceUnder (bound : Option Ballot) (ts : List Ballot) (place : ℕ) : Type 0 where
   pub within : place ≤ length ts
   pub before : (i : ℕ) (d : Ballot) → i < place → is_under bound (get_or ts i d) ≡ false

@@ -29,7 +29,7 @@ use Rattle.view.specs.declared.region.Region.{Region}
 abbrev pub row_places : List Sent → Kind → List ℕ → List (Option ℕ)
 row_places table kind nodes = map (λ u. place_of_row table u kind) nodes
 
--- the places of a kind
+-- the places of rows of a kind, as they are found
 abbrev pub places_of_kind : Kind → KindPlaces → List (Option ℕ)
 places_of_kind Nomination p = p.nominations.items
 places_of_kind Kind.Ballot p = p.ballots.items
@@ -39,17 +39,17 @@ pub record AreRowPlaces (table : List Sent) (nodes : List ℕ) (p : KindPlaces) 
   pub ballots : p.ballots.items ≡ row_places table Kind.Ballot nodes
   pub nominations : p.nominations.items ≡ row_places table Nomination nodes
 
--- these are the nodes that the node reaches, and the places of their rows
+-- the nodes that a node reaches, and the places of their rows
 pub record IsPlaced (own : ℕ) (configured : Slices) (table : List Sent) (p : Placed) : Type 0 where
   pub reach : IsReach own configured table p.nodes.items
   pub rows : AreRowPlaces table p.nodes.items p.rows
 
--- the places of a kind that a region keeps
+-- the places of rows of a kind that a region keeps
 abbrev pub rows_of : Kind → Region → List (Option ℕ)
 rows_of Nomination r = r.nomination_rows.items
 rows_of Kind.Ballot r = r.ballot_rows.items
 
--- the forms of a kind
+-- the forms of a kind that a region keeps
 abbrev pub forms_of : Kind → Region → List (Option Numbered)
 forms_of Nomination r = r.nominations.items
 forms_of Kind.Ballot r = r.ballots.items
@@ -105,13 +105,13 @@ pub record IsKeptRegion (own : ℕ) (configured : Slices) (table : List Sent) (s
   pub ballot_rows : ArePlacesBut sender table Kind.Ballot r.nodes.items r.ballot_rows.items
   pub nomination_rows : ArePlacesBut sender table Nomination r.nodes.items r.nomination_rows.items
 
--- a wider reach is that of these nodes, and of those to whom the sender's rows lead
+-- of which extent a reach is: a wider one is that of these nodes, and of those to whom the sender's rows lead
 abbrev pub IsOfExtent : ℕ → Slices → List Sent → ℕ → List ℕ → Extent → Type 0
 IsOfExtent own configured table sender nodes Wider = IsNarrow own configured table sender nodes
 IsOfExtent own configured table sender nodes Other = ⊤
 
--- a region of other nodes: where its nodes stand among all, and their slices, compiled, which name none but these; but
--- for one of them
+-- a region of other nodes: where its nodes stand among all, and the forms of their slices, which name none but these;
+-- but for those of one node
 pub record IsFormerRegion (own : ℕ) (configured : Slices) (table : List Sent) (nodes : List ℕ) (f : FormerRegion)
     : Type 0 where
   pub ballots : IsFormer nodes (slices_by own configured table Kind.Ballot) f.region.now.nodes.items f.region.now.ballots.items f.places.now f.sender.now

@@ -24,13 +24,12 @@ ArePlaces table kind nodes places =
 abbrev pub rows_at : Kind → List Sent → List ℕ → List (Option Sent)
 rows_at kind table nodes = map (λ u. row table u kind) nodes
 
--- whether the node at a place passes a test: the one at the own place where its position does, another where its row
--- does
+-- whether the node at a place passes a test: the node itself where its position does, another where its row does
 abbrev pub passes_at : RowsOfNodes → ℕ → Bool → (Statement → Bool) → ℕ → Bool
 passes_at rows own_place own_passes test i =
     passing_with (get_or rows.nodes own_place 0) rows.table rows.kind own_passes test (get_or rows.nodes i 0)
 
--- the same where there is a node at the place: at none other a test is passed
+-- a node stands at the place among the reached ones, and passes the test
 abbrev pub passes_within : RowsOfNodes → ℕ → Bool → (Statement → Bool) → ℕ → Bool
 passes_within rows own_place own_passes test i =
     nat_lt i (length rows.nodes) && passes_at rows own_place own_passes test i
@@ -44,7 +43,7 @@ row_where table (Some i) = slice_get table i
 abbrev pub rows_by : Kind → List Sent → List ℕ → List Statement
 rows_by kind table nodes = filter_map (λ u. option_map (λ e. e.body) (row table u kind)) nodes
 
--- what an envelope says, where it is another node's
+-- what an envelope says, where it is of another node than this one
 abbrev pub said_by_another : ℕ → Option Sent → Option Statement
 said_by_another own None = None
 said_by_another own (Some e) = if own == e.sender then None else Some e.body
@@ -57,7 +56,7 @@ rows_of_others own kind table nodes = filter_map (λ u. said_by_another own (row
 abbrev pub values_in : List Statement → List (List ℕ)
 values_in statements = as_set (flat_map values_by statements)
 
--- the lesser of two numbers, where there are two
+-- the lesser of two numbers, where there are two, else the one
 abbrev pub lesser_of : Option ℕ → Option ℕ → Option ℕ
 lesser_of None o = o
 lesser_of (Some k) o = lesser k o

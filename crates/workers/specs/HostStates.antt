@@ -5,19 +5,20 @@ use Rattle.cells.specs.Sights.{SeatSight}
 use Rattle.workers.specs.declared.deal.SpareSeats.{SpareSeats}
 use Rattle.workers.specs.declared.host_state.HostState.{HostState}
 
+-- nothing has changed: the networks, their seats and the queue are the same
 pub record IsSameHostState {S H P : Type 0} (a b : (HostState S H P)) : Type 0 where
   pub numbers : b.shared.numbers.items ≡ a.shared.numbers.items
   pub cells : b.shared.cells.items ≡ a.shared.cells.items
   pub spares : b.spares.items ≡ a.spares.items
   pub queue : b.shared.queue ≡ a.shared.queue
 
--- for one network more
+-- there is room for one network more
 pub record HasRoom {S H P : Type 0} (f : (HostState S H P)) : Type 0 where
   pub numbers : vec_len f.shared.numbers < vec_capacity f.shared.numbers
   pub cells : vec_len f.shared.cells < vec_capacity f.shared.cells
   pub spares : vec_len f.spares < vec_capacity f.spares
 
--- a network stands at the place
+-- a network stands at the place, and all else is as it was
 pub record IsPut {S H P : Type 0} (a : (HostState S H P)) (place : ℕ) (c : CellSight) (seats : List SeatSight)
     (b : (HostState S H P)) : Type 0 where
   pub numbers : b.shared.numbers.items ≡ insert a.shared.numbers.items place c.config.number
@@ -27,7 +28,7 @@ pub record IsPut {S H P : Type 0} (a : (HostState S H P)) (place : ℕ) (c : Cel
   pub spares : b.spares.items ≡ insert a.spares.items place spare
   pub queue : b.shared.queue ≡ a.shared.queue
 
--- the last network is gone
+-- the last network is gone, and all else is as it was
 pub record IsRemoved {S H P : Type 0} (a : (HostState S H P)) (c : CellSight) (seats : List SeatSight)
     (b : (HostState S H P)) : Type 0 where
   pub number : ℕ
@@ -38,7 +39,7 @@ pub record IsRemoved {S H P : Type 0} (a : (HostState S H P)) (c : CellSight) (s
   pub spares : a.spares.items ≡ b.spares.items ++ spare ∷ []
   pub queue : b.shared.queue ≡ a.shared.queue
 
--- the first so many networks, with the queue, and the others
+-- the networks in two parts: the first so many, with the queue, and the others
 pub record AreParts {S H P : Type 0} (a : (HostState S H P)) (count : ℕ) (b c : (HostState S H P)) : Type 0 where
   pub first_numbers : b.shared.numbers.items ≡ take count a.shared.numbers.items
   pub first_cells : b.shared.cells.items ≡ take count a.shared.cells.items

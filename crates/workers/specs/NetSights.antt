@@ -2,7 +2,7 @@
 use Rattle.std.specs.Prelude.{List}
 use Rattle.cells.specs.Sights.{CellSight, SeatSight}
 
--- a network: its cell, and its seats
+-- what is seen of a network of the host: its cell, and its seats
 pub record Net : Type 0 where
   pub cell : CellSight
   pub seats : List SeatSight

@@ -20,12 +20,13 @@ use Rattle.workers.specs.declared.running.Report.{Report}
 abbrev pub net_number : Net → ℕ
 net_number n = n.cell.config.number
 
+-- the networks of a host, by their cells and their seats
 abbrev pub nets_of : {S H P : Type 0} → List CellSight → List (SpareSeats S H P) → List Net
 nets_of [] bs = []
 nets_of (c ∷ cs) [] = []
 nets_of (c ∷ cs) (b ∷ bs) = record { cell = c; seats = b.seats.items } ∷ nets_of cs bs
 
--- the cells in their order, with all seats, at most 4,096, and no queue
+-- what a host keeps: the cells in their order, with all seats, at most 4,096, and no queue
 pub record IsHostState {S H P : Type 0} (f : (HostState S H P)) : Type 0 where
   pub numbered : IsNumbered f.shared.numbers.items f.shared.cells.items
   pub hosted : AllHosted f.shared.cells.items f.spares.items
@@ -42,12 +43,12 @@ abbrev pub NoNet : List Net → ℕ → Type 0
 NoNet [] number = Unit {0}
 NoNet (n ∷ ns) number = (number ≢ net_number n) × NoNet ns number
 
--- each other network has a lesser number
+-- each other network has a lesser number than this one
 abbrev pub IsGreatest : Net → List Net → Type 0
 IsGreatest n [] = Unit {0}
 IsGreatest n (m ∷ ms) = (net_number m < net_number n) × IsGreatest n ms
 
--- the network's journal is one history of its seats
+-- the journal of a network is one history of its seats
 pub record IsClosedNet (n : Net) (j : Log) (ss : List SeatSight) : Type 0 where
   pub config : j.config ≡ n.cell.config
   pub seats : ss ≡ map ended_sight n.seats

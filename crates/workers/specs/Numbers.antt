@@ -19,7 +19,7 @@ IsRising (x ∷ xs) = AllAbove x xs × IsRising xs
 abbrev pub IsNumbered : List ℕ → List CellSight → Type 0
 IsNumbered numbers cells = (numbers ≡ map number_of cells) × IsRising numbers
 
--- the number of the cell there
+-- the number of the cell at a place
 abbrev pub IsNumberAt : List CellSight → ℕ → ℕ → Type 0
 IsNumberAt cells k number = (d : CellSight) → (slice_index_or cells k d).config.number ≡ number
 

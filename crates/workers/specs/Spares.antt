@@ -42,7 +42,7 @@ pub record IsWorkerRoom {S H P : Type 0} (workers cells : ℕ) (c : (WorkerRoom 
   pub none : c.workers.items ≡ []
   pub room : workers ≤ vec_capacity c.workers
 
--- the last spare seat is a walk's, at its place behind all its receipts
+-- a walk was dealt the last spare seat of a cell, at its place behind all its receipts
 pub record IsDealtSeat {S H P : Type 0} (a : (SpareSeats S H P)) (w : (Walk S H P)) (b : (SpareSeats S H P))
     : Type 0 where
   pub seats : a.seats.items ≡ b.seats.items ++ w.seat ∷ []
@@ -50,7 +50,7 @@ pub record IsDealtSeat {S H P : Type 0} (a : (SpareSeats S H P)) (w : (Walk S H 
   pub capacity : vec_capacity b.seats ≡ vec_capacity a.seats
   pub room : length b.seats.items < vec_capacity b.seats
 
--- the last spare seat of each cell is a walk's
+-- each walk was dealt the last spare seat of its cell
 abbrev pub IsDealt : {S H P : Type 0} → List (SpareSeats S H P) → List (Walk S H P) → List (SpareSeats S H P) → Type 0
 IsDealt [] [] [] = Unit {0}
 IsDealt [] [] (b ∷ bs) = ⊥
@@ -72,6 +72,7 @@ pub record IsGivenSeat {S H P : Type 0} (a : (SpareSeats S H P)) (w : (Walk S H 
   pub seats : b.seats.items ≡ a.seats.items ++ w.seat ∷ []
   pub capacity : vec_capacity b.seats ≡ vec_capacity a.seats
 
+-- each walk gave its seat back, as the last spare one of its cell
 abbrev pub IsGiven : {S H P : Type 0} → List (SpareSeats S H P) → List (Walk S H P) → List (SpareSeats S H P) → Type 0
 IsGiven [] [] [] = Unit {0}
 IsGiven [] [] (b ∷ bs) = ⊥
@@ -80,7 +81,7 @@ IsGiven (a ∷ xs) [] bs = ⊥
 IsGiven (a ∷ xs) (w ∷ ws) [] = ⊥
 IsGiven (a ∷ xs) (w ∷ ws) (b ∷ ys) = IsGivenSeat a w b × IsGiven xs ws ys
 
--- nothing was counted yet
+-- no worker has counted anything yet
 abbrev pub AllFresh : {S H P : Type 0} → List (Worker S H P) → Type 0
 AllFresh ws = All (λ (w : Worker _ _ _). (w.applied ≡ 0) × (w.refused ≡ 0)) ws
 
@@ -100,6 +101,7 @@ pub record IsSplit {S H P : Type 0} (before : List (Pass Job Hand)) (ws : List (
 abbrev pub AllGrown : List SeatSight → List SeatSight → Type 0
 AllGrown xs ys = AllZip IsLater xs ys
 
+-- the spare seats have gained receipts and denials, and there is as much room as before
 abbrev pub AllGrownSpares : {S H P : Type 0} → List (SpareSeats S H P) → List (SpareSeats S H P) → Type 0
 AllGrownSpares xs ys =
     AllZip (λ (a b : SpareSeats _ _ _). AllGrown a.seats.items b.seats.items × (vec_capacity b.seats ≡ vec_capacity a.seats)) xs ys
@@ -110,6 +112,7 @@ pub record IsHosted (c : CellSight) (seats : List SeatSight) : Type 0 where
   pub some : 0 < c.seats
   pub all : (k : ℕ) → k < c.seats → HasNumber seats k
 
+-- all seats of each cell are there, and no others
 abbrev pub AllHosted : {S H P : Type 0} → List CellSight → List (SpareSeats S H P) → Type 0
 AllHosted cs bs = AllZip (λ (c : CellSight) (b : SpareSeats _ _ _). IsHosted c b.seats.items) cs bs
 
@@ -121,14 +124,14 @@ on_spares f bs = weigh (λ (b : (SpareSeats _ _ _)). weigh f b.seats.items) bs
 abbrev pub at_work : {S H P : Type 0} → (SeatSight → ℕ) → List (Worker S H P) → ℕ
 at_work f ws = weigh (λ (w : (Worker _ _ _)). weigh (λ (v : (Walk _ _ _)). f v.seat) w.walks.items) ws
 
--- what the workers counted
+-- a report has what the workers counted
 pub record IsCounted {S H P : Type 0} (ws : List (Worker S H P)) (r : Report) : Type 0 where
   pub applied : r.applied ≡ weigh applied_by ws
   pub refused : r.refused ≡ weigh refused_by ws
   pub unrun : r.unrun ≡ 0
 
--- the seats before and after: what came in and what they were made to hear is what they did, what went out, and what
--- lies elsewhere
+-- the sum of the seats before and after: what came in and what they were made to hear is what they did, what went out,
+-- and what lies elsewhere
 pub record IsWorked {S H P : Type 0} (cells : List CellSight) (xs ys : List (SpareSeats S H P))
     (came went : (Job → ℕ) → ℕ) (r : Report) : Type 0 where
   pub lacking : List Job

@@ -28,16 +28,16 @@ use Rattle.workers.specs.declared.worker.Worker.{Worker}
 abbrev pub job : ℕ → Event → Job
 job network event = record { network = network; event = event }
 
--- the job by which a node hears an emission, if it is not its own
+-- the job by which a node hears an emission; none for the node whose it is
 abbrev pub hear_by : SlotEmission → HostedNode → List Job
 hear_by e h = if h.name == e.from then [] else job e.network (Hear e.slot h.name e.from e.kind e.number) ∷ []
 
--- one job for each other node that is hosted
+-- the jobs by which an emission is heard: one for each other node that is hosted
 abbrev pub hears_of : SlotEmission → List HostedNode → List Job
 hears_of e [] = []
 hears_of e (h ∷ hs) = hear_by e h ++ hears_of e hs
 
--- the emission that an out is, with its mark
+-- the emission of what was given out, by its mark; none of anything else
 abbrev pub emission_in : ℕ → Out → Option ℕ → Option SlotEmission
 emission_in network (ArmNomination r) m = None
 emission_in network (ArmBallot n) m = None
@@ -100,6 +100,7 @@ applied_many w = seat_applied w.seat
 abbrev pub refused_many : {S H P : Type 0} → (Walk S H P) → ℕ
 refused_many w = seat_refused w.seat
 
+-- what a worker's pass, if it has one, has put and taken
 abbrev pub hand_of : Option (Pass Job Hand) → Hand
 hand_of None = hand 0 [] []
 hand_of (Some p) = view p
@@ -107,10 +108,11 @@ hand_of (Some p) = view p
 abbrev pub with_put : Hand → Job → Hand
 with_put p j = hand p.parts (p.put ++ j ∷ []) p.taken
 
+-- what a pass has with one job more that was taken
 abbrev pub with_taken : Hand → Job → Hand
 with_taken p j = hand p.parts p.put (p.taken ++ j ∷ [])
 
--- a seat of this cell, and a place in its receipts
+-- a walk at a cell: a seat of it, and a place in its receipts
 abbrev pub IsWalk : {S H P : Type 0} → CellSight → (Walk S H P) → Type 0
 IsWalk c w = IsSeatOf c w.seat × (w.place ≤ length w.seat.me.receipts)
 
@@ -147,7 +149,7 @@ AllPast ws = All IsPast ws
 abbrev pub AllPastBut : {S H P : Type 0} → ℕ → List (Walk S H P) → Type 0
 AllPastBut k ws = (i : ℕ) (d : (Walk _ _ _)) → i ≢ k → i < length ws → IsPast (slice_index_or ws i d)
 
--- one job more is done by a seat
+-- a seat has done one job more: applied or refused it
 pub record IsDone {S H P : Type 0} (a b : (Walk S H P)) (j : Job) (well : Bool) : Type 0 where
   pub later : IsLater a.seat b.seat
   pub place : b.place ≡ a.place
@@ -201,13 +203,13 @@ IsPassing q None = Unit {0}
 IsPassing None (Some p) = ⊥
 IsPassing (Some q) (Some p) = IsOf q p
 
--- between two jobs: a seat in each cell, all receipts were gone through, and a pass
+-- a worker between two jobs: it has a seat in each cell, and has gone through all receipts
 pub record IsReady {S H P : Type 0} (cells : List CellSight) (queue : Option Queue) (w : (Worker S H P)) : Type 0 where
   pub seated : AllSeated cells w.walks.items
   pub passing : IsPassing queue w.pass
   pub past : AllPast w.walks.items
 
--- while the receipts of one seat are gone through
+-- a worker that goes through the receipts of one seat
 pub record IsBusy {S H P : Type 0} (cells : List CellSight) (queue : Option Queue) (k : ℕ) (w : (Worker S H P))
     : Type 0 where
   pub seated : AllSeated cells w.walks.items
@@ -215,31 +217,34 @@ pub record IsBusy {S H P : Type 0} (cells : List CellSight) (queue : Option Queu
   pub there : k < length cells
   pub past : AllPastBut k w.walks.items
 
--- the receipt at the walk's place
+-- the receipt at the place of a walk, where it goes on
 abbrev pub IsNext : {S H P : Type 0} → (Walk S H P) → AppliedEvent → Type 0
 IsNext w r = r ≡ slice_index_or w.seat.me.receipts w.place r
 
--- the walk there is not past its receipts
+-- the walk there has not gone through all its receipts
 abbrev pub IsShort : {S H P : Type 0} → List (Walk S H P) → ℕ → Type 0
 IsShort ws k =
     (k < length ws)
     × ((d : (Walk _ _ _)) → (slice_index_or ws k d).place < length (slice_index_or ws k d).seat.me.receipts)
 
+-- the walks stand at the same places as before
 abbrev pub SamePlaces : {S H P : Type 0} → List (Walk S H P) → List (Walk S H P) → Type 0
 SamePlaces xs ys = AllZip (λ (a b : Walk _ _ _). b.place ≡ a.place) xs ys
 
--- at work's end
+-- a worker at the end of its work: between two jobs, with the sums kept
 pub record IsThrough {S H P : Type 0} (cells : List CellSight) (queue : Option Queue) (a b : (Worker S H P))
     : Type 0 where
   pub ready : IsReady cells queue b
   pub kept : KeepsSums cells [] a b
 
+-- all these workers are between two jobs
 abbrev pub AllReady : {S H P : Type 0} → List CellSight → Option Queue → List (Worker S H P) → Type 0
 AllReady cells queue ws = All (IsReady cells queue) ws
 
 abbrev pub AllLaterWorkers : {S H P : Type 0} → List (Worker S H P) → List (Worker S H P) → Type 0
 AllLaterWorkers xs ys = AllZip (λ (a b : Worker _ _ _). AllLater a.walks.items b.walks.items) xs ys
 
+-- how many parts of the right to know the whole of a queue a worker has
 abbrev pub parts_of : {S H P : Type 0} → (Worker S H P) → ℕ
 parts_of w = (hand_of w.pass).parts
 
@@ -266,6 +271,7 @@ pub record IsSummed {S H P : Type 0} (cells : List CellSight) (xs ys : List (Wor
 abbrev pub at_rest : {S H P : Type 0} → (Worker S H P) → (Worker S H P)
 at_rest w = record w { pass = None }
 
+-- all these passes are of this queue
 abbrev pub AllPassing : Option Queue → List (Pass Job Hand) → Type 0
 AllPassing q ps = All (λ p. IsPassing q (Some p)) ps
 
@@ -274,7 +280,7 @@ abbrev pub passes_of : {S H P : Type 0} → List (Worker S H P) → List (Pass J
 passes_of [] = []
 passes_of (w ∷ ws) = option_to_list w.pass ++ passes_of ws
 
--- the same sums, when the queue is closed and all that it had is done; some passes lay beside the workers
+-- the same sums of all workers, when the queue is closed and all that it had is done; some passes lay beside them
 pub record IsClosed {S H P : Type 0} (cells : List CellSight) (ps : List (Pass Job Hand)) (xs zs : List (Worker S H P))
     : Type 0 where
   pub lacking : List Job

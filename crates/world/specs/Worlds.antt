@@ -27,7 +27,7 @@ abbrev pub log_at : List Log → ℕ → Option Log
 log_at [] g = None
 log_at (l ∷ ls) g = if l.config.number == g then Some l else log_at ls g
 
--- the journals with one more, in the place of its number
+-- the journals of a world with one more, in the place of its number
 abbrev pub logs_with : Log → List Log → List Log
 logs_with l [] = l ∷ []
 logs_with l (k ∷ ks) = if nat_lt k.config.number l.config.number then k ∷ logs_with l ks else l ∷ k ∷ ks
@@ -37,7 +37,7 @@ abbrev pub logs_set : Log → List Log → List Log
 logs_set l [] = []
 logs_set l (k ∷ ks) = if k.config.number == l.config.number then l ∷ ks else k ∷ logs_set l ks
 
--- the journals but that of a number
+-- the journals of a world but that of a number
 abbrev pub logs_without : ℕ → List Log → List Log
 logs_without g ls = filter (λ l. not (l.config.number == g)) ls
 
@@ -95,9 +95,11 @@ IsAnsweredAt None old e r new = (r ≡ Err NoSuchNetwork) × (new ≡ old)
 IsAnsweredAt (Some l) old e (Ok os) new = IsEntered l e os × (new ≡ logs_set (with_entry l e os) old)
 IsAnsweredAt (Some l) old e (Err r) new = IsRefused l e r × (new ≡ old)
 
+-- an answer with its outs as a list
 abbrev pub items_of : Result (Vec Out Global) Refusal → Result (List Out) Refusal
 items_of (Ok v) = Ok v.items
 items_of (Err r) = Err r
 
+-- an event of the network of a number is answered, and its journal has the entry; all else is as it was
 abbrev pub IsAnswered : List Log → ℕ → Event → Result (Vec Out Global) Refusal → List Log → Type 0
 IsAnswered old g e r new = IsAnsweredAt (log_at old g) old (step_of e) (items_of r) new
