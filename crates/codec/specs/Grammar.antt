@@ -221,7 +221,7 @@ BreaksOff text = ((f : Fault) → ShowsIn text f → ⊥) × ((rest : List ℕ) 
 abbrev pub IsFaultWithin : List ℕ → Fault → Type 0
 IsFaultWithin text f = ShowsIn text f ⊎ ((GoesOn text × (f ≡ TrailingBytes)) ⊎ (BreaksOff text × (f ≡ Truncated)))
 
--- the fault of a text: its length before all
+-- the fault of a text: too great a length comes before all others
 abbrev pub IsFault : List ℕ → Fault → Type 0
 IsFault text f = ((most_bytes < length text) × (f ≡ Limit)) ⊎ ((length text ≤ most_bytes) × IsFaultWithin text f)
 
@@ -237,6 +237,6 @@ pub record HasOnlyFault (text : List ℕ) (f : Fault) : Type 0 where
   pub no_other : (g : Fault) → IsFault text g → g ≡ f
   pub not_spelled : (e : Sent) → Spells text e → ⊥
 
--- a text spells either one envelope or has one fault
+-- a text either spells one envelope or has one fault
 abbrev pub HasOneAnswer : List ℕ → Type 0
 HasOneAnswer text = ((e : Sent) × SpellsOnly text e) ⊎ ((f : Fault) × HasOnlyFault text f)

@@ -109,7 +109,7 @@ abbrev pub drawn_at : Option SlotLines → Drawn
 drawn_at None = nothing_drawn
 drawn_at (Some slot) = slot.drawn
 
--- a network behind a line with this number
+-- what is known of a network behind a line with this number
 abbrev pub network_after : ℕ → Deed → NetworkLines → NetworkLines
 network_after n Declared net = record net { declared = net.declared ++ n ∷ [] }
 network_after n Refused net = record net { is_named = true }

@@ -6,7 +6,7 @@ use Rattle.protocol.specs.Hosts.{Entry}
 use Rattle.network.specs.Marks.{slot_and_node_of}
 use Rattle.hoststep.specs.declared.lent_decision.LentDecision.{LentDecision}
 
--- a node externalized a value for a slot
+-- a decision: which node externalized which value for which slot
 pub record ExternalizedValue : Type 0 where
   pub slot : ℕ
   pub node : ℕ

@@ -36,7 +36,7 @@ pub record IsLeastClosed (rules : List Rule) (v : ℕ) (set : Names) : Type 0 wh
   pub closed : IsClosed rules v set
   pub least : (other : Names) → IsClosed rules v other → AreWithin set other
 
--- the computed set is the least of all closed ones
+-- the computed closure is the least of all closed sets
 abbrev pub ClosuresAreLeast : Type 0
 ClosuresAreLeast = (rules : List Rule) (v : ℕ) → IsLeastClosed rules v (in_least rules v)
 

@@ -32,7 +32,7 @@ unfoldable pub closure : List HostedNode → ℕ → ℕ → List Entry → Name
 closure nodes i v run = in_least (map node_rule nodes ++ flat_map (λ x. announcement_rules i x.event) run) v
 
 -- ---- kept steps
--- what is kept of a run: of a Hear not what it hands over
+-- what is kept of a step: of a Hear not what it hands over
 pub data KeptStep : Type 0 where
   Opening : KeptStep
   Closing : KeptStep

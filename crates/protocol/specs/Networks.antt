@@ -211,7 +211,7 @@ abbrev pub has_proposal : Option Instance → Bool
 has_proposal None = false
 has_proposal (Some p) = is_some p.node.inputs.proposal
 
--- a value has 1 to 256 bytes
+-- the bytes are no value, which has 1 to 256 of them
 abbrev pub is_bad_value : List ℕ → Bool
 is_bad_value x = (length x == 0) || nat_lt 256 (length x)
 

@@ -53,6 +53,6 @@ text_of_timers n =
     codes " round " ++ (decimal n.inputs.round
     ++ (codes " armed " ++ (decimal n.votes.armed ++ (codes " fired " ++ decimal n.inputs.ballot_timeouts))))
 
--- how far a node is
+-- how far a node is, in words
 abbrev pub text_of_state : Node → Bytes
 text_of_state n = text_of_prepared n.votes ++ (text_of_committed n.votes ++ text_of_timers n)

@@ -19,12 +19,12 @@ nothing_added : (s t : ℕ) (line : Bytes) (kept : Bool) → Adds s (Some line) 
 nothing_added s t line false same none = same
 nothing_added s t line true adds none = adds.1 ∙ ap (λ (xs : Bytes). s + length xs) none ∙ add-zero s
 
--- a law: only kept lines change that server
+-- a law: only kept lines change the server of tests that adds up lengths
 pub only_kept_lines_count : OnlyKeptLinesCount Counting
 only_kept_lines_count s t n None a same none = same.1
 only_kept_lines_count s t n (Some line) a adds none = nothing_added s t line (is_kept a) adds none
 
--- a law: empty lines change nothing of that server
+-- a law: empty lines change nothing of the server of tests that adds up lengths
 pub empty_lines_are_skipped : EmptyLinesAreSkipped Counting
 empty_lines_are_skipped s n = refl
 
@@ -32,6 +32,6 @@ whole_if_kept : (s t : ℕ) (line : Bytes) (kept : Bool) → Adds s (Some line) 
 whole_if_kept s t line false same is = absurd (true≢false (sym is))
 whole_if_kept s t line true adds is = adds.0
 
--- a law: the lines that it keeps have no byte 0
+-- a law: the lines that the server of tests keeps have no byte 0
 pub kept_lines_are_whole : KeptLinesAreWhole Counting
 kept_lines_are_whole s t n line a adds kept = whole_if_kept s t line (is_kept a) adds kept

@@ -221,7 +221,7 @@ pub record IsBusy {S H P : Type 0} (cells : List CellSight) (queue : Option Queu
 abbrev pub IsNext : {S H P : Type 0} → (Walk S H P) → AppliedEvent → Type 0
 IsNext w r = r ≡ slice_index_or w.seat.me.receipts w.place r
 
--- the walk there has not gone through all its receipts
+-- the walk at a place among the others has not gone through all its receipts
 abbrev pub IsShort : {S H P : Type 0} → List (Walk S H P) → ℕ → Type 0
 IsShort ws k =
     (k < length ws)
