@@ -12,7 +12,7 @@ use Rattle.feed.specs.declared.reading.TheConstants.{LONGEST_LINE}
 use Rattle.journal.specs.Resuming.{HasResumed}
 use Rattle.journal.specs.declared.fault.JournalFault.{JournalFault}
 use Rattle.journal.specs.declared.fault.JournalFault.TheVariants as journal
-use Rattle.serving.specs.Hosts.{Live, Serves, new_live}
+use Rattle.serving.specs.Hosts.{Live, Remembers, Serves, new_live}
 use Rattle.command_line.specs.declared.replay.ReplayFrom.{ReplayFrom}
 use Rattle.command_line.specs.declared.replay.ReplayFrom.TheVariants.{Line, Open}
 use Rattle.scphost.specs.Hosting.{HasGoneOn, HasMadeShorter, HasServed, IsFrom, IsNotGoneOn}
@@ -20,17 +20,17 @@ use Rattle.scphost.specs.Stops.{End, IsEndOfCompacting, IsEndOfHost}
 
 -- a new host went on
 pub gone_on : (bytes : Bool) (from : Option ReplayFrom) (old new : Option Bytes) (n : ℕ) (s t : Live) (first : Option ℕ) → s ≡ new_live bytes → IsFrom bytes from (Ok first)
-    → HasResumed Serves LONGEST_LINE first s old new (Ok n) t → HasGoneOn bytes from old new n t
-gone_on bytes from old new n s t first e is resumed = (first, is, subst (λ x. HasResumed Serves LONGEST_LINE first x old new (Ok n) t) e resumed)
+    → HasResumed Remembers LONGEST_LINE first s old new (Ok n) t → HasGoneOn bytes from old new n t
+gone_on bytes from old new n s t first e is resumed = (first, is, subst (λ x. HasResumed Remembers LONGEST_LINE first x old new (Ok n) t) e resumed)
 
 -- and then it served what it was sent
 pub served_on : (bytes : Bool) (name : Bytes) (from : Option ReplayFrom) (input left old mid told new : Option Bytes) (n m : ℕ) (s t last : Live) (ran : Result (Unit {0}) Fault) (end : End)
-    → HasGoneOn bytes from old mid n t → s ≡ t → m ≡ n → told ≡ mid → HasHostedStream Serves LONGEST_LINE s (m + 1) input left (HasDone None None told new) ran last → IsEndOfHost ran end
+    → HasGoneOn bytes from old mid n t → s ≡ t → m ≡ n → told ≡ mid → HasHostedStream Remembers LONGEST_LINE s (m + 1) input left (HasDone None None told new) ran last → IsEndOfHost ran end
     → HasServed bytes (Some name) from input old new end
 served_on bytes name from input left old mid told new n m s t last ran end gone e f g hosted ended =
-    let from_told = subst (λ x. HasHostedStream Serves LONGEST_LINE s (m + 1) input left (HasDone None None x new) ran last) g hosted in
-    let from_number = subst (λ (k : ℕ). HasHostedStream Serves LONGEST_LINE s (k + 1) input left (HasDone None None mid new) ran last) f from_told in
-    let from_state = subst (λ x. HasHostedStream Serves LONGEST_LINE x (n + 1) input left (HasDone None None mid new) ran last) e from_number in
+    let from_told = subst (λ x. HasHostedStream Remembers LONGEST_LINE s (m + 1) input left (HasDone None None x new) ran last) g hosted in
+    let from_number = subst (λ (k : ℕ). HasHostedStream Remembers LONGEST_LINE s (k + 1) input left (HasDone None None mid new) ran last) f from_told in
+    let from_state = subst (λ x. HasHostedStream Remembers LONGEST_LINE x (n + 1) input left (HasDone None None mid new) ran last) e from_number in
     inr (n, t, mid, gone, (ran, left, last, ended, from_state))
 
 -- a new host without a journal served what it was sent
@@ -66,9 +66,9 @@ not_known bytes (Some Open) journal.NoMemory is = tt
 
 -- its lines are not run
 pub not_resumed : (bytes : Bool) (first : Option ℕ) (old new : Option Bytes) (why : JournalFault) (s t : Live) → s ≡ new_live bytes
-    → HasResumed Serves LONGEST_LINE first s old new (Err why) t → IsNotGoneOn bytes why
+    → HasResumed Remembers LONGEST_LINE first s old new (Err why) t → IsNotGoneOn bytes why
 not_resumed bytes first old new (journal.BadLine n) s t e resumed =
-    inl (first, t, subst (λ x. HasResumed Serves LONGEST_LINE first x old new (Err (journal.BadLine n)) t) e resumed)
+    inl (first, t, subst (λ x. HasResumed Remembers LONGEST_LINE first x old new (Err (journal.BadLine n)) t) e resumed)
 not_resumed bytes first old new journal.CannotRead s t e resumed = tt
 not_resumed bytes first old new journal.InUse s t e resumed = tt
 not_resumed bytes first old new journal.CannotWrite s t e resumed = tt
@@ -79,9 +79,9 @@ not_resumed bytes first old new journal.NoMemory s t e resumed = tt
 
 -- a new host answered its lines
 pub made_shorter : (journal old new : Option Bytes) (host : Live) (made : Result (Unit {0}) Stop) (end : End) → host ≡ new_live false
-    → HasCompacted Serves LONGEST_LINE host journal old new made → IsEndOfCompacting made end → HasMadeShorter journal old new end
+    → HasCompacted Remembers LONGEST_LINE host journal old new made → IsEndOfCompacting made end → HasMadeShorter journal old new end
 made_shorter journal old new host made end e compacted ended =
-    (made, ended, subst (λ x. HasCompacted Serves LONGEST_LINE x journal old new made) e compacted)
+    (made, ended, subst (λ x. HasCompacted Remembers LONGEST_LINE x journal old new made) e compacted)
 
 known_again : (left : Option Bytes) → prepend_known [] left ≡ left
 known_again None = refl

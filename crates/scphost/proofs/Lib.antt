@@ -1,3 +1,4 @@
 mod PrintingLaws
 mod CommandLaws
 pub mod HostingLaws
+mod RememberingLaws

@@ -6,10 +6,11 @@ use Rattle.feed.specs.Hosted.{HasDone, HasHostedStream}
 use Rattle.feed.specs.declared.fault.Fault.{Fault}
 use Rattle.feed.specs.declared.reading.TheConstants.{LONGEST_LINE}
 use Rattle.feed.specs.Lasting.{Watched, Watching, unwatched}
+use Rattle.feed.specs.Served.{Serving}
 use Rattle.journal.specs.Resuming.{HasBadLine, HasFirst, HasResumed}
 use Rattle.journal.specs.declared.fault.JournalFault.{JournalFault}
 use Rattle.journal.specs.declared.fault.JournalFault.TheVariants as journal
-use Rattle.serving.specs.Hosts.{Live, Serves, new_live}
+use Rattle.serving.specs.Hosts.{Live, Remembers, Serves, new_live}
 use Rattle.command_line.specs.declared.replay.ReplayFrom.{ReplayFrom}
 use Rattle.command_line.specs.declared.replay.ReplayFrom.TheVariants.{Line, Open}
 use Rattle.scripts.specs.declared.run.Stop.{Stop}
@@ -17,29 +18,29 @@ use Rattle.scphost.specs.Stops.{End, IsEndOfCompacting, IsEndOfHost, IsEndOfJour
 
 -- from a state on, a live host served what it was sent line by line as it came, the first line with this number, and what
 -- it answered is written; it is told how that ended
-abbrev pub HasServedFrom : Live → ℕ → Option Bytes → Option Bytes → Option Bytes → End → Type 0
-HasServedFrom start n input old new end =
+abbrev pub HasServedFrom : Serving Live → Live → ℕ → Option Bytes → Option Bytes → Option Bytes → End → Type 0
+HasServedFrom serves start n input old new end =
     (ran : Result (Unit {0}) Fault) × (left : Option Bytes) × (last : Live) × IsEndOfHost ran end
-    × HasHostedStream Serves LONGEST_LINE start n input left (HasDone None None old new) ran last
+    × HasHostedStream serves LONGEST_LINE start n input left (HasDone None None old new) ran last
 
 -- from which line of a journal on answers are told: from none, from this one, or from the first that opened a slot which
 -- is still open; or why that cannot be said
 abbrev pub IsFrom : Bool → Option ReplayFrom → Result (Option ℕ) JournalFault → Type 0
 IsFrom bytes None from = from ≡ Ok None
 IsFrom bytes (Some (Line n)) from = from ≡ Ok (Some n)
-IsFrom bytes (Some Open) from = HasFirst Serves LONGEST_LINE (new_live bytes) from
+IsFrom bytes (Some Open) from = HasFirst Remembers LONGEST_LINE (new_live bytes) from
 
 -- a host went on from its journal, which has so many lines; or why not
 abbrev pub HasGoneOn : Bool → Option ReplayFrom → Option Bytes → Option Bytes → ℕ → Live → Type 0
 HasGoneOn bytes from old new n t =
-    (first : Option ℕ) × IsFrom bytes from (Ok first) × HasResumed Serves LONGEST_LINE first (new_live bytes) old new (Ok n) t
+    (first : Option ℕ) × IsFrom bytes from (Ok first) × HasResumed Remembers LONGEST_LINE first (new_live bytes) old new (Ok n) t
 
 -- why a host did not go on from its journal: where a line is named, it is none of a journal, behind lines that are; of other
 -- reasons nothing is said
 abbrev pub IsNotGoneOn : Bool → JournalFault → Type 0
 IsNotGoneOn bytes (journal.BadLine n) =
-    ((first : Option ℕ) × (t : Live) × HasBadLine Serves LONGEST_LINE first (new_live bytes) n t)
-    ⊎ ((t : Watched Live) × HasBadLine (Watching Serves) LONGEST_LINE None (unwatched (new_live bytes)) n t)
+    ((first : Option ℕ) × (t : Live) × HasBadLine Remembers LONGEST_LINE first (new_live bytes) n t)
+    ⊎ ((t : Watched Live) × HasBadLine (Watching Remembers) LONGEST_LINE None (unwatched (new_live bytes)) n t)
 IsNotGoneOn bytes journal.CannotRead = Unit {0}
 IsNotGoneOn bytes journal.InUse = Unit {0}
 IsNotGoneOn bytes journal.CannotWrite = Unit {0}
@@ -53,16 +54,17 @@ HasStarted bytes from old new (Ok started) t = HasGoneOn bytes from old new star
 HasStarted bytes from old new (Err why) t = IsNotGoneOn bytes why
 
 -- a host that has no networks at first, and prints envelopes as bytes if that is asked for, served what it was sent; with
--- a journal, from where that ends. Or it did not start, for a reason that is told.
+-- a journal, from where that ends, and no block says that memory was wanting. Or it did not start, for a reason that is
+-- told.
 abbrev pub HasServed : Bool → Option Bytes → Option ReplayFrom → Option Bytes → Option Bytes → Option Bytes → End → Type 0
-HasServed bytes None from input old new end = HasServedFrom (new_live bytes) 1 input old new end
+HasServed bytes None from input old new end = HasServedFrom Serves (new_live bytes) 1 input old new end
 HasServed bytes (Some name) from input old new end =
     ((why : JournalFault) × IsNotGoneOn bytes why × IsEndOfJournal why end)
     ⊎ ((n : ℕ) × (t : Live) × (mid : Option Bytes) × HasGoneOn bytes from old mid n t
-    × HasServedFrom t (n + 1) input mid new end)
+    × HasServedFrom Remembers t (n + 1) input mid new end)
 
 -- what lasts of a journal was written as a shorter one, or why not, and it is told how that ended
 abbrev pub HasMadeShorter : Option Bytes → Option Bytes → Option Bytes → End → Type 0
 HasMadeShorter journal old new end =
     (made : Result (Unit {0}) Stop) × IsEndOfCompacting made end
-    × HasCompacted Serves LONGEST_LINE (new_live false) journal old new made
+    × HasCompacted Remembers LONGEST_LINE (new_live false) journal old new made

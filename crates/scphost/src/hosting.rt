@@ -7,7 +7,7 @@ ghost use Rattle.scphost.specs.Stops.{IsEndOfHost, IsEndOfJournal};
 
 use crate::outputs::Outputs;
 use crate::perform::print_stop;
-use crate::remembering::RememberedHost;
+use crate::remembering::{RememberedHost, new_host};
 use command_line::ReplayFrom;
 use feed::{Fault, Feed, compact};
 use journal::{JournalFault, first_open_line, open_journal, resume};
@@ -45,7 +45,7 @@ pub fn serve<A: AllocGlobal + Wait, R: BufRead, W: Write, E: Write>(
 {
     outputs.explain = form.explain;
     let alloc = rt.alloc();
-    let host = RememberedHost::new(alloc, form.bytes, false);
+    let host = new_host(alloc, form.bytes);
     let mut feed = Feed::new(alloc, host, 0);
     let ran = feed.serve(rt, input, outputs);
     drop(feed);
@@ -70,7 +70,7 @@ pub fn serve_with_journal<
     ensures { HasServed form.bytes (Some journal.entry.name.now) journal.entry.from (R.remaining input.old) (W.contents outputs.old.out) (W.contents outputs.new.out) result }
 {
     let alloc = rt.alloc();
-    let mut host = RememberedHost::new(alloc, form.bytes, true);
+    let mut host = RememberedHost::new(alloc, form.bytes);
     let (file, count) = match start(rt, journal, form.bytes, &mut host, &mut outputs.out) {
         Ok(started) => started,
         Err(fault) => {
@@ -116,7 +116,7 @@ fn first_told<A: AllocGlobal + Wait>(
         None => Ok(None),
         Some(ReplayFrom::Line(line)) => Ok(Some(line)),
         Some(ReplayFrom::Open) => {
-            first_open_line(rt, file, RememberedHost::new(rt.alloc(), bytes, true))
+            first_open_line(rt, file, RememberedHost::new(rt.alloc(), bytes))
         }
     }
 }
@@ -131,7 +131,7 @@ pub fn make_shorter<A: AllocGlobal + Wait, R: BufRead, W: Write, E: Write>(
 ) -> Result<bool, Stop>
     ensures { HasMadeShorter (R.remaining journal.old) (W.contents outputs.old.out) (W.contents outputs.new.out) result }
 {
-    let host = RememberedHost::new(rt.alloc(), false, true);
+    let host = RememberedHost::new(rt.alloc(), false);
     match compact(rt, host, journal, &mut outputs.out) {
         Ok(()) => Ok(false),
         Err(stop) => print_end_of_journal(JournalFault::from(stop), name, &mut outputs.err),

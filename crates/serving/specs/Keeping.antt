@@ -17,7 +17,8 @@ use Rattle.scripts.specs.Script.{Bytes, IsSkipped, is_field}
 use Rattle.feed.specs.Served.{EmptyLinesAreSkipped, KeptLinesAreWhole, OnlyKeptLinesCount, Reply, is_kept, kept_as}
 use Rattle.feed.specs.WholeLines.{has_no_hole}
 use Rattle.requests.specs.Outlines.{Outlined, waiting_at}
-use Rattle.serving.specs.Hosts.{AreAllAnswered, IsAnswer, IsAnswerTo, IsAnsweredOnceBegun, IsDroppedAt, IsEventAnswered, IsStarted, Live, Serves, begun, live_at}
+use Rattle.serving.specs.Blocks.{TellsOfNoWant}
+use Rattle.serving.specs.Hosts.{AreAllAnswered, IsAnswer, IsAnswerTo, IsAnsweredOnceBegun, IsDroppedAt, IsEventAnswered, IsStarted, Live, Remembers, Serves, begun, live_at}
 use Rattle.requests.specs.declared.ask.Ask.{Ask}
 use Rattle.requests.specs.declared.ask.Ask.TheVariants as ask
 
@@ -140,3 +141,17 @@ kept_lines_are_whole old new n line a (inl skipped) kept = not-both kept (kept-b
 kept_lines_are_whole old new n line a (inr (runs, inl bad)) kept = not-both kept (kept-by bad.1.0)
 kept_lines_are_whole old new n line a (inr (runs, inr (fields, are, answer))) kept =
     subst (λ bytes. has_no_hole bytes ≡ true) are.0 (fields-are-whole fields are.1)
+
+-- ---- where a journal is kept
+pub none_told : TellsOfNoWant []
+none_told [] rest is = cc
+none_told (b ∷ front) rest is = cc
+
+pub only_remembered_lines_count : OnlyKeptLinesCount Remembers
+only_remembered_lines_count old new n line a serves out = only_kept_lines_count old new n line a serves.0 out
+
+pub empty_lines_are_remembered : EmptyLinesAreSkipped Remembers
+empty_lines_are_remembered s n = (empty_lines_are_skipped s n, none_told)
+
+pub remembered_lines_are_whole : KeptLinesAreWhole Remembers
+remembered_lines_are_whole old new n line a serves kept = kept_lines_are_whole old new n line a serves.0 kept
