@@ -143,15 +143,19 @@ kept_lines_are_whole old new n line a (inr (runs, inr (fields, are, answer))) ke
     subst (λ bytes. has_no_hole bytes ≡ true) are.0 (fields-are-whole fields are.1)
 
 -- ---- where a journal is kept
+-- no words at all tell of no want of memory
 pub none_told : TellsOfNoWant []
 none_told [] rest is = cc
 none_told (b ∷ front) rest is = cc
 
+-- a law: what a host with a journal does not keep left it as it was
 pub only_remembered_lines_count : OnlyKeptLinesCount Remembers
 only_remembered_lines_count old new n line a serves out = only_kept_lines_count old new n line a serves.0 out
 
+-- a law: empty lines are not answered by a host with a journal, and change nothing
 pub empty_lines_are_remembered : EmptyLinesAreSkipped Remembers
 empty_lines_are_remembered s n = (empty_lines_are_skipped s n, none_told)
 
+-- a law: the lines that a host with a journal keeps have no byte 0
 pub remembered_lines_are_whole : KeptLinesAreWhole Remembers
 remembered_lines_are_whole old new n line a serves kept = kept_lines_are_whole old new n line a serves.0 kept
