@@ -1,11 +1,12 @@
 -- An archive with one envelope more, and with some let go.
-use Rattle.std.proofs.Common.{◌≡◌, ◌⊎◌, inl, inr, ℕ, zero, suc, Bool, false, List, [], ◌∷◌, ◌++◌, get_or, length, map, set, Option, Some, None, option_map, refl, sym, ◌∙◌, ap, subst}
+use Rattle.std.proofs.Common.{◌≡◌, ◌⊎◌, inl, inr, ℕ, zero, suc, ◌+◌, ◌<◌, ◌≤◌, Bool, true, false, List, [], ◌∷◌, ◌++◌, get_or, length, map, set, take, drop, Option, Some, None, option_map, is_some, if◌then◌else◌, refl, sym, ◌∙◌, ap, subst, arith}
 use Rattle.std.specs.Prelude.{IfSome}
 use Rattle.std.specs.List.{All, slice_get}
+use Rattle.std.proofs.lemmas.List.{set-get_or}
 use Rattle.std.proofs.lemmas.List.Elements.{All-append, All-cons, All-nil, All-set}
 use Rattle.types.specs.Statements.{Sent}
 use Rattle.envstore.specs.declared.filed.Filed.{Filed}
-use Rattle.envstore.specs.Archives.{AreFiled, Archived, IsFiled, Keeps, KeepsOf}
+use Rattle.envstore.specs.Archives.{AreFiled, Archived, IsFiled, Keeps, only_of, sent_of}
 
 -- the same list, or one place more where nothing lies
 abbrev pub IsGrown : {X : Type 0} → List (Option X) → List (Option X) → Type 0
@@ -76,21 +77,56 @@ all-kept {P} R Q old new same kept all = subst (λ (xs : List (Option P)). All (
     one None h = tt
     one (Some p) h = kept p h
 
--- what is of none of these slots is let go
-pub keeps-without : {P : Type 0} (f : P → Sent) (is_among : ℕ → Bool) (places : List (Option P)) (n : ℕ) → ((e : Sent) → slice_get (map (option_map f) places) n ≡ Some (Some e) → is_among e.slot ≡ false)
-    → KeepsOf is_among (map (option_map f) places) (map (option_map f) (set places n None))
-keeps-without f is_among places n gone x among h = subst (λ (xs : Archived). IsFiled xs x) (sym (map-set (option_map f) places n None)) (elsewhere (map (option_map f) places) n x.number gone h)
-  where
-    elsewhere : (xs : Archived) (n k : ℕ) → ((e : Sent) → slice_get xs n ≡ Some (Some e) → is_among e.slot ≡ false) → slice_get xs k ≡ Some (Some x.put.value) → slice_get (set xs n None) k ≡ Some (Some x.put.value)
-    elsewhere [] n k g q = absurd (cc)
-    elsewhere (z ∷ xs) zero zero g q = let no = g x.put.value q in absurd (cc)
-    elsewhere (z ∷ xs) zero (suc k) g q = q
-    elsewhere (z ∷ xs) (suc n) zero g q = q
-    elsewhere (z ∷ xs) (suc n) (suc k) g q = elsewhere xs n k g q
+-- ---- what is let go
+-- each number up to one has only what is of these slots
+go-on : (is_among : ℕ → Bool) (xs : Archived) (k : ℕ) → k < length xs
+    → set (map (only_of is_among) (take k xs) ++ drop k xs) k (only_of is_among (get_or (map (only_of is_among) (take k xs) ++ drop k xs) k None))
+    ≡ map (only_of is_among) (take (suc k) xs) ++ drop (suc k) xs
+go-on is_among [] k l = absurd (omega (arith, l))
+go-on is_among (x ∷ xs) zero l = refl
+go-on is_among (x ∷ xs) (suc k) l = ap (λ (ys : Archived). only_of is_among x ∷ ys) (go-on is_among xs k (omega (arith, l)))
 
-pub map-length : {X Y : Type 0} (f : X → Y) (xs : List X) → length (map f xs) ≡ length xs
-map-length f [] = refl
-map-length f (x ∷ xs) = ap suc (map-length f xs)
+pub gone-up-to : (is_among : ℕ → Bool) (start now new : Archived) (k : ℕ) → k < length start → now ≡ map (only_of is_among) (take k start) ++ drop k start
+    → new ≡ set now k (only_of is_among (get_or now k None)) → new ≡ map (only_of is_among) (take (k + 1) start) ++ drop (k + 1) start
+gone-up-to is_among start now new k l is put =
+    let z : suc k ≡ k + 1 = omega arith in
+    put ∙ ap (λ (ys : Archived). set ys k (only_of is_among (get_or ys k None))) is ∙ go-on is_among start k l ∙ ap (λ n. map (only_of is_among) (take n start) ++ drop n start) z
+
+pub all-gone : (is_among : ℕ → Bool) (xs : Archived) (k : ℕ) → length xs ≤ k → map (only_of is_among) (take k xs) ++ drop k xs ≡ map (only_of is_among) xs
+all-gone is_among [] zero l = refl
+all-gone is_among [] (suc k) l = refl
+all-gone is_among (x ∷ xs) zero l = absurd (omega (arith, l))
+all-gone is_among (x ∷ xs) (suc k) l = ap (λ (ys : Archived). only_of is_among x ∷ ys) (all-gone is_among xs k (omega (arith, l)))
+
+pub still-long : (is_among : ℕ → Bool) (xs : Archived) (k : ℕ) → length (map (only_of is_among) (take k xs) ++ drop k xs) ≡ length xs
+still-long is_among [] zero = refl
+still-long is_among [] (suc k) = refl
+still-long is_among (x ∷ xs) zero = refl
+still-long is_among (x ∷ xs) (suc k) = ap suc (still-long is_among xs k)
+
+-- at one number
+only-kept : (is_among : ℕ → Bool) (o : Option Sent) → is_some (only_of is_among o) ≡ true → only_of is_among o ≡ o
+only-kept is_among None h = refl
+only-kept is_among (Some e) h = go (is_among e.slot) h
+  where
+    go : (b : Bool) → is_some (if b then Some e else None) ≡ true → (if b then Some e else None) ≡ Some e
+    go true q = refl
+    go false q = absurd (cc)
+
+only-none : (o : Option Sent) → is_some o ≡ false → o ≡ None
+only-none None h = refl
+only-none (Some e) h = absurd (cc)
+
+pub keeps-at : (is_among : ℕ → Bool) (archive : Archived) (n : ℕ) → is_some (only_of is_among (get_or archive n None)) ≡ true → archive ≡ set archive n (only_of is_among (get_or archive n None))
+keeps-at is_among archive n h = sym (ap (set archive n) (only-kept is_among (get_or archive n None) h) ∙ set-get_or archive n None)
+
+pub frees-at : {P : Type 0} (f : P → Sent) (is_among : ℕ → Bool) (archive : Archived) (places : List (Option P)) (n : ℕ) → map (option_map f) places ≡ archive → is_some (only_of is_among (get_or archive n None)) ≡ false
+    → map (option_map f) (set places n None) ≡ set archive n (only_of is_among (get_or archive n None))
+frees-at f is_among archive places n is h = map-set (option_map f) places n None ∙ (λ j. set (is j) n (sym (only-none (only_of is_among (get_or archive n None)) h) j))
+
+-- what is of these slots stays
+pub stays-filed : (is_among : ℕ → Bool) (archive : Archived) (f : Filed) → is_among (sent_of f).slot ≡ true → IsFiled archive f → IsFiled (map (only_of is_among) archive) f
+stays-filed is_among archive f among h = read-map (only_of is_among) archive f.number (Some (sent_of f)) h ∙ ap (λ b. Some (if b then Some (sent_of f) else None)) among
 
 -- ---- what is kept
 pub keeps_all : (old new : Archived) (fs : List Filed) → Keeps old new → AreFiled old fs → AreFiled new fs

@@ -1,5 +1,5 @@
 -- Envelopes that were filed.
-use Rattle.std.specs.Prelude.{◌≡◌, ℕ, Bool, true, List, Option, Some, map, slice_get}
+use Rattle.std.specs.Prelude.{◌≡◌, ℕ, Bool, List, Option, None, Some, map, slice_get, if◌then◌else◌}
 use Rattle.std.specs.List.{All}
 use Rattle.types.specs.Statements.{Sent}
 use Rattle.envstore.specs.declared.filed.Filed.{Filed}
@@ -28,6 +28,7 @@ AreFiled archive fs = All (IsFiled archive) fs
 abbrev pub Keeps : Archived → Archived → Type 0
 Keeps old new = (f : Filed) → IsFiled old f → IsFiled new f
 
--- all that was filed before for one of these slots is filed still
-abbrev pub KeepsOf : (ℕ → Bool) → Archived → Archived → Type 0
-KeepsOf is_among old new = (f : Filed) → is_among (sent_of f).slot ≡ true → IsFiled old f → IsFiled new f
+-- what lies at a number, if it is an envelope of one of these slots
+abbrev pub only_of : (ℕ → Bool) → Option Sent → Option Sent
+only_of is_among None = None
+only_of is_among (Some e) = if is_among e.slot then Some e else None

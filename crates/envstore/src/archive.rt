@@ -1,8 +1,7 @@
 //! The envelopes of one network, by number.
 
-ghost use Rattle.std.specs.Prelude.{◌≡◌, ◌⊎◌, ◌<◌, ◌++◌, ◌∷◌, [], IfOk, IsFalse, None, OnErr, Some, false, length, slice_get, vec_capacity, vec_len};
-ghost use Rattle.types.specs.Statements.{Sent};
-ghost use Rattle.envstore.specs.Archives.{IsFiled, Keeps, KeepsOf, sent_of};
+ghost use Rattle.std.specs.Prelude.{◌≡◌, ◌⊎◌, ◌<◌, ◌++◌, ◌∷◌, [], IfOk, None, OnErr, Some, is_some, length, map, slice_get, slice_index_or, slice_set, vec_capacity, vec_len};
+ghost use Rattle.envstore.specs.Archives.{IsFiled, Keeps, only_of, sent_of};
 
 use crate::filed::Filed;
 use crate::shelf::{Places, Shelf, Slots};
@@ -23,7 +22,7 @@ pub struct Archive<S: Places> {
     shelf: S,
     places: Vec<Option<S::Place>>,
     free: Vec<usize>,
-    filed: usize,
+    recent: usize,
 }
 
 impl<S: Places> Model for Archive<S> {
@@ -51,7 +50,7 @@ impl<S: Places> Archive<S> {
             shelf,
             places: Vec::new(alloc),
             free: Vec::new(alloc),
-            filed: 0,
+            recent: 0,
         }
     }
 
@@ -77,41 +76,42 @@ impl<S: Places> Archive<S> {
         }
     }
 
-    /// Lets go what was filed for all slots but these, if half as much as there is room for was filed since it last did
-    /// so: each envelope then costs a look or two, however many slots are closed one by one. It takes no memory: a
-    /// number that cannot be noted as free is found again the next time.
-    pub fn let_go<T: Slots>(&mut self, open: &T)
-        ensures { KeepsOf (T.is_among open.now) self.old self.new }
+    /// Whether half as many envelopes were filed since others were let go as there is room for. If they are let go only
+    /// then, each that is filed costs a look or two, however many slots are closed one by one.
+    pub fn is_due(&self) -> bool {
+        self.recent >= self.places.len() / 2
+    }
+
+    /// Lets go what was filed for all slots but these. It takes no memory: a number that cannot be noted as free is found
+    /// again the next time.
+    pub fn let_go<T: Slots>(&mut self, slots: &T)
+        ensures { self.new ≡ map (only_of (T.is_among slots.now)) self.old }
     {
-        if self.filed < self.places.len() / 2 {
-            return;
-        }
-        self.filed = 0;
+        self.recent = 0;
         self.free.clear();
         for number in 0..self.places.len() {
-            self.let_go_at(number, open);
+            self.let_go_at(number, slots);
         }
     }
 
     /// What has this number is let go, if it is not of one of these slots.
-    fn let_go_at<T: Slots>(&mut self, number: usize, open: &T)
+    fn let_go_at<T: Slots>(&mut self, number: usize, slots: &T)
         requires { number < length self.old }
-        ensures kept { KeepsOf (T.is_among open.now) self.old self.new }
-        ensures length { length self.new ≡ length self.old }
+        ensures { self.new ≡ slice_set self.old number (only_of (T.is_among slots.now) (slice_index_or self.old number None)) }
     {
-        if !self.is_kept(number, open) {
+        if !self.is_kept(number, slots) {
             self.places[number] = None;
             let _ = self.free.push(number);
         }
     }
 
     /// Whether an envelope of one of these slots has this number.
-    fn is_kept<T: Slots>(&self, number: usize, open: &T) -> bool
+    fn is_kept<T: Slots>(&self, number: usize, slots: &T) -> bool
         requires { number < length self.now }
-        ensures { IsFalse result → (e : Sent) → slice_get self.now number ≡ Some (Some e) → T.is_among open.now e.slot ≡ false }
+        ensures { result ≡ is_some (only_of (T.is_among slots.now) (slice_index_or self.now number None)) }
     {
         match &self.places[number] {
-            Some(place) => open.contains(self.shelf.read(place).slot()),
+            Some(place) => slots.contains(self.shelf.read(place).slot()),
             None => false,
         }
     }
@@ -136,7 +136,7 @@ impl<S: Shelf> Archive<S> {
         let place = self.shelf.put(envelope).map_err(|_| AllocError)?;
         let number = vacant(&mut self.places, &mut self.free);
         self.places[number] = Some(place);
-        self.filed = self.filed.saturating_add(1);
+        self.recent = self.recent.saturating_add(1);
         Ok(Filed { number, put })
     }
 }

@@ -1,10 +1,11 @@
 -- What was filed for closed slots is let go: what lies at open ones stays.
-use Rattle.std.proofs.Common.{◌≡◌, ℕ, zero, suc, ◌<◌, Bool, true, false, ◌==◌, List, [], ◌∷◌, length, map, get_or, Option, Some, None, option_map, is_some, if◌then◌else◌, refl, sym, ◌∙◌, ap, subst, arith}
+use Rattle.std.proofs.Common.{◌≡◌, ℕ, zero, suc, ◌<◌, Bool, true, false, ◌==◌, List, [], ◌∷◌, length, map, get_or, Option, Some, None, option_map, is_some, if◌then◌else◌, refl, ◌∙◌, ap, subst, arith}
 use Rattle.std.specs.List.{All, AllByRecursion}
 use Rattle.std.proofs.lemmas.List.Elements.{All-cons, All-head, All-nil, All-tail}
 use Rattle.types.specs.Statements.{Sent}
 use Rattle.envstore.specs.declared.filed.Filed.{Filed}
-use Rattle.envstore.specs.Archives.{AreFiled, Archived, IsFiled, KeepsOf, sent_of, sents_of}
+use Rattle.envstore.specs.Archives.{AreFiled, Archived, only_of, sent_of, sents_of}
+use Rattle.envstore.proofs.Growing.{stays-filed}
 use Rattle.configuration.specs.Configs.{index_in}
 use Rattle.protocol.proofs.Equality.Sameness.{eqb-refl}
 use Rattle.network.specs.Lodgings.{AreLodged, IsLodged, Lodging, Lodgings, Seat, Seats, instance_in, seat_of, seats_of}
@@ -37,9 +38,12 @@ of-slot i [] h k d l = absurd (omega (arith, l))
 of-slot i (f ∷ fs) h zero d l = h.0
 of-slot i (f ∷ fs) h (suc k) d l = of-slot i fs h.1 k d (omega (arith, l))
 
-module _ (is_among : ℕ → Bool) (old new : Archived) (kept : KeepsOf is_among old new) where
+module _ (is_among : ℕ → Bool) (old : Archived) where
+  abbrev new : Archived
+  new = map (only_of is_among) old
+
   filed-still : (i : ℕ) (fs : List Filed) → is_among i ≡ true → AllByRecursion (λ (e : Sent). e.slot ≡ i) (sents_of fs) → AreFiled old fs → AreFiled new fs
-  filed-still i fs among own filed = λ k d l. kept (get_or fs k d) (ap is_among (of-slot i fs own k d l) ∙ among) (filed k d l)
+  filed-still i fs among own filed = λ k d l. stays-filed is_among old (get_or fs k d) (ap is_among (of-slot i fs own k d l) ∙ among) (filed k d l)
 
   lodged-one : (i : ℕ) (l : Lodging) → is_among i ≡ true → IsOfSlot i (instance_in l) → IsLodged old l → IsLodged new l
   lodged-one i l among own h = record {
@@ -60,9 +64,12 @@ module _ (is_among : ℕ → Bool) (old new : Archived) (kept : KeepsOf is_among
   lodged-open (s ∷ ss) among own h = All-cons (LodgedBy new) s ss (lodged-there s.number s.instances among.0 own.0 (All-head (LodgedBy old) s ss h)) (lodged-open ss among.1 own.1 (All-tail (LodgedBy old) s ss h))
 
 -- ---- the network
-pub standing-still : (m : Standing) (archive : Archived) → KeepsOf (λ i. is_some (index_in (numbers_of m.slots) i)) m.archive archive → IsStanding m → IsStanding (record m { archive = archive })
-standing-still m archive kept h = record {
-  lodged = lodged-open (λ i. is_some (index_in (numbers_of m.slots) i)) m.archive archive kept m.slots (all-within m.slots) h.tidy.own h.lodged;
+abbrev pub open_of : Standing → ℕ → Bool
+open_of m i = is_some (index_in (numbers_of m.slots) i)
+
+pub standing-still : (m : Standing) → IsStanding m → IsStanding (record m { archive = map (only_of (open_of m)) m.archive })
+standing-still m h = record {
+  lodged = lodged-open (open_of m) m.archive m.slots (all-within m.slots) h.tidy.own h.lodged;
   tidy = h.tidy;
   stood = h.stood;
 }

@@ -1,12 +1,10 @@
 -- A node of a slot keeps rows of that slot alone, and emits at that slot alone.
-use Rattle.std.proofs.Common.{◌≡◌, ℕ, zero, suc, ◌+◌, Bool, true, false, not, ◌&&◌, ◌==◌, List, [], ◌∷◌, ◌++◌, map, filter, cond, Option, Some, None, if◌then◌else◌, is_none, slice_get, refl, sym, ◌∙◌, ap, subst}
+use Rattle.std.proofs.Common.{◌≡◌, ℕ, zero, suc, ◌+◌, Bool, true, false, not, ◌&&◌, ◌==◌, List, [], ◌∷◌, ◌++◌, map, filter, cond, Option, Some, None, if◌then◌else◌, is_none, slice_get, refl, sym, subst}
 use Rattle.std.specs.List.{AllByRecursion}
 use Rattle.std.specs.Prelude.{⊤}
-use Rattle.std.proofs.lemmas.Bool.Decides.{nat_tests}
 use Rattle.std.proofs.lemmas.Bool.{eqb-true}
 use Rattle.std.proofs.lemmas.List.Elements.{filter_map-append}
 use Rattle.types.specs.Statements.{Sent, kind_of}
-use Rattle.types.specs.Trees.{Slices}
 use Rattle.types.specs.declared.ballot.Ballot.{Ballot}
 use Rattle.types.specs.declared.event.NodeEvent.{NodeEvent}
 use Rattle.types.specs.declared.event.NodeEvent.TheVariants.{Propose, Take, NominationTimer, BallotTimer, Reslice}
@@ -23,6 +21,7 @@ use Rattle.protocol.specs.Networks.Reading.{Read, Fault}
 use Rattle.protocol.specs.Networks.Step.{Opens, Closes, Proposes, Delivers, Hears, NominationTimerFires, BallotTimerFires, Reslices}
 use Rattle.protocol.proofs.Nodes.Made.{if_node, if_node-if, step-keeps, with_settled_votes-keeps}
 use Rattle.network.specs.Standing.{IsOfSlot}
+use Rattle.network.proofs.Tidiness.{filter-names, push-names}
 
 -- ---- a node
 abbrev AreOf : ℕ → List Sent → Type 0
@@ -195,26 +194,14 @@ unfolding instances_of_new_slot fresh
 fresh-of-slot i [] = tt
 fresh-of-slot i (h ∷ hs) = (record { node = refl; rows = tt; emitted = tt }, fresh-of-slot i hs)
 
-push-slot : (P : Slot → Type 0) (ss : List Slot) (s : Slot) → AllByRecursion P ss → P s → AllByRecursion P (ss ++ s ∷ [])
-push-slot P [] s h k = (k, tt)
-push-slot P (x ∷ xs) s h k = (h.0, push-slot P xs s h.1 k)
-
-filter-slots : (P : Slot → Type 0) (test : Slot → Bool) (ss : List Slot) → AllByRecursion P ss → AllByRecursion P (filter test ss)
-filter-slots P test [] h = tt
-filter-slots P test (s ∷ ss) h = go (test s) (filter-slots P test ss h.1)
-  where
-    go : (b : Bool) → AllByRecursion P (filter test ss) → AllByRecursion P (cond b (s ∷ filter test ss) (filter test ss))
-    go true k = (h.0, k)
-    go false k = k
-
 abbrev AreThere : Slot → Type 0
 AreThere s = AllByRecursion (IsOfSlot s.number) s.instances
 
 -- ---- any event
 pub of-slots : (net : Net) (e : Step) → AreOfSlots net.slots → AreOfSlots (effect net e).0.slots
 unfolding effect
-of-slots net (Opens i) h = push-slot AreThere net.slots (record { number = i; instances = instances_of_new_slot net.nodes i }) h (fresh-of-slot i net.nodes)
-of-slots net (Closes i) h = filter-slots AreThere (λ s. not (s.number == i)) net.slots h
+of-slots net (Opens i) h = push-names AreThere net.slots (record { number = i; instances = instances_of_new_slot net.nodes i }) h (fresh-of-slot i net.nodes)
+of-slots net (Closes i) h = filter-names AreThere (λ s. not (s.number == i)) net.slots h
 of-slots net (Proposes i u x) h = of-act net i u (Propose x) tt h
 of-slots net (Delivers u size (Read e)) h = of-act net e.slot u (Take e) refl h
 of-slots net (Delivers u size (Fault m)) h = h

@@ -72,7 +72,7 @@ unfolding instances_of_new_slot fresh
 fresh-names [] i = refl
 fresh-names (h ∷ hs) i = ap (λ (ns : List ℕ). h.name ∷ ns) (fresh-names hs i)
 
-push-names : (P : Slot → Type 0) (ss : List Slot) (s : Slot) → AllByRecursion P ss → P s → AllByRecursion P (ss ++ s ∷ [])
+pub push-names : (P : Slot → Type 0) (ss : List Slot) (s : Slot) → AllByRecursion P ss → P s → AllByRecursion P (ss ++ s ∷ [])
 push-names P [] s h k = (k, tt)
 push-names P (x ∷ xs) s h k = (h.0, push-names P xs s h.1 k)
 
@@ -130,7 +130,7 @@ neat-open net i out n =
     }
 
 -- ---- closing
-filter-names : (P : Slot → Type 0) (test : Slot → Bool) (ss : List Slot) → AllByRecursion P ss → AllByRecursion P (filter test ss)
+pub filter-names : (P : Slot → Type 0) (test : Slot → Bool) (ss : List Slot) → AllByRecursion P ss → AllByRecursion P (filter test ss)
 filter-names P test [] h = tt
 filter-names P test (s ∷ ss) h = go (test s) (filter-names P test ss h.1)
   where

@@ -121,14 +121,16 @@ impl<S: Shelf> Network<S> {
         node.rows(&self.archive)
     }
 
-    /// What was filed for slots that are closed by now is let go, a part at a time ([`Archive::let_go`]). It takes no memory.
+    /// What was filed for slots that are closed by now is let go, if that is due ([`Archive::is_due`]). It takes no memory.
     ///
     /// Whoever goes on reading what was given out at a closed slot, as a journal does, does not call this.
     pub fn forget_closed(&mut self)
         ensures state { machine_of self.new ≡ machine_of self.old }
         ensures config { self.new.config ≡ self.old.config }
     {
-        self.archive.let_go(&self.slots);
+        if self.archive.is_due() {
+            self.archive.let_go(&self.slots);
+        }
     }
 
     /// How much of its budgets, and of the openings and closings of its roster, is used up, and how many slots are open.

@@ -1,5 +1,5 @@
 use Rattle.envstore.specs.Archives.{Archived}
-use Rattle.std.proofs.Common.{◌≡◌, ◌++◌, List, map, drop}
+use Rattle.std.proofs.Common.{◌≡◌, ◌++◌, map, drop}
 use Rattle.std.specs.List.{All}
 use Rattle.protocol.specs.Networks.{instances_of_new_slot}
 use Rattle.network.specs.Lodgings.{IsLodged, IsUncounted, instance_in}
