@@ -1,8 +1,7 @@
 -- What is written of journals, one after the other.
 use Rattle.std.proofs.Common.{◌≡◌, ◌∙◌, ℕ, suc, List, [], ◌∷◌, ◌++◌, drop, length, take, sym, ap, ap₂, arith, subst}
-use Rattle.std.specs.List.{All}
-use Rattle.std.specs.Prelude.{reverse}
-use Rattle.std.proofs.lemmas.List.{append-nil, append_assoc, reverse-append, take-append-drop}
+use Rattle.std.specs.List.{All, AllZip}
+use Rattle.std.proofs.lemmas.List.{append-nil, append_assoc, take-append-drop}
 use Rattle.std.proofs.lemmas.List.Concat.{flat_map-append}
 use Rattle.std.proofs.lemmas.List.Elements.{All-nil, All-push}
 use Rattle.protocol.specs.Runs.{IsRun as Replays}
@@ -12,46 +11,32 @@ use Rattle.cells.specs.Sights.{SeatSight}
 use Rattle.workers.specs.NetSights.{Net}
 use Rattle.workers.specs.Nets.{IsClosedNet}
 use Rattle.workers.proofs.Pairs.{zip-append}
-use Rattle.pooled.specs.Pooling.{AreClosed, AreJournals, AreJournalLines, AddsJournalLines}
+use Rattle.pooled.specs.Pooling.{AreJournals, AreJournalLines, AddsJournalLines}
 use Rattle.pooled.specs.PoolLines.{AreAllDecidedLines, AreDecidedLines, length_line, length_lines}
 use Rattle.pooled.specs.PoolLines.AreAllDecidedLines.{none, more}
 
--- ---- networks close, the last first
-reversed_more : (js : List Log) (l : Log) → reverse (js ++ l ∷ []) ≡ l ∷ reverse js
-reversed_more js l = reverse-append js (l ∷ [])
+-- ---- networks are closed, and their journals written, one after the other
+-- the journals of networks, in their order: each is one history of its network's seats
+abbrev AreClosed : List Net → List Log → Type 0
+AreClosed ns ls = AllZip (λ n l. (seats : List SeatSight) × IsClosedNet n l seats) ns ls
 
--- whatever the journals of those that are left will be, they and these are the journals of all
-abbrev pub Closes : List Net → List Net → List Log → Type 0
-Closes all left js = (ls : List Log) → AreClosed left ls → AreClosed all (ls ++ reverse js)
-
-pub closes_none : (all : List Net) (js : List Log) → js ≡ [] → Closes all all js
-closes_none all js e ls h = subst (AreClosed all) (sym (ap (λ ks. ls ++ reverse ks) e ∙ append-nil ls)) h
-
-pub closes_more : (all left rest : List Net) (js now : List Log) (n : Net) (l : Log) (seats : List SeatSight) → left ≡ rest ++ n ∷ [] → IsClosedNet n l seats → now ≡ js ++ l ∷ [] → Closes all left js → Closes all rest now
-closes_more all left rest js now n l seats is done grown whole ls h =
-    let old : AreClosed all ((ls ++ l ∷ []) ++ reverse js) = whole (ls ++ l ∷ []) (subst (λ ns. AreClosed ns (ls ++ l ∷ [])) (sym is) (zip-append _ rest (n ∷ []) ls (l ∷ []) h ((seats, done), tt))) in
-    subst (AreClosed all) (append_assoc ls (l ∷ []) (reverse js) ∙ ap (λ ks. ls ++ ks) (sym (ap (λ ks. reverse ks) grown ∙ reversed_more js l))) old
-
-pub all_closed : (all left : List Net) (js : List Log) → left ≡ [] → Closes all left js → AreClosed all (reverse js)
-all_closed all left js empty whole = whole [] (subst (λ ns. AreClosed ns []) (sym empty) tt)
-
--- ---- journals are written, one after the other
 -- each is a run
 abbrev pub AreRuns : List Log → Type 0
 AreRuns ls = All (λ (l : Log). Replays l.config l.entries) ls
 
--- some of the journals of networks have been written, and those are left
-pub record IsPartWritten (nets : List Net) (left : List Log) (decided lengths : Bytes) : Type 0 where
+-- some networks were closed and their journals written, and those are left: whatever their journals will be, these and
+-- they are the journals of all
+pub record IsPartWritten (nets left : List Net) (decided lengths : Bytes) : Type 0 where
   pub written : List Log
-  pub closed : AreClosed nets (written ++ left)
+  pub closed : (ls : List Log) → AreClosed left ls → AreClosed nets (written ++ ls)
   pub runs : AreRuns written
   pub lines : AreAllDecidedLines written decided
   pub long : lengths ≡ length_lines written
 
-pub part_none : (nets : List Net) (left : List Log) (decided lengths : Bytes) → AreClosed nets left → decided ≡ [] → lengths ≡ [] → IsPartWritten nets left decided lengths
-part_none nets left decided lengths closed e f = record {
+pub part_none : (nets : List Net) (decided lengths : Bytes) → decided ≡ [] → lengths ≡ [] → IsPartWritten nets nets decided lengths
+part_none nets decided lengths e f = record {
   written = [];
-  closed = closed;
+  closed = λ ls h. h;
   runs = All-nil (λ (l : Log). Replays l.config l.entries);
   lines = subst (AreAllDecidedLines []) (sym e) none;
   long = f;
@@ -71,12 +56,12 @@ lengths_both ls ks = flat_map-append (λ (l : Log). length_line l.config.number 
 lengths_more : (ls : List Log) (l : Log) → length_lines (ls ++ l ∷ []) ≡ length_lines ls ++ length_line l.config.number (length l.entries)
 lengths_more ls l = lengths_both ls (l ∷ []) ∙ ap (λ s. length_lines ls ++ s) (append-nil (length_line l.config.number (length l.entries)))
 
--- the last of a list of journals is written, which stand the other way round
-pub part_more : (nets : List Net) (js rest : List Log) (l : Log) (decided lengths wider longer : Bytes) → js ≡ rest ++ l ∷ [] → AddsJournalLines l decided lengths wider longer
-    → IsPartWritten nets (reverse js) decided lengths → IsPartWritten nets (reverse rest) wider longer
-part_more nets js rest l decided lengths wider longer is next part = record {
+-- the first of those that are left is closed, and its journal written
+pub part_more : (nets left rest : List Net) (n : Net) (l : Log) (seats : List SeatSight) (decided lengths wider longer : Bytes) → left ≡ n ∷ rest → IsClosedNet n l seats → AddsJournalLines l decided lengths wider longer
+    → IsPartWritten nets left decided lengths → IsPartWritten nets rest wider longer
+part_more nets left rest n l seats decided lengths wider longer is done next part = record {
   written = part.written ++ l ∷ [];
-  closed = subst (AreClosed nets) (ap (λ ks. part.written ++ ks) (ap (λ ks. reverse ks) is ∙ reversed_more rest l) ∙ sym (append_assoc part.written (l ∷ []) (reverse rest))) part.closed;
+  closed = λ ls h. subst (AreClosed nets) (sym (append_assoc part.written (l ∷ []) ls)) (part.closed (l ∷ ls) (subst (λ ns. AreClosed ns (l ∷ ls)) (sym is) ((seats, done), h)));
   runs = All-push (λ (k : Log). Replays k.config k.entries) part.written l part.runs next.0;
   lines = subst (AreAllDecidedLines (part.written ++ l ∷ [])) (sym next.1.2) (lines_more part.written l decided next.1.0 part.lines next.1.1);
   long = next.2 ∙ ap (λ s. s ++ length_line l.config.number (length l.entries)) part.long ∙ sym (lengths_more part.written l);
@@ -89,10 +74,10 @@ journals_of (n ∷ ns) [] closed runs = absurd closed
 journals_of (n ∷ ns) (l ∷ ls) closed runs = ((closed.0, runs 0 l (omega arith)), journals_of ns ls closed.1 (λ k d lt. runs (suc k) d (omega arith)))
 
 -- when none is left, all have been written
-pub all_written : (nets : List Net) (js : List Log) (decided lengths : Bytes) → js ≡ [] → IsPartWritten nets (reverse js) decided lengths → AreJournalLines nets decided lengths
-all_written nets js decided lengths empty part = record {
+pub all_written : (nets left : List Net) (decided lengths : Bytes) → left ≡ [] → IsPartWritten nets left decided lengths → AreJournalLines nets decided lengths
+all_written nets left decided lengths empty part = record {
   logs = part.written;
-  journals = journals_of nets part.written (subst (AreClosed nets) (ap (λ ks. part.written ++ reverse ks) empty ∙ append-nil part.written) part.closed) part.runs;
+  journals = journals_of nets part.written (subst (AreClosed nets) (append-nil part.written) (part.closed [] (subst (λ ns. AreClosed ns []) (sym empty) tt))) part.runs;
   lines = part.lines;
   long = part.long;
 }

@@ -23,11 +23,7 @@ job_of call = record { network = call.0; event = call.1 }
 abbrev pub jobs_of : List (ℕ × Event) → List Job
 jobs_of calls = map job_of calls
 
--- the journals of networks, in their order: each is one history of its network's seats
-abbrev pub AreClosed : List Net → List Log → Type 0
-AreClosed ns ls = AllZip (λ n l. (seats : List SeatSight) × IsClosedNet n l seats) ns ls
-
--- the same, and a run
+-- the journals of networks, in their order: each is one history of its network's seats, and a run
 abbrev pub AreJournals : List Net → List Log → Type 0
 AreJournals ns ls =
     AllZip (λ n (l : Log). ((seats : List SeatSight) × IsClosedNet n l seats) × Replays l.config l.entries) ns ls

@@ -1,10 +1,10 @@
 //! A whole script on a pool of workers.
 
-ghost use Rattle.std.specs.Prelude.{◌≡◌, ◌<◌, ◌≤◌, ◌++◌, ℕ, IfOk, OnOk, [], reverse, string_bytes};
+ghost use Rattle.std.specs.Prelude.{◌≡◌, ◌<◌, ◌≤◌, ◌++◌, ℕ, IfOk, OnOk, [], string_bytes};
 ghost use Rattle.std.specs.List.Sorted.{IsNonDecreasingBy};
 ghost use Rattle.std.specs.Thread.{IsSend, IsSync};
 ghost use Rattle.pooled.specs.Opening.{AreHosted, slots_of};
-ghost use Rattle.pooled.specs.Pooling.{AreClosed, AreDone, AreJournalLines, IsPoolText, AddsJournalLines, IsTextOfNets, IsTurn, jobs_of};
+ghost use Rattle.pooled.specs.Pooling.{AreDone, AreJournalLines, IsPoolText, AddsJournalLines, IsTextOfNets, IsTurn, jobs_of};
 
 use crate::gate::Open;
 use crate::joining::{UnopenedNetworks, join_all, open_by};
@@ -250,33 +250,28 @@ fn write_alone<R: Wait + Drop>(
 ) -> Result<JournalLines, AllocError>
     ensures { IfOk result (λ written. AreJournalLines host (string_bytes written.decided) (string_bytes written.lengths)) }
 {
-    let closed = close_all(rt, alloc, &mut host);
+    let written = write_each(rt, alloc, &mut host);
     drop(host);
-    let mut journals = closed?;
+    written
+}
+
+/// Closes one network after the other, ascending, and writes of it. The memory of what was written of is not given back.
+fn write_each<R: Wait + Drop>(
+    rt: &R,
+    alloc: Global,
+    host: &mut Host<SharedHandle<R>, R>,
+) -> Result<JournalLines, AllocError>
+    ensures { IfOk result (λ written. AreJournalLines host.old (string_bytes written.decided) (string_bytes written.lengths)) }
+{
     let mut decided = String::new(alloc);
     let mut lengths = String::new(alloc);
-    while let Some(journal) = journals.pop() {
+    while let Some((journal, _seats)) = host.close_next(rt) {
         let written = write_journal(alloc, &journal, &mut decided, &mut lengths);
         // Piece by piece, into the heaps of the threads that took them, this cost a quarter of a run of four workers.
         forget(journal);
         written?;
     }
     Ok(JournalLines { decided, lengths })
-}
-
-/// Closes each network. The journals stand descending by network.
-fn close_all<R: Wait + Drop>(
-    rt: &R,
-    alloc: Global,
-    host: &mut Host<SharedHandle<R>, R>,
-) -> Result<Vec<Journal<SharedHandle<R>>>, AllocError>
-    ensures { IfOk result (λ journals. AreClosed host.old (reverse journals.items)) }
-{
-    let mut journals = Vec::with_capacity(alloc, host.len())?;
-    while let Some((journal, _seats)) = host.close_last(rt) {
-        journals.push(journal)?;
-    }
-    Ok(journals)
 }
 
 /// Says of one journal more what its nodes have externalized, and how long it is. Where memory is wanting, a part

@@ -1,15 +1,23 @@
 //! Hosts run by several workers, with gates that hold jobs up and count them.
 
+ghost use Rattle.std.specs.Thread.{IsSend, IsSync};
+
+use crate::fixtures::proposal;
+use decisions::Watch;
 use envstore::SharedHandle;
-use fixtures::{Tally, close_all, host_of_networks, openings, proposals, report, run_jobs};
+use fixtures::{
+    Tally, close_all, host_of_networks, join, join_watched, openings, proposals, refusal_of,
+    report, run_jobs,
+};
 use std::alloc::Global;
 use std::sync::Wait;
 use std::sync::atomic::{AtomicU64, Ordering};
 use std::test::Fail;
 use std::thread;
 use std::thread::Threads;
+use types::Event;
 use work::Job;
-use workers::{Gate, Host, Report};
+use workers::{Gate, Host, NotJoined, Report};
 
 mod fixtures;
 
@@ -86,6 +94,51 @@ impl Gate for Counting {
     fn after<R: Wait>(&self, _rt: &R, _network: u32) {
         self.after.fetch_add(1, Ordering::SeqCst);
     }
+
+    // The job is seen before once more.
+    fn put_off<R: Wait>(&self, _rt: &R, _network: u32) {
+        self.before.fetch_sub(1, Ordering::SeqCst);
+    }
+}
+
+/// A gate of jobs of which those of network 1 are held up by a watch that reads: none begins before it reads, and it reads
+/// until four jobs of the others were applied.
+#[derive(Drop)]
+struct Reading {
+    begun: AtomicU64,
+    others: AtomicU64,
+    released: AtomicU64,
+}
+
+impl Reading {
+    /// It has seen nothing.
+    fn new() -> Reading {
+        Reading {
+            begun: AtomicU64::new(0),
+            others: AtomicU64::new(0),
+            released: AtomicU64::new(0),
+        }
+    }
+
+    /// A watch reads until the jobs of the others were applied.
+    fn hold<R: Wait>(&self, rt: &R, watch: &mut Watch) -> Option<()> {
+        watch.read(|_| {
+            self.begun.store(1, Ordering::SeqCst);
+            wait_for(rt, &self.released);
+        })
+    }
+}
+
+impl Gate for Reading {
+    fn before<R: Wait>(&self, rt: &R, _job: &Job) {
+        wait_for(rt, &self.begun);
+    }
+
+    fn after<R: Wait>(&self, _rt: &R, network: u32) {
+        if network != 1 && self.others.fetch_add(1, Ordering::SeqCst) == 3 {
+            self.released.store(1, Ordering::SeqCst);
+        }
+    }
 }
 
 /// Two networks of three nodes: their slots are opened by two workers, of whom each has a job at the same time, and then
@@ -161,5 +214,108 @@ fn four_workers_leave_journals_of_one_thread(rt: HostRuntime) -> Result<(), Fail
     assert_eq!(rt; served, heard.saturating_add(192));
     let all = served.saturating_add(64);
     assert_eq!(rt; seen, (all, all));
+    Ok(())
+}
+
+/// A slot is opened, or a node alone is to propose `x` at it.
+fn event_at(alloc: Global, slot: u64, is_opening: bool) -> Option<Event> {
+    if is_opening {
+        Some(Event::OpenSlot { slot })
+    } else {
+        proposal(alloc, slot, 0)
+    }
+}
+
+/// Four slots of network 1 are opened, or proposals made at them, and then one slot of each of networks 2 to 5.
+fn jobs_of_five(alloc: Global, is_opening: bool) -> Option<Vec<Job>> {
+    let mut jobs = Vec::new(alloc);
+    for slot in 1..5 {
+        let event = event_at(alloc, slot, is_opening)?;
+        jobs.push(Job { network: 1, event }).ok()?;
+    }
+    for network in 2..6 {
+        let event = event_at(alloc, 1, is_opening)?;
+        jobs.push(Job { network, event }).ok()?;
+    }
+    Some(jobs)
+}
+
+/// A watch reads, and beside it three workers run jobs. What is reported, and whether the watch has read.
+fn run_beside<R: Threads + Wait + Sync + Send + Drop>(
+    rt: &R,
+    alloc: Global,
+    host: &mut Host<SharedHandle<R>, R>,
+    watch: &mut Watch,
+    gate: &Reading,
+) -> (Option<()>, Option<Report>) {
+    let jobs = jobs_of_five(alloc, false);
+    thread::join(
+        rt,
+        move || gate.hold(rt, watch),
+        move || -> Option<Report>
+            requires { IsSync R.row × IsSend R.row }
+        { run_jobs(rt, alloc, host, (16, 3), jobs, gate) },
+    )
+}
+
+/// Five networks of a node alone, whose slots are open: the first is held up while three workers have jobs of it before
+/// those of the others.
+fn run_held<R: Threads + Wait + Sync + Send + Drop + Copy>(
+    rt: &R,
+    alloc: Global,
+) -> Option<(Option<()>, Option<Report>)> {
+    let mut host = Host::new(alloc);
+    let mut watch = join_watched(rt, alloc, &mut host, 1, 3)?;
+    for number in 2..6 {
+        join(rt, alloc, &mut host, (number, 1, 3))?;
+    }
+    let gate = Counting::new();
+    let opened = run_jobs(
+        rt,
+        alloc,
+        &mut host,
+        (8, 1),
+        jobs_of_five(alloc, true),
+        &gate,
+    );
+    let said = run_beside(rt, alloc, &mut host, &mut watch, &Reading::new());
+    drop(host);
+    drop(watch);
+    match opened {
+        Some(_) => Some(said),
+        None => None,
+    }
+}
+
+// What one proposal decides is published beside the watch that reads; the publication behind it waits for that, under the
+// network's lock, and the watch for the jobs of the others.
+#[test]
+fn a_network_that_is_held_up_holds_up_no_worker(rt: HostRuntime) -> Result<(), Fail> {
+    let (read, said) = run_held(&rt, rt.alloc()).ok_or("memory")?;
+    assert_eq!(rt; read, Some(()));
+    assert_eq!(rt; said, Some(report(8)));
+    Ok(())
+}
+
+/// Why networks do not join a host of two, one of which has number 1, and one of 4,096.
+fn refusals<R: Wait + Drop + Copy>(
+    rt: &R,
+    alloc: Global,
+) -> Option<(Option<NotJoined>, Option<NotJoined>, Option<NotJoined>)> {
+    let mut few = host_of_networks(rt, alloc, 2, 1, 1)?;
+    let there = refusal_of(rt, alloc, &mut few, 1);
+    drop(few);
+    let mut many = host_of_networks(rt, alloc, 4096, 1, 1)?;
+    let also_there = refusal_of(rt, alloc, &mut many, 4096);
+    let full = refusal_of(rt, alloc, &mut many, 5000);
+    drop(many);
+    Some((there, also_there, full))
+}
+
+#[test]
+fn a_host_says_why_a_network_does_not_join(rt: HostRuntime) -> Result<(), Fail> {
+    let said = refusals(&rt, rt.alloc()).ok_or("memory")?;
+    let there = Some(NotJoined::NumberThere);
+    assert_eq!(rt; said, (there, there, Some(NotJoined::TooManyNetworks)));
     Ok(())
 }

@@ -1,10 +1,10 @@
 -- Networks by number, and what they gained.
-use Rattle.std.proofs.Common.{◌≡◌, ◌≤◌, ◌<◌, ◌+◌, nat_lt, ℕ, zero, suc, Bool, true, false, if◌then◌else◌, List, [], ◌∷◌, ◌++◌, length, length-append, get_or, drop, take, map, refl, sym, ap, ◌∙◌, subst, arith, None, Some}
+use Rattle.std.proofs.Common.{◌≡◌, ◌≤◌, ◌<◌, ◌+◌, nat_lt, ℕ, zero, suc, Bool, true, false, if◌then◌else◌, List, [], ◌∷◌, ◌++◌, length, length-append, get_or, drop, take, map, refl, sym, ap, ◌∙◌, subst, arith, None, inl, inr, reverse}
 use Rattle.std.specs.List.{insert}
 use Rattle.std.proofs.lemmas.Bool.Decides.{nat_tests}
-use Rattle.std.proofs.lemmas.List.{drop-map, length-map, map-append, map_push, same_from_push, take-append-drop, take-map}
+use Rattle.std.proofs.lemmas.List.{drop-map, length-map, length-reverse, map-append, reverse-append, reverse-reverse, take-append-drop, take-map}
 use Rattle.std.proofs.lemmas.List.Edits.{length-insert}
-use Rattle.std.proofs.lemmas.List.Elements.{All-cons, All-from_get_or, All-nil, All-pop, All-take}
+use Rattle.std.proofs.lemmas.List.Elements.{All-cons, All-from_get_or, All-nil, All-take}
 use Rattle.std.proofs.lemmas.List.Sorted.{All-permutation, IsPermutation-insert}
 use Rattle.std.proofs.lemmas.Slice.Zip.{AllZip-long}
 use Rattle.std.proofs.Math.Seq.{drop-append_seam}
@@ -20,12 +20,13 @@ use Rattle.workers.specs.declared.host_state.HostState.{HostState}
 use Rattle.workers.specs.declared.running.Report.{Report}
 use Rattle.workers.specs.Sums.{IsLater, applied_of, heard_of, refused_of, seat_applied, seat_done, seat_heard, seat_refused, job, hears}
 use Rattle.workers.specs.Spares.{AllGrown, AllGrownSpares, AllHosted, IsHosted, IsWorked, on_spares}
-use Rattle.workers.specs.HostStates.{AreParts, IsPut, IsRemoved, IsSameHostState}
+use Rattle.workers.specs.HostStates.{AreParts, IsPut, IsRemoved, IsSameHostState, IsTurned}
 use Rattle.workers.specs.NetSights.{Net}
-use Rattle.workers.specs.Nets.{AllElsewhere, AllGrownNets, IsDone, IsHostState, IsGreatest, NoNet, denials_gained, done_since, receipts_gained, heard_since, nets_of, nets_with, over_nets, over_seats}
-use Rattle.workers.specs.Numbers.{AllAbove, AllLack, IsNumbered, IsRising, Lacks, number_of}
+use Rattle.workers.specs.Nets.{AllElsewhere, AllGrownNets, IsDone, IsHostState, IsKept, IsLeast, IsTurnedState, NoNet, denials_gained, done_since, receipts_gained, heard_since, nets_in, nets_of, nets_with, over_nets, over_seats}
+use Rattle.workers.specs.Joining.{HasNet}
+use Rattle.workers.specs.Numbers.{AllAbove, AllLack, IsNumberAt, IsNumbered, IsRising, Lacks, number_of}
 use Rattle.workers.proofs.Numbers.{IsPlace, lacks_at}
-use Rattle.workers.proofs.Pairs.{zip-last, zip-same}
+use Rattle.workers.proofs.Pairs.{zip-same}
 use Rattle.workers.proofs.Worked.{grown_none, hosted_grown}
 
 pub nets_len : {S H P : Type 0} → (cs : List CellSight) (bs : List (SpareSeats S H P)) → AllHosted cs bs → length (nets_of cs bs) ≡ length cs
@@ -127,53 +128,98 @@ joins_fresh f nets x i view is p few = subst (λ (l : List Net). NoNet l x × (l
       let n = ap (λ (l : List ℕ). length l) is.numbered.0 ∙ length-map f.shared.cells.items number_of in omega arith),
 )
 
--- the last network leaves
+-- a network of the number that was found is there
 
-above_both : (n : ℕ) (xs : List ℕ) (x : ℕ) → AllAbove n (xs ++ x ∷ []) → AllAbove n xs × (n < x)
-above_both n xs x all = All-pop (λ y. n < y) (xs ++ x ∷ []) xs (Some x) refl all
+has_net : {S H P : Type 0} → (cs : List CellSight) (bs : List (SpareSeats S H P)) (k x : ℕ) → AllHosted cs bs → k < length cs → IsNumberAt cs k x → HasNet (nets_of cs bs) x
+has_net [] bs k x all lt at = absurd (omega (arith, lt))
+has_net (c ∷ cs) [] k x all lt at = absurd all
+has_net (c ∷ cs) (b ∷ bs) zero x all lt at = inl (sym (at c))
+has_net (c ∷ cs) (b ∷ bs) (suc k) x all lt at = inr (has_net cs bs k x all.1 (omega (arith, lt)) at)
 
-rising_front : (xs : List ℕ) (x : ℕ) → IsRising (xs ++ x ∷ []) → IsRising xs
-rising_front [] x up = tt
-rising_front (y ∷ xs) x up = ((above_both y xs x up.0).0, rising_front xs x up.1)
+pub joins_twice : {S H P : Type 0} → (f : (HostState S H P)) (nets : List Net) (x k : ℕ) → nets_of f.shared.cells.items f.spares.items ≡ nets → IsHostState f → (k < length f.shared.cells.items) × IsNumberAt f.shared.cells.items k x → HasNet nets x
+joins_twice f nets x k view is there = subst (λ (l : List Net). HasNet l x) view (has_net f.shared.cells.items f.spares.items k x is.hosted there.0 there.1)
 
-hosted_last : {S H P : Type 0} → (cs : List CellSight) (bs : List (SpareSeats S H P)) (c : CellSight) (b : (SpareSeats S H P)) → AllHosted (cs ++ c ∷ []) (bs ++ b ∷ []) → AllHosted cs bs × IsHosted c b.seats.items
-hosted_last cs bs c b all =
-    let l = zip-last (λ (d : CellSight) (x : SpareSeats _ _ _). IsHosted d x.seats.items) (cs ++ c ∷ []) bs b all in
-    let same = same_from_push cs l.0 c l.1 l.2 in
-    (subst (λ (z : List CellSight). AllHosted z bs) (sym same.0) l.3, subst (λ (d : CellSight). IsHosted d b.seats.items) (sym same.1) l.4)
+-- none of the number is there, and there are 4,096
+pub joins_full : {S H P : Type 0} → (f : (HostState S H P)) (nets : List Net) (x i : ℕ) → nets_of f.shared.cells.items f.spares.items ≡ nets → IsHostState f → IsPlace f.shared.numbers.items x i → 4096 ≤ length f.shared.numbers.items → NoNet nets x × (length nets ≡ 4096)
+joins_full f nets x i view is p many = subst (λ (l : List Net). NoNet l x × (length l ≡ 4096)) view (
+  no_net f.shared.cells.items f.spares.items x (lacks_at f.shared.numbers.items f.shared.cells.items x i is.numbered p),
+  (let a = nets_len f.shared.cells.items f.spares.items is.hosted in
+      let few = is.few in
+      let n = ap (λ (l : List ℕ). length l) is.numbered.0 ∙ length-map f.shared.cells.items number_of in omega arith),
+)
 
-nets_last : {S H P : Type 0} → (cs : List CellSight) (bs : List (SpareSeats S H P)) (c : CellSight) (b : (SpareSeats S H P)) → AllHosted cs bs → nets_of (cs ++ c ∷ []) (bs ++ b ∷ []) ≡ nets_of cs bs ++ record { cell = c; seats = b.seats.items } ∷ []
-nets_last [] [] c b all = refl
-nets_last [] (x ∷ bs) c b all = absurd all
-nets_last (d ∷ cs) [] c b all = absurd all
-nets_last (d ∷ cs) (x ∷ bs) c b all = ap (λ l. record { cell = d; seats = x.seats.items } ∷ l) (nets_last cs bs c b all.1)
+-- networks that stand turned around
 
-greatest : {S H P : Type 0} → (c : CellSight) (seats : List SeatSight) (cs : List CellSight) (bs : List (SpareSeats S H P)) → IsRising (map number_of cs ++ number_of c ∷ []) → IsGreatest (record { cell = c; seats = seats }) (nets_of cs bs)
-greatest c seats [] bs up = tt
-greatest c seats (d ∷ cs) [] up = tt
-greatest c seats (d ∷ cs) (b ∷ bs) up = ((above_both (number_of d) (map number_of cs) (number_of c) up.0).1, greatest c seats cs bs up.1)
+pub kept_len : {S H P : Type 0} → (b : Bool) (f : (HostState S H P)) → IsKept b f → length (nets_in b f) ≡ length f.shared.cells.items
+kept_len true f is = nets_len (reverse f.shared.cells.items) (reverse f.spares.items) is.hosted ∙ length-reverse f.shared.cells.items
+kept_len false f is = nets_len f.shared.cells.items f.spares.items is.hosted
 
-pub leaves : {S H P : Type 0} → (f g : (HostState S H P)) (c : CellSight) (seats : List SeatSight) → IsHostState f → IsRemoved f c seats g
-    → IsHostState g × IsHosted c seats × IsGreatest (record { cell = c; seats = seats }) (nets_of g.shared.cells.items g.spares.items)
-    × (nets_of f.shared.cells.items f.spares.items ≡ nets_of g.shared.cells.items g.spares.items ++ record { cell = c; seats = seats } ∷ [])
-leaves {S} {H} {P} f g c seats is gone =
-    let ns = g.shared.numbers.items in
-    let cs = g.shared.cells.items in
-    let bs = g.spares.items in
-    let both = hosted_last cs bs c gone.spare (subst (λ (z : List CellSight × List (SpareSeats S H P)). AllHosted z.0 z.1) (λ i. (gone.cells i, gone.spares i)) is.hosted) in
-    let same : ns ++ gone.number ∷ [] ≡ map number_of cs ++ number_of c ∷ [] = sym gone.numbers ∙ is.numbered.0 ∙ ap (map number_of) gone.cells ∙ map_push number_of cs c in
-    let up : IsRising (ns ++ gone.number ∷ []) = subst IsRising gone.numbers is.numbered.1 in
-    let n = ap (λ (l : List CellSight). length l) gone.cells ∙ length-append cs (c ∷ []) in
-    let few = is.few in (
+pub turned : {S H P : Type 0} → (b w : Bool) (f g : (HostState S H P)) → (b ≡ w → ⊥) → IsTurned f g → IsKept b f → IsKept w g × (nets_in w g ≡ nets_in b f)
+turned true true f g apart is kept = absurd (apart refl)
+turned false false f g apart is kept = absurd (apart refl)
+turned {S} {H} {P} true false f g apart is kept =
+    let few = kept.few in
+    let n = ap (λ (l : List CellSight). length l) is.cells ∙ length-reverse f.shared.cells.items in (
       record {
-        numbered = ((same_from_push ns (map number_of cs) gone.number (number_of c) same).0, rising_front ns gone.number up);
-        hosted = both.0;
+        numbered = subst (λ (z : List ℕ × List CellSight). IsNumbered z.0 z.1) (λ i. (sym is.numbers i, sym is.cells i)) kept.numbered;
+        hosted = subst (λ (z : List CellSight × List (SpareSeats S H P)). AllHosted z.0 z.1) (λ i. (sym is.cells i, sym is.spares i)) kept.hosted;
         few = omega arith;
-        closed = gone.queue ∙ is.closed;
+        closed = is.queue ∙ kept.closed;
       },
-      subst (IsHosted c) gone.own both.1,
-      greatest c seats cs bs (subst IsRising same up),
-      (λ i. nets_of (gone.cells i) (gone.spares i)) ∙ nets_last cs bs c gone.spare both.0 ∙ ap (λ (l : List SeatSight). nets_of cs bs ++ record { cell = c; seats = l } ∷ []) gone.own,
+      (λ i. nets_of (is.cells i) (is.spares i)),
+    )
+turned {S} {H} {P} false true f g apart is kept =
+    let few = kept.few in
+    let n = ap (λ (l : List CellSight). length l) is.cells ∙ length-reverse f.shared.cells.items in
+    let numbers : reverse g.shared.numbers.items ≡ f.shared.numbers.items = ap (λ l. reverse l) is.numbers ∙ reverse-reverse f.shared.numbers.items in
+    let cells : reverse g.shared.cells.items ≡ f.shared.cells.items = ap (λ l. reverse l) is.cells ∙ reverse-reverse f.shared.cells.items in
+    let spares : reverse g.spares.items ≡ f.spares.items = ap (λ l. reverse l) is.spares ∙ reverse-reverse f.spares.items in (
+      record {
+        numbered = subst (λ (z : List ℕ × List CellSight). IsNumbered z.0 z.1) (λ i. (sym numbers i, sym cells i)) kept.numbered;
+        hosted = subst (λ (z : List CellSight × List (SpareSeats S H P)). AllHosted z.0 z.1) (λ i. (sym cells i, sym spares i)) kept.hosted;
+        few = omega arith;
+        closed = is.queue ∙ kept.closed;
+      },
+      (λ i. nets_of (cells i) (spares i)),
+    )
+
+pub turned_long : {S H P : Type 0} → (f : (HostState S H P)) → IsTurnedState f → (length f.shared.numbers.items ≡ length f.shared.cells.items) × (length f.spares.items ≡ length f.shared.cells.items)
+turned_long f is =
+    let n = ap (λ (l : List ℕ). length l) is.numbered.0 ∙ length-map (reverse f.shared.cells.items) number_of in
+    let h = AllZip-long _ (reverse f.shared.cells.items) (reverse f.spares.items) is.hosted in
+    let a = length-reverse f.shared.numbers.items in
+    let b = length-reverse f.shared.cells.items in
+    let d = length-reverse f.spares.items in (omega arith, omega arith)
+
+pub as_wanted : {S H P : Type 0} → (b w : Bool) (f : (HostState S H P)) → b ≡ w → IsKept b f → IsKept w f × (nets_in w f ≡ nets_in b f)
+as_wanted b w f same kept = (subst (λ t. IsKept t f) same kept, ap (λ t. nets_in t f) (sym same))
+
+-- of networks that stand turned around the last one leaves, which has the least number
+
+least : {S H P : Type 0} → (c : CellSight) (seats : List SeatSight) (cs : List CellSight) (bs : List (SpareSeats S H P)) → AllAbove (number_of c) (map number_of cs) → IsLeast (record { cell = c; seats = seats }) (nets_of cs bs)
+least c seats [] bs up = tt
+least c seats (d ∷ cs) [] up = tt
+least c seats (d ∷ cs) (b ∷ bs) up = (up 0 0 (omega arith), least c seats cs bs (λ k e lt. up (suc k) e (omega (arith, lt))))
+
+pub leaves : {S H P : Type 0} → (f g : (HostState S H P)) (c : CellSight) (seats : List SeatSight) → IsTurnedState f → IsRemoved f c seats g
+    → IsTurnedState g × IsHosted c seats × IsLeast (record { cell = c; seats = seats }) (nets_in true g) × (nets_in true f ≡ record { cell = c; seats = seats } ∷ nets_in true g)
+leaves {S} {H} {P} f g c seats is gone =
+    let ns = reverse g.shared.numbers.items in
+    let cs = reverse g.shared.cells.items in
+    let bs = reverse g.spares.items in
+    let numbers : reverse f.shared.numbers.items ≡ gone.number ∷ ns = ap (λ l. reverse l) gone.numbers ∙ reverse-append g.shared.numbers.items (gone.number ∷ []) in
+    let cells : reverse f.shared.cells.items ≡ c ∷ cs = ap (λ l. reverse l) gone.cells ∙ reverse-append g.shared.cells.items (c ∷ []) in
+    let spares : reverse f.spares.items ≡ gone.spare ∷ bs = ap (λ l. reverse l) gone.spares ∙ reverse-append g.spares.items (gone.spare ∷ []) in
+    let numbered : IsNumbered (gone.number ∷ ns) (c ∷ cs) = subst (λ (z : List ℕ × List CellSight). IsNumbered z.0 z.1) (λ i. (numbers i, cells i)) is.numbered in
+    let hosted : AllHosted (c ∷ cs) (gone.spare ∷ bs) = subst (λ (z : List CellSight × List (SpareSeats S H P)). AllHosted z.0 z.1) (λ i. (cells i, spares i)) is.hosted in
+    let first : gone.number ≡ number_of c = ap (λ l. get_or l 0 0) numbered.0 in
+    let others : ns ≡ map number_of cs = ap (λ l. drop 1 l) numbered.0 in
+    let n = ap (λ (l : List CellSight). length l) gone.cells ∙ length-append g.shared.cells.items (c ∷ []) in
+    let few = is.few in (
+      record { numbered = (others, numbered.1.1); hosted = hosted.1; few = omega arith; closed = gone.queue ∙ is.closed },
+      subst (IsHosted c) gone.own hosted.0,
+      least c seats cs bs (subst (λ (z : ℕ × List ℕ). AllAbove z.0 z.1) (λ i. (first i, others i)) numbered.1.0),
+      (λ i. nets_of (cells i) (spares i)) ∙ ap (λ (l : List SeatSight). record { cell = c; seats = l } ∷ nets_of cs bs) gone.own,
     )
 
 -- networks part

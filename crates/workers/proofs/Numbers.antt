@@ -46,6 +46,13 @@ found_place ns seen x y i r up same named is result =
     subst (λ k. IsPlace ns k i) named
     (is_insertion_place ns y i up (subst (λ (s : List ℕ × Result ℕ ℕ). IsBinarySearchResult (λ k. nat_cmp k y) s.0 s.1) (λ j. (same j, is j)) result))
 
+-- the same where it was found
+pub found_there : (ns seen : List ℕ) (cs : List CellSight) (x y k : ℕ) (r : Result ℕ ℕ) → IsNumbered ns cs → seen ≡ ns → y ≡ x → r ≡ Ok k
+    → IsBinarySearchResult (λ j. nat_cmp j y) seen r → (k < length cs) × IsNumberAt cs k x
+found_there ns seen cs x y k r numbered same named is result =
+    subst (λ n. (k < length cs) × IsNumberAt cs k n) named
+    (found ns cs y k numbered (subst (λ (s : List ℕ × Result ℕ ℕ). IsBinarySearchResult (λ j. nat_cmp j y) s.0 s.1) (λ j. (same j, is j)) result))
+
 pub lacks_at : (ns : List ℕ) (cs : List CellSight) (x i : ℕ) → IsNumbered ns cs → IsPlace ns x i → Lacks cs x
 lacks_at ns cs x i numbered p = let q = subst (λ (l : List ℕ). IsPlace l x i) numbered.0 p in lacks_by cs x i q.1 q.2
 

@@ -343,6 +343,25 @@ kept_put cs a b j walks applied refused pass =
       parts = ap (λ (v : Hand). v.parts) pass;
     }
 
+-- what was done from here was done from there, where all is the same but how the pass is named
+pub kept_from : {S H P : Type 0} → (cs : List CellSight) (js : List Job) (a b c : (Worker S H P)) → b.walks ≡ a.walks → b.applied ≡ a.applied → b.refused ≡ a.refused → hand_of b.pass ≡ hand_of a.pass → KeepsSums cs js b c → KeepsSums cs js a c
+kept_from cs js a b c walks applied refused pass kept =
+    let items : b.walks.items ≡ a.walks.items = ap (λ v. v.items) walks in
+    record {
+      lacking = kept.lacking;
+      elsewhere = kept.elsewhere;
+      sum = λ h.
+          let d : weight_done h b ≡ weight_done h a = ap (weigh (done_by h)) items in
+          let k : weight_followed h b ≡ weight_followed h a = ap (weigh (followed_by h)) items in
+          let p : weight_put h b ≡ weight_put h a = ap (λ (v : Hand). weigh h v.put) pass in
+          let t : weight_taken h b ≡ weight_taken h a = ap (λ (v : Hand). weigh h v.taken) pass in
+          let s = kept.sum h in omega arith;
+      applied = let m : weigh applied_many b.walks.items ≡ weigh applied_many a.walks.items = ap (weigh applied_many) items in let s = kept.applied in omega arith;
+      refused = let m : weigh refused_many b.walks.items ≡ weigh refused_many a.walks.items = ap (weigh refused_many) items in let s = kept.refused in omega arith;
+      later = subst (λ l. AllLater l c.walks.items) items kept.later;
+      parts = kept.parts ∙ ap (λ (v : Hand). v.parts) pass;
+    }
+
 -- the job that was taken is done
 pub kept_taken : {S H P : Type 0} → (cs : List CellSight) (a b c : (Worker S H P)) (j : Job) → b.walks ≡ a.walks → b.applied ≡ a.applied → b.refused ≡ a.refused → hand_of b.pass ≡ with_taken (hand_of a.pass) j → KeepsSums cs (j ∷ []) b c → KeepsSums cs [] a c
 kept_taken cs a b c j walks applied refused pass kept =

@@ -1,18 +1,18 @@
 -- What a run did, over all seats.
 use Rattle.std.proofs.Common.{◌≡◌, ◌≤◌, ◌<◌, ◌+◌, ℕ, suc, List, [], ◌∷◌, ◌++◌, length, get_or, take, drop, refl, sym, ap, ◌∙◌, subst, arith, Option, Some, None, slice_get, vec_capacity}
 use Rattle.std.specs.List.{AllZip}
-use Rattle.std.proofs.lemmas.List.Elements.{All-append, All-cons, All-head, All-nil, All-pop, All-tail, AllZip-get_or, AllZip-push}
+use Rattle.std.proofs.lemmas.List.Elements.{All-cons, All-head, All-nil, All-pop, All-tail, AllZip-get_or, AllZip-push}
 use Rattle.std.proofs.lemmas.Option.{get_or_from_slice_get, slice_get-get_or, slice_get_within}
 use Rattle.std.proofs.lemmas.Slice.Zip.{AllZip-long}
 use Rattle.std.proofs.lemmas.List.{take_all, take_more}
 use Rattle.std.proofs.Math.Seq.{take-append_seam}
-use Rattle.crossbeam_queue.specs.Passes.{Pass, view}
+use Rattle.crossbeam_queue.specs.Passes.{Pass}
 use Rattle.work.specs.declared.rule.Job.{Job}
 use Rattle.work.specs.declared.rule.Hand.{Hand}
 use Rattle.work.specs.declared.line.Queue.{Queue}
 use Rattle.work.specs.Hands.{weigh}
-use Rattle.work.specs.Queues.{put_by, taken_by, parts_by}
-use Rattle.work.proofs.Balances.{weigh-append, weigh-snoc}
+use Rattle.work.specs.Queues.{put_by, taken_by}
+use Rattle.work.proofs.Balances.{weigh-snoc}
 use Rattle.cells.specs.Sights.{CellSight}
 use Rattle.cells.specs.Cells.{IsSeatOf}
 use Rattle.cells.specs.Closing.{AllSeats}
@@ -21,15 +21,11 @@ use Rattle.workers.specs.declared.deal.SpareSeats.{SpareSeats}
 use Rattle.workers.specs.declared.running.Report.{Report}
 use Rattle.workers.specs.declared.walk.Walk.{Walk}
 use Rattle.workers.specs.declared.worker.Worker.{Worker}
-use Rattle.workers.specs.Sums.{AllLater, AllLaterWorkers, AllPassing, AllPast, AllReady, AllSeated, IsClosed, IsPast, IsLater, IsReady, applied_by, weight_followed, followed_by, denials_of, weight_done, heard_of, parts_of, weight_put, receipts_of, refused_by, seat_applied, seat_done, seat_heard, seat_refused, weight_taken}
+use Rattle.workers.specs.Sums.{AllLater, AllLaterWorkers, AllPast, AllReady, AllSeated, IsClosed, IsPast, IsLater, IsReady, applied_by, weight_followed, followed_by, denials_of, weight_done, heard_of, receipts_of, refused_by, seat_applied, seat_done, seat_heard, seat_refused}
 use Rattle.workers.specs.Spares.{AllFresh, AllGrown, AllGrownSpares, AllHave, AllHold, AllHosted, AllRoomy, IsCounted, IsHosted, IsDealt, IsDealtAll, IsGiven, IsSplit, IsWorked, at_work, on_spares}
 use Rattle.workers.proofs.Pairs.{zip-same, zip-then}
 use Rattle.workers.proofs.Sums.{later_none}
-use Rattle.workers.proofs.Deals.{dealt_all_sum, dealt_len, dealt_sum, given_sum, passing_cut}
-use Rattle.workers.proofs.Pools.{parts_weigh, passing_one, put_weighs, taken_weighs}
-use Rattle.std.specs.Option.{option_to_list}
-use Rattle.workers.specs.Sums.{KeepsSums, IsPassing}
-use Rattle.work.specs.Queues.{parts}
+use Rattle.workers.proofs.Deals.{dealt_all_sum, dealt_len}
 
 pub weigh_more : {X : Type 0} (f : X → ℕ) (xs : List X) (i : ℕ) (x : X) → i < length xs → x ≡ get_or xs i x → weigh f (take (i + 1) xs) ≡ weigh f (take i xs) + f x
 weigh_more f xs i x lt at = ap (weigh f) (take_more xs i x lt ∙ ap (λ y. take i xs ++ y ∷ []) (sym at)) ∙ weigh-snoc f (take i xs) x

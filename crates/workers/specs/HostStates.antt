@@ -1,5 +1,5 @@
 -- Networks that join and leave.
-use Rattle.std.specs.Prelude.{◌≡◌, ◌<◌, ℕ, List, [], ◌∷◌, ◌++◌, None, drop, insert, take, vec_len, vec_capacity}
+use Rattle.std.specs.Prelude.{◌≡◌, ◌<◌, ℕ, List, [], ◌∷◌, ◌++◌, None, drop, insert, reverse, take, vec_len, vec_capacity}
 use Rattle.cells.specs.Sights.{CellSight}
 use Rattle.cells.specs.Sights.{SeatSight}
 use Rattle.workers.specs.declared.deal.SpareSeats.{SpareSeats}
@@ -26,6 +26,13 @@ pub record IsPut {S H P : Type 0} (a : (HostState S H P)) (place : ℕ) (c : Cel
   pub spare : (SpareSeats S H P)
   pub own : spare.seats.items ≡ seats
   pub spares : b.spares.items ≡ insert a.spares.items place spare
+  pub queue : b.shared.queue ≡ a.shared.queue
+
+-- the networks stand the other way round
+pub record IsTurned {S H P : Type 0} (a b : (HostState S H P)) : Type 0 where
+  pub numbers : b.shared.numbers.items ≡ reverse a.shared.numbers.items
+  pub cells : b.shared.cells.items ≡ reverse a.shared.cells.items
+  pub spares : b.spares.items ≡ reverse a.spares.items
   pub queue : b.shared.queue ≡ a.shared.queue
 
 -- the last network is gone, and all else is as it was

@@ -3,4 +3,5 @@ pub mod Sums
 pub mod Spares
 pub mod NetSights
 pub mod Nets
+pub mod Joining
 pub mod HostStates

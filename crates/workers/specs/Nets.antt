@@ -1,5 +1,5 @@
 -- The networks of a host, and what a run makes of them.
-use Rattle.std.specs.Prelude.{◌≡◌, ◌<◌, ◌≤◌, ◌+◌, ◌≢◌, nat_lt, ℕ, List, [], ◌∷◌, length, drop, map, if◌then◌else◌, None}
+use Rattle.std.specs.Prelude.{◌≡◌, ◌<◌, ◌≤◌, ◌+◌, ◌≢◌, nat_lt, ℕ, Bool, true, false, List, [], ◌∷◌, length, drop, map, reverse, if◌then◌else◌, None}
 use Rattle.std.specs.List.{All, AllZip}
 use Rattle.hoststep.specs.Logs.{Log}
 use Rattle.work.specs.declared.rule.Job.{Job}
@@ -33,6 +33,24 @@ pub record IsHostState {S H P : Type 0} (f : (HostState S H P)) : Type 0 where
   pub few : length f.shared.cells.items ≤ 4096
   pub closed : f.shared.queue ≡ None
 
+-- the same, with the lists turned around
+pub record IsTurnedState {S H P : Type 0} (f : (HostState S H P)) : Type 0 where
+  pub numbered : IsNumbered (reverse f.shared.numbers.items) (reverse f.shared.cells.items)
+  pub hosted : AllHosted (reverse f.shared.cells.items) (reverse f.spares.items)
+  pub few : length f.shared.cells.items ≤ 4096
+  pub closed : f.shared.queue ≡ None
+
+-- what a host keeps, with its lists turned around, or not: the cells in their order, with all seats, at most 4,096, and
+-- no queue
+abbrev pub IsKept : {S H P : Type 0} → Bool → (HostState S H P) → Type 0
+IsKept true f = IsTurnedState f
+IsKept false f = IsHostState f
+
+-- the networks of a host whose lists are turned around, or not
+abbrev pub nets_in : {S H P : Type 0} → Bool → (HostState S H P) → List Net
+nets_in true f = nets_of (reverse f.shared.cells.items) (reverse f.spares.items)
+nets_in false f = nets_of f.shared.cells.items f.spares.items
+
 -- the networks with one more, in the place of its number
 abbrev pub nets_with : Net → List Net → List Net
 nets_with n [] = n ∷ []
@@ -43,10 +61,10 @@ abbrev pub NoNet : List Net → ℕ → Type 0
 NoNet [] number = Unit {0}
 NoNet (n ∷ ns) number = (number ≢ net_number n) × NoNet ns number
 
--- each other network has a lesser number than this one
-abbrev pub IsGreatest : Net → List Net → Type 0
-IsGreatest n [] = Unit {0}
-IsGreatest n (m ∷ ms) = (net_number m < net_number n) × IsGreatest n ms
+-- each other network has a greater number than this one
+abbrev pub IsLeast : Net → List Net → Type 0
+IsLeast n [] = Unit {0}
+IsLeast n (m ∷ ms) = (net_number n < net_number m) × IsLeast n ms
 
 -- the journal of a network is one history of its seats
 pub record IsClosedNet (n : Net) (j : Log) (ss : List SeatSight) : Type 0 where

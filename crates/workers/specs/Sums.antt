@@ -105,6 +105,7 @@ abbrev pub hand_of : Option (Pass Job Hand) → Hand
 hand_of None = hand 0 [] []
 hand_of (Some p) = view p
 
+-- what a pass has with one job more that was put
 abbrev pub with_put : Hand → Job → Hand
 with_put p j = hand p.parts (p.put ++ j ∷ []) p.taken
 

@@ -3,10 +3,12 @@
 ghost use Rattle.std.specs.Prelude.{◌≡◌, ◌<◌, ◌≤◌, [], ◌∷◌, ◌++◌, IfErr, IfOk, IfSome, IfNone, OnOk, drop, length, take, Err};
 ghost use Rattle.workers.specs.Spares.{IsHosted};
 ghost use Rattle.workers.specs.NetSights.{Net};
-ghost use Rattle.workers.specs.Nets.{IsClosedNet, IsGreatest, NoNet, nets_with};
+ghost use Rattle.workers.specs.Joining.{IsWhyNotJoined};
+ghost use Rattle.workers.specs.Nets.{IsClosedNet, IsLeast, NoNet, nets_with};
 
 use crate::deal::SpareSeats;
 use crate::host_state::HostState;
+use crate::not_joined::NotJoined;
 use crate::shared::Shared;
 use cells::{Cell, Seat};
 use envstore::Shelf;
@@ -27,6 +29,8 @@ pub const MAX_NETWORKS: usize = 4096;
 pub struct Host<S: Shelf, H: Wait + Drop> {
     pub(crate) alloc: Global,
     pub(crate) host_state: HostState<S, H>,
+    // Whether the lists of the state stand turned around, the least number last, as where networks are closed.
+    pub(crate) is_turned: bool,
 }
 
 impl<S: Shelf, H: Wait + Drop> Model for Host<S, H> {
@@ -39,11 +43,11 @@ impl<S: Shelf, H: Wait + Drop> Model for Host<S, H> {
 
     ghost coded = { Prim.hlevel (codes, members_code) };
 
-    ghost use Rattle.workers.specs.Nets.{IsHostState, nets_of};
+    ghost use Rattle.workers.specs.Nets.{IsKept, nets_in};
 
-    ghost view = { λ h. nets_of h.host_state.shared.cells.items h.host_state.spares.items };
+    ghost view = { λ h. nets_in h.is_turned h.host_state };
 
-    ghost invariant = { λ h. IsHostState h.host_state };
+    ghost invariant = { λ h. IsKept h.is_turned h.host_state };
 }
 
 impl<S: Shelf + Drop, H: Wait + Drop> Host<S, H> {
@@ -61,6 +65,7 @@ impl<S: Shelf + Drop, H: Wait + Drop> Host<S, H> {
                 },
                 spares: Vec::new(alloc),
             },
+            is_turned: false,
         }
     }
 
@@ -73,28 +78,31 @@ impl<S: Shelf + Drop, H: Wait + Drop> Host<S, H> {
 
     /// Takes a network in, given by its cell and all seats of it, in the place of its number.
     ///
-    /// An error hands the cell and the seats back: a network of this number is there, or 4,096 networks are, or
-    /// memory is short. The host is then as it was.
+    /// An error says why not, and hands the cell and the seats back: a network of this number is there, or 4,096
+    /// networks are, or memory is short, which it says only where neither is so. The host is then as it was.
     pub fn add(
         &mut self,
         cell: Cell<S, H>,
         seats: Vec<Seat<S, H>>,
-    ) -> Result<(), (Cell<S, H>, Vec<Seat<S, H>>)>
+    ) -> Result<(), (NotJoined, Cell<S, H>, Vec<Seat<S, H>>)>
         requires { IsHosted cell seats.items }
         ensures ok { OnOk result (self.new ≡ nets_with (record { cell = cell; seats = seats.items }) self.old) }
         ensures fresh { OnOk result (NoNet self.old cell.config.number × (length self.old < 4096)) }
-        ensures back { IfErr result (λ r. (r.0 ≡ cell) × (r.1 ≡ seats)) }
+        ensures why { IfErr result (λ r. IsWhyNotJoined self.old cell.config.number r.0) }
+        ensures back { IfErr result (λ r. (r.1 ≡ cell) × (r.2 ≡ seats)) }
         ensures same { IfErr result (λ _. self.new ≡ self.old) }
     {
+        self.host_state.turn_to(self.is_turned, false);
+        self.is_turned = false;
         let number = cell.config().number();
         match self.host_state.shared.numbers.binary_search(&number) {
-            Ok(_) => Err((cell, seats)),
+            Ok(_) => Err((NotJoined::NumberThere, cell, seats)),
             Err(place) => {
                 if self.host_state.shared.numbers.len() >= MAX_NETWORKS {
-                    return Err((cell, seats));
+                    return Err((NotJoined::TooManyNetworks, cell, seats));
                 }
                 if !self.host_state.reserve() {
-                    return Err((cell, seats));
+                    return Err((NotJoined::NoMemory, cell, seats));
                 }
                 self.host_state.put_at(place, cell, seats);
                 Ok(())
@@ -102,14 +110,17 @@ impl<S: Shelf + Drop, H: Wait + Drop> Host<S, H> {
         }
     }
 
-    /// Takes out the network with the greatest number, closes its cell, and hands over its journal and its seats,
+    /// Takes out the network with the least number, closes its cell, and hands over its journal and its seats,
     /// which have ended: together one history of one thread. `None` says that there is no network left.
     ///
-    /// It takes no memory, and time by the seats of this network alone, however many others the host has.
-    pub fn close_last<R: Wait>(&mut self, rt: &R) -> Option<(Journal<S>, Vec<Seat<S, H>>)>
+    /// It takes no memory, and time by the seats of this network alone, however many others the host has; but the first
+    /// of such calls turns the networks around, and whatever else is called then turns them back.
+    pub fn close_next<R: Wait>(&mut self, rt: &R) -> Option<(Journal<S>, Vec<Seat<S, H>>)>
         ensures none { IfNone result ((self.old ≡ []) × (self.new ≡ [])) }
-        ensures closed { IfSome result (λ r. (net : Net) × (self.old ≡ self.new ++ net ∷ []) × IsGreatest net self.new × IsClosedNet net r.0 r.1.items) }
+        ensures closed { IfSome result (λ r. (net : Net) × (self.old ≡ net ∷ self.new) × IsLeast net self.new × IsClosedNet net r.0 r.1.items) }
     {
+        self.host_state.turn_to(self.is_turned, true);
+        self.is_turned = true;
         if self.host_state.shared.cells.is_empty() {
             return None;
         }
@@ -131,16 +142,27 @@ impl<S: Shelf + Drop, H: Wait + Drop> Host<S, H> {
         let Host {
             alloc,
             mut host_state,
+            is_turned,
         } = self;
+        host_state.turn_to(is_turned, false);
         match host_state.split_off(alloc, count) {
             Ok(others) => Ok((
-                Host { alloc, host_state },
+                Host {
+                    alloc,
+                    host_state,
+                    is_turned: false,
+                },
                 Host {
                     alloc,
                     host_state: others,
+                    is_turned: false,
                 },
             )),
-            Err(_) => Err(Host { alloc, host_state }),
+            Err(_) => Err(Host {
+                alloc,
+                host_state,
+                is_turned: false,
+            }),
         }
     }
 }

@@ -1,7 +1,8 @@
 //! The cells of a host, and the seats at them.
 
 ghost use Rattle.std.specs.Prelude.{◌≡◌, ◌<◌, ◌≤◌, ◌∷◌, IfOk, OnErr, length, insert, IsTrue, vec_len, vec_capacity};
-ghost use Rattle.workers.specs.HostStates.{AreParts, HasRoom, IsPut, IsRemoved, IsSameHostState};
+ghost use Rattle.workers.specs.HostStates.{AreParts, HasRoom, IsPut, IsRemoved, IsSameHostState, IsTurned};
+ghost use Rattle.workers.specs.Nets.{IsKept, nets_in};
 
 use crate::deal::SpareSeats;
 use crate::shared::Shared;
@@ -48,6 +49,27 @@ impl<S: Shelf + Drop, H: Wait + Drop> HostState<S, H> {
         let Ok(()) = self.spares.insert(place, SpareSeats { seats }) else {
             unreachable!()
         };
+    }
+
+    /// The networks stand the other way round. It takes no memory.
+    fn turn(&mut self)
+        ensures { IsTurned self.old self.new }
+    {
+        self.shared.numbers.reverse();
+        self.shared.cells.reverse();
+        self.spares.reverse();
+    }
+
+    /// The networks stand turned around if that is wanted, and not if it is not, from how they stand now. It takes no
+    /// memory.
+    pub(crate) fn turn_to(&mut self, is_turned: bool, wanted: bool)
+        requires { IsKept is_turned self.old }
+        ensures kept { IsKept wanted self.new }
+        ensures nets { nets_in wanted self.new ≡ nets_in is_turned self.old }
+    {
+        if is_turned != wanted {
+            self.turn();
+        }
     }
 
     /// The last network leaves.

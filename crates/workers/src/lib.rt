@@ -5,7 +5,8 @@
 //! queue. It takes a job, and applies the event by its seat at the job's network. Then it goes through the receipts
 //! that the seat has gained: for each emission, each other hosted node of that network hears it, by a job that the
 //! worker applies at once. That goes on until no receipt is left, and only then the worker takes the next job from
-//! the queue. A [`Gate`] sees each application begin and end.
+//! the queue. Where it finds the job's network taken, it puts the job back, behind the others. A [`Gate`] sees each
+//! application begin and end.
 //!
 //! Networks know nothing of one another, and each has a lock of its own. In which order jobs are taken is open;
 //! what is proved is the sum: what came into the queue and what emissions make heard was applied, refused, or is
@@ -17,6 +18,7 @@ mod deal;
 mod gate;
 mod host;
 mod host_state;
+mod not_joined;
 mod pool;
 mod running;
 mod shared;
@@ -27,4 +29,5 @@ mod workplace;
 pub use crew::Crew;
 pub use gate::Gate;
 pub use host::{Host, MAX_NETWORKS};
+pub use not_joined::NotJoined;
 pub use running::{Report, offer, run};

@@ -122,9 +122,10 @@ where
 /// passes, and no more than the network with the fewest seats has; each works in a thread of its own where one can
 /// be started. A job is applied by the worker's seat at its network. For each emission that is given out, each
 /// other hosted node of the network gets a job by which it hears the emission; the same worker applies it at
-/// once, by the same seat, and what follows from it in turn, before it takes the next job. So nothing is put into
-/// the queue. A worker ends when it finds the queue empty; a job that is left then is applied by the first worker
-/// at the close.
+/// once, by the same seat, and what follows from it in turn, before it takes the next job. So nothing new is put into
+/// the queue. A worker that finds a job's network taken by another thread puts the job back, behind the others, and goes
+/// on with the next: a network that is held up holds up no worker, as long as there is a place in the queue. A worker
+/// ends when it finds the queue empty; a job that is left then is applied by the first worker at the close.
 ///
 /// However jobs are weighed: what the queue held, and one Hear for each emission of the receipts that were gained
 /// and each other hosted node, are the jobs that were applied, those that were refused, and those of networks
@@ -145,6 +146,8 @@ where
     ensures done { IsDone host.old host.new (λ h. put_by h queue.1.items) (λ h. taken_by h queue.1.items) result }
 {
     let (queue, passes) = queue;
+    host.host_state.turn_to(host.is_turned, false);
+    host.is_turned = false;
     let worker_room = crew.into_room(host.host_state.spares.as_slice(), passes.len());
     host.host_state.shared.queue = Some(queue);
     run_workers(rt, &mut host.host_state, worker_room, passes, gate)

@@ -1,6 +1,6 @@
 //! A seat, and how far its receipts were gone through.
 
-ghost use Rattle.std.specs.Prelude.{◌≡◌, ◌<◌, ◌≤◌, ◌+◌, length, slice_index_or, slice_get, IsTrue, false};
+ghost use Rattle.std.specs.Prelude.{◌≡◌, ◌<◌, ◌≤◌, ◌+◌, IfErr, IfOk, length, slice_index_or, slice_get, IsTrue, false};
 ghost use Rattle.types.specs.declared.event.Out.{Out};
 ghost use Rattle.workers.specs.Sums.{IsDone, IsNext, IsWalk, emission_in};
 
@@ -30,7 +30,7 @@ pub(crate) struct SlotEmission {
     pub number: u64,
 }
 
-/// Applies a job by one seat, and answers whether it was applied.
+/// Applies a job by one seat, and answers whether it was applied. It waits for the cell.
 pub(crate) fn apply_by<S: Shelf + Drop, H: Wait + Drop, R: Wait, G: Gate>(
     rt: &R,
     cell: &Cell<S, H>,
@@ -48,6 +48,34 @@ pub(crate) fn apply_by<S: Shelf + Drop, H: Wait + Drop, R: Wait, G: Gate>(
     let answer = cell.apply(rt, &mut walk.seat, event);
     gate.after(rt, network);
     answer.is_ok()
+}
+
+/// The same, with one attempt at the cell: where it is taken, the job is handed back, and nothing has changed.
+pub(crate) fn try_apply_by<S: Shelf + Drop, H: Wait + Drop, R: Wait, G: Gate>(
+    rt: &R,
+    cell: &Cell<S, H>,
+    walk: &mut Walk<S, H>,
+    gate: &G,
+    job: Job,
+) -> Result<bool, Job>
+    requires walk { IsWalk cell.now walk.old }
+    requires job { cell.now.config.number ≡ job.network }
+    ensures walk { IsWalk cell.now walk.new }
+    ensures done { IfOk result (IsDone walk.old walk.new job) }
+    ensures back { IfErr result (λ j. (j ≡ job) × (walk.new ≡ walk.old)) }
+{
+    gate.before(rt, &job);
+    let Job { network, event } = job;
+    match cell.try_apply(rt, &mut walk.seat, event) {
+        Ok(answer) => {
+            gate.after(rt, network);
+            Ok(answer.is_ok())
+        }
+        Err(event) => {
+            gate.put_off(rt, network);
+            Err(Job { network, event })
+        }
+    }
 }
 
 /// Whether there is a receipt at the place.

@@ -4,15 +4,18 @@ ghost use Rattle.std.specs.Prelude.{◌≡◌, ◌<◌, ◌+◌, if◌then◌els
 ghost use Rattle.std.specs.Option.{option_to_list};
 ghost use Rattle.cells.specs.Sights.{CellSight};
 ghost use Rattle.workers.specs.Numbers.{IsNumbered, IsNumberAt};
-ghost use Rattle.workers.specs.Sums.{IsBusy, KeepsSums, IsPassing, IsReady, IsShort, SamePlaces, hand_of, hear_by, hears_of, with_taken};
+ghost use Rattle.workers.specs.Sums.{IsBusy, KeepsSums, IsPassing, IsReady, IsSameWorker, IsShort, SamePlaces, hand_of, hear_by, hears_of, with_put, with_taken};
 
 use crate::gate::Gate;
 use crate::shared::Shared;
-use crate::walk::{SlotEmission, Walk, apply_by, emission_at, is_short, move_on, read};
+use crate::walk::{
+    SlotEmission, Walk, apply_by, emission_at, is_short, move_on, read, try_apply_by,
+};
 use crate::workplace::Workplace;
 use configuration::HostedNode;
 use envstore::Shelf;
 use std::sync::Wait;
+use std::thread;
 use types::Event;
 use work::{Job, Pass};
 
@@ -74,7 +77,7 @@ impl<S: Shelf + Drop, H: Wait + Drop> Worker<S, H> {
         }
     }
 
-    /// Applies a job by the seat at a cell, and counts it.
+    /// Applies a job by the seat at a cell, and counts it. It waits for the cell.
     fn apply_at<R: Wait, G: Gate>(
         &mut self,
         workplace: &Workplace<'_, S, H, R, G>,
@@ -97,6 +100,33 @@ impl<S: Shelf + Drop, H: Wait + Drop> Worker<S, H> {
         self.count(workplace.rt, is_applied);
     }
 
+    /// Applies a job by the seat at a cell, and counts it, where the cell is free at once. Else the job is handed back.
+    fn try_apply_at<R: Wait, G: Gate>(
+        &mut self,
+        workplace: &Workplace<'_, S, H, R, G>,
+        k: usize,
+        job: Job,
+    ) -> Option<Job>
+        requires busy { IsBusy workplace.now.shared.now.cells.items workplace.now.shared.now.queue k self.old }
+        requires job { IsNumberAt workplace.now.shared.now.cells.items k job.network }
+        ensures busy { IsBusy workplace.now.shared.now.cells.items workplace.now.shared.now.queue k self.new }
+        ensures kept { MatchOption result (KeepsSums workplace.now.shared.now.cells.items (job ∷ []) self.old self.new) (λ j. (j ≡ job) × IsSameWorker self.old self.new) }
+    {
+        match try_apply_by(
+            workplace.rt,
+            &workplace.shared.cells[k],
+            &mut self.walks[k],
+            workplace.gate,
+            job,
+        ) {
+            Ok(is_applied) => {
+                self.count(workplace.rt, is_applied);
+                None
+            }
+            Err(job) => Some(job),
+        }
+    }
+
     /// Takes a job where there is a queue with one.
     fn take<R: Wait>(&mut self, rt: &R, shared: &Shared<S, H>) -> Option<Job>
         requires { IsPassing shared.now.queue self.old.pass }
@@ -107,6 +137,19 @@ impl<S: Shelf + Drop, H: Wait + Drop> Worker<S, H> {
         match (&shared.queue, &mut self.pass) {
             (Some(queue), Some(pass)) => queue.take(rt, pass),
             _ => None,
+        }
+    }
+
+    /// Puts a job behind the others, where there is a queue with a place for it. Else the job is handed back.
+    fn put_back<R: Wait>(&mut self, rt: &R, shared: &Shared<S, H>, job: Job) -> Option<Job>
+        requires { IsPassing shared.now.queue self.old.pass }
+        ensures pass { IsPassing shared.now.queue self.new.pass }
+        ensures same { (self.new.walks ≡ self.old.walks) × (self.new.applied ≡ self.old.applied) × (self.new.refused ≡ self.old.refused) }
+        ensures put { MatchOption result (hand_of self.new.pass ≡ with_put (hand_of self.old.pass) job) (λ j. (j ≡ job) × (hand_of self.new.pass ≡ hand_of self.old.pass)) }
+    {
+        match (&shared.queue, &mut self.pass) {
+            (Some(queue), Some(pass)) => queue.put(rt, pass, job).err(),
+            _ => Some(job),
         }
     }
 
@@ -171,7 +214,8 @@ impl<S: Shelf + Drop, H: Wait + Drop> Worker<S, H> {
         }
     }
 
-    /// Applies a job, and what follows from it. One of a network that is not here counts as refused.
+    /// Applies a job, and what follows from it. One of a network that is not here counts as refused. It waits for the
+    /// network's cell.
     fn serve<R: Wait, G: Gate>(&mut self, workplace: &Workplace<'_, S, H, R, G>, job: Job)
         requires order { IsNumbered workplace.now.shared.now.numbers.items workplace.now.shared.now.cells.items }
         requires ready { IsReady workplace.now.shared.now.cells.items workplace.now.shared.now.queue self.old }
@@ -187,6 +231,63 @@ impl<S: Shelf + Drop, H: Wait + Drop> Worker<S, H> {
         }
     }
 
+    /// The same, with one attempt at the network's cell: where that is taken, the job is handed back. What follows from
+    /// a job waits for the cell.
+    fn try_serve<R: Wait, G: Gate>(
+        &mut self,
+        workplace: &Workplace<'_, S, H, R, G>,
+        job: Job,
+    ) -> Option<Job>
+        requires order { IsNumbered workplace.now.shared.now.numbers.items workplace.now.shared.now.cells.items }
+        requires ready { IsReady workplace.now.shared.now.cells.items workplace.now.shared.now.queue self.old }
+        ensures ready { IsReady workplace.now.shared.now.cells.items workplace.now.shared.now.queue self.new }
+        ensures kept { MatchOption result (KeepsSums workplace.now.shared.now.cells.items (job ∷ []) self.old self.new) (λ j. (j ≡ job) × IsSameWorker self.old self.new) }
+    {
+        match workplace.shared.find(job.network) {
+            Some(k) => match self.try_apply_at(workplace, k, job) {
+                Some(job) => Some(job),
+                None => {
+                    self.follow_receipts(workplace, k);
+                    None
+                }
+            },
+            None => {
+                self.count(workplace.rt, false);
+                None
+            }
+        }
+    }
+
+    /// Puts a job behind the others, and lets other threads go on. Where it has no place there, serves it.
+    fn put_off<R: Wait, G: Gate>(&mut self, workplace: &Workplace<'_, S, H, R, G>, job: Job)
+        requires order { IsNumbered workplace.now.shared.now.numbers.items workplace.now.shared.now.cells.items }
+        requires ready { IsReady workplace.now.shared.now.cells.items workplace.now.shared.now.queue self.old }
+        ensures ready { IsReady workplace.now.shared.now.cells.items workplace.now.shared.now.queue self.new }
+        ensures kept { KeepsSums workplace.now.shared.now.cells.items (job ∷ []) self.old self.new }
+    {
+        match self.put_back(workplace.rt, workplace.shared, job) {
+            Some(job) => self.serve(workplace, job),
+            None => thread::yield_now(),
+        }
+    }
+
+    /// Serves a job that was taken. Where its network is held up, it is put off, so that this worker goes on with others.
+    fn serve_or_put_off<R: Wait, G: Gate>(
+        &mut self,
+        workplace: &Workplace<'_, S, H, R, G>,
+        job: Job,
+    )
+        requires order { IsNumbered workplace.now.shared.now.numbers.items workplace.now.shared.now.cells.items }
+        requires ready { IsReady workplace.now.shared.now.cells.items workplace.now.shared.now.queue self.old }
+        ensures ready { IsReady workplace.now.shared.now.cells.items workplace.now.shared.now.queue self.new }
+        ensures kept { KeepsSums workplace.now.shared.now.cells.items (job ∷ []) self.old self.new }
+    {
+        match self.try_serve(workplace, job) {
+            Some(job) => self.put_off(workplace, job),
+            None => {}
+        }
+    }
+
     /// Takes and serves jobs until the queue was empty.
     pub(crate) fn work<R: Wait, G: Gate>(&mut self, workplace: &Workplace<'_, S, H, R, G>)
         requires order { IsNumbered workplace.now.shared.now.numbers.items workplace.now.shared.now.cells.items }
@@ -196,7 +297,7 @@ impl<S: Shelf + Drop, H: Wait + Drop> Worker<S, H> {
     {
         for _ in workplace.rt.forever() {
             match self.take(workplace.rt, workplace.shared) {
-                Some(job) => self.serve(workplace, job),
+                Some(job) => self.serve_or_put_off(workplace, job),
                 None => break,
             }
         }

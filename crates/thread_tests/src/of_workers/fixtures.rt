@@ -3,7 +3,8 @@
 ghost use Rattle.std.specs.Prelude.{◌<◌, ◌≤◌};
 
 use crate::fixtures::{config, proposal};
-use cells::{Cell, Seat};
+use cells::{Cell, CellUsers, Seat};
+use decisions::Watch;
 use envstore::{BoxShelf, SharedHandle, Shelf};
 use hoststep::Journal;
 use std::alloc::Global;
@@ -11,7 +12,7 @@ use std::sync::Wait;
 use std::thread::Threads;
 use types::{Event, Out};
 use work::{Job, Queue};
-use workers::{Crew, Gate, Host, Report, offer, run};
+use workers::{Crew, Gate, Host, NotJoined, Report, offer, run};
 
 /// How much the journals of a host have, and their seats; and how many journals are not those of one thread.
 #[derive(Clone, Copy)]
@@ -24,7 +25,7 @@ pub(super) struct Tally {
 }
 
 /// A network of so many nodes joins, whose cell has so many seats.
-fn join<R: Wait + Drop + Copy>(
+pub(super) fn join<R: Wait + Drop + Copy>(
     rt: &R,
     alloc: Global,
     host: &mut Host<SharedHandle<R>, R>,
@@ -35,6 +36,44 @@ fn join<R: Wait + Drop + Copy>(
     let (number, count, seats) = network;
     match Cell::open(rt, alloc, config(alloc, number, count)?, seats) {
         Ok((cell, seats)) => host.add(cell, seats).ok(),
+        Err(_) => None,
+    }
+}
+
+/// A network of one node joins, whose cell has so many seats, and a watch.
+pub(super) fn join_watched<R: Wait + Drop + Copy>(
+    rt: &R,
+    alloc: Global,
+    host: &mut Host<SharedHandle<R>, R>,
+    number: u32,
+    seats: u64,
+) -> Option<Watch>
+    requires { (0 < seats) × (seats ≤ 64) }
+{
+    let config = config(alloc, number, 1)?;
+    let shelf = SharedHandle::new(alloc, *rt).ok()?;
+    let users = CellUsers { seats, watches: 1 };
+    match Cell::open_watched(rt, alloc, config, shelf, users) {
+        Ok((cell, seats, mut watches)) => match host.add(cell, seats) {
+            Ok(()) => watches.pop(),
+            Err(_) => None,
+        },
+        Err(_) => None,
+    }
+}
+
+/// Why a network of a node alone, with one seat, does not join.
+pub(super) fn refusal_of<R: Wait + Drop + Copy>(
+    rt: &R,
+    alloc: Global,
+    host: &mut Host<SharedHandle<R>, R>,
+    number: u32,
+) -> Option<NotJoined> {
+    match Cell::open(rt, alloc, config(alloc, number, 1)?, 1) {
+        Ok((cell, seats)) => match host.add(cell, seats) {
+            Ok(()) => None,
+            Err((why, _, _)) => Some(why),
+        },
         Err(_) => None,
     }
 }
@@ -231,7 +270,7 @@ fn close_each<R: Wait + Drop>(
     host: &mut Host<SharedHandle<R>, R>,
     tally: &mut Tally,
 ) {
-    while let Some((journal, seats)) = host.close_last(rt) {
+    while let Some((journal, seats)) = host.close_next(rt) {
         replay(alloc, &journal, tally);
         count_seats(&seats, tally);
     }

@@ -4,17 +4,17 @@ use Rattle.workers.proofs.Nets.{parted, parts_fit}
 use Rattle.workers.proofs.host.Host.split_at.Goals as goal
 
 pub split_off-requires : goal.split_off-requires
-split_off-requires g c = parts_fit c.self.inside.host_state c.args.self c.args.count c.self.view_is c.self.invariant c.requires
+split_off-requires g c = parts_fit c.turn_to.new.self c.args.self c.args.count (c.turn_to.ensures.nets ∙ c.self.view_is) c.turn_to.ensures.kept c.requires
 
 pub invariant_of-result : goal.invariant_of-result
-invariant_of-result g c = (parted c.self.inside.host_state c.split_off.new.self c.in-Ok.others c.args.count c.self.invariant c.in-Ok.ensures.ok).0
+invariant_of-result g c = (parted c.turn_to.new.self c.split_off.new.self c.in-Ok.others c.args.count c.turn_to.ensures.kept c.in-Ok.ensures.ok).0
 
 pub invariant_of-result-in-Ok : goal.invariant_of-result-in-Ok
-invariant_of-result-in-Ok g c = (parted c.self.inside.host_state c.split_off.new.self c.in-Ok.others c.args.count c.self.invariant c.in-Ok.ensures.ok).1
+invariant_of-result-in-Ok g c = (parted c.turn_to.new.self c.split_off.new.self c.in-Ok.others c.args.count c.turn_to.ensures.kept c.in-Ok.ensures.ok).1
 
 pub returns-in-Ok-clause-ok : goal.returns-in-Ok-clause-ok
 returns-in-Ok-clause-ok g c =
-    let parts = parted c.self.inside.host_state c.split_off.new.self c.in-Ok.others c.args.count c.self.invariant c.in-Ok.ensures.ok in (
-      parts.2 ∙ ap (λ (ns : List Net). take c.args.count ns) c.self.view_is,
-      parts.3 ∙ ap (λ (ns : List Net). drop c.args.count ns) c.self.view_is,
+    let parts = parted c.turn_to.new.self c.split_off.new.self c.in-Ok.others c.args.count c.turn_to.ensures.kept c.in-Ok.ensures.ok in (
+      parts.2 ∙ ap (λ (ns : List Net). take c.args.count ns) (c.turn_to.ensures.nets ∙ c.self.view_is),
+      parts.3 ∙ ap (λ (ns : List Net). drop c.args.count ns) (c.turn_to.ensures.nets ∙ c.self.view_is),
     )
