@@ -93,7 +93,7 @@ const EXPLAIN: Part<'static> = Part {
 
 const HOST_WORKERS: Part<'static> = Part {
     name: "--workers <N>",
-    about: "Takes a number of workers, 1 to 64; one thread serves all networks so far",
+    about: "Shares the networks out among so many workers, 1 to 64",
 };
 
 /// The option that names a journal.

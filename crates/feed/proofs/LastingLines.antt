@@ -1,5 +1,5 @@
 -- Texts that a loop adds up, lines that it lets go, and how a journal is made shorter.
-use Rattle.std.proofs.Common.{◌≡◌, ◌∙◌, ℕ, ◌+◌, ◌<◌, List, [], ◌∷◌, ◌++◌, length, drop, get_or, sym, ap, append_assoc, add-one, drop-cons}
+use Rattle.std.proofs.Common.{◌≡◌, ◌∙◌, ℕ, ◌+◌, ◌<◌, List, [], ◌∷◌, ◌++◌, length, drop, get_or, refl, sym, ap, append_assoc, add-one, drop-cons}
 use Rattle.std.proofs.lemmas.List.{append-nil}
 use Rattle.scripts.specs.Script.{Bytes, lines_with_feeds}
 use Rattle.std.specs.Prelude.{◌⊎◌, None, Option, Result, Ok, Err, IfErr, OnOk}
@@ -64,7 +64,7 @@ unwatched_is {S} s start e f = ap₂ (λ (x : S) (y : Lines). record { server = 
 pub compacted_or_not : {S : Type 0} (serves : Serving S) (longest : ℕ) (s : S) (file old new : Option Bytes) (end : JournalEnd)
     (start t : Watched S) (lines : Lines) (result : Result (Unit {0}) Stop) → start.server ≡ s → start.lines ≡ no_lines
     → HasReplayed (Watching serves) longest None start file None None (Ok end) t → lines ≡ t.lines
-    → OnOk result (Appends old new (compacted lines)) → IfErr result (λ why. (why ≡ stop.NoMemory) ⊎ (why ≡ stop.CannotWrite))
+    → OnOk result (Appends old new (compacted lines)) → IfErr result (λ why. ((why ≡ stop.NoMemory) × (new ≡ old)) ⊎ (why ≡ stop.CannotWrite))
     → HasCompacted serves longest s file old new result
 compacted_or_not serves longest s file old new end start t lines (Ok _) e f replayed same written failed = (
   end,
@@ -73,15 +73,15 @@ compacted_or_not serves longest s file old new end start t lines (Ok _) e f repl
   subst (λ (l : Lines). Appends old new (compacted l)) same written,
 )
 compacted_or_not serves longest s file old new end start t lines (Err why) e f replayed same written (inl is) =
-    subst (λ w. HasCompacted serves longest s file old new (Err w)) (sym is) tt
+    subst (λ w. HasCompacted serves longest s file old new (Err w)) (sym is.0) is.1
 compacted_or_not serves longest s file old new end start t lines (Err why) e f replayed same written (inr is) =
     subst (λ w. HasCompacted serves longest s file old new (Err w)) (sym is) tt
 
-pub not_compacted : {S : Type 0} (serves : Serving S) (longest : ℕ) (s : S) (file old new : Option Bytes) (t : Watched S) (why : Stop)
+pub not_compacted : {S : Type 0} (serves : Serving S) (longest : ℕ) (s : S) (file old : Option Bytes) (t : Watched S) (why : Stop)
     → HasReplayed (Watching serves) longest None (unwatched s) file None None (Err why) t
-    → HasCompacted serves longest s file old new (Err why)
-not_compacted serves longest s file old new t (stop.BadLine n) replayed = (t, replayed)
-not_compacted serves longest s file old new t stop.CannotRead replayed = tt
-not_compacted serves longest s file old new t stop.TooLong replayed = tt
-not_compacted serves longest s file old new t stop.NoMemory replayed = tt
-not_compacted serves longest s file old new t stop.CannotWrite replayed = tt
+    → HasCompacted serves longest s file old old (Err why)
+not_compacted serves longest s file old t (stop.BadLine n) replayed = (refl, (t, replayed))
+not_compacted serves longest s file old t stop.CannotRead replayed = refl
+not_compacted serves longest s file old t stop.TooLong replayed = refl
+not_compacted serves longest s file old t stop.NoMemory replayed = refl
+not_compacted serves longest s file old t stop.CannotWrite replayed = tt

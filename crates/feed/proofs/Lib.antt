@@ -6,3 +6,4 @@ pub mod StopLaws
 pub mod ServingLaws
 pub mod ReplayLaws
 pub mod LastingLines
+pub mod TogetherLaws

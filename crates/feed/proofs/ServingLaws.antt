@@ -32,7 +32,7 @@ pub record Laws {S : Type 0} (serves : Serving S) : Type 0 where
 
 -- ---- what was done, and then more
 
-did_nothing : (a : Option (List Act)) → Did a a []
+pub did_nothing : (a : Option (List Act)) → Did a a []
 did_nothing None = tt
 did_nothing (Some x) = sym (append-nil x)
 
@@ -139,6 +139,15 @@ still serves longest s n input oa ma na ot mt nt part waits t count h did keeps 
   hosts = h.hosts;
   did = subst (Did oa na) (append-nil h.acts) (did_both oa ma na h.acts [] h.did did);
   told = appends_kept ot mt nt (told_by h.acts) h.told keeps;
+}
+
+pub kept_going : {S : Type 0} (serves : Serving S) (longest : ℕ) (s : S) (n : ℕ) (input now : Option Bytes) (oa na : Option (List Act)) (ot mt nt : Option Bytes)
+    (waits : Bytes) (t : S) (count : ℕ) → Going serves longest s n input now oa na ot mt waits t count → Keeps mt nt → Going serves longest s n input now oa na ot nt waits t count
+unfolding still
+kept_going serves longest s n input now oa na ot mt nt waits t count g keeps = record {
+  hosting = still serves longest s n input oa na na ot mt nt [] waits t count g.hosting (did_nothing na) keeps;
+  plain = g.plain;
+  consumed = g.consumed;
 }
 
 -- what waited was told

@@ -1,5 +1,5 @@
 -- A journal is made shorter.
-use Rattle.std.specs.Prelude.{ℕ, None, Option, Result, Ok, Err}
+use Rattle.std.specs.Prelude.{◌≡◌, ℕ, None, Option, Result, Ok, Err}
 use Rattle.std.specs.Io.KnownBytes.{Appends}
 use Rattle.scripts.specs.Script.{Bytes}
 use Rattle.scripts.specs.declared.run.Stop.{Stop}
@@ -10,15 +10,16 @@ use Rattle.feed.specs.Served.{Serving}
 use Rattle.feed.specs.declared.replaying.JournalEnd.{JournalEnd}
 
 -- The lines of a journal before its end were answered again, and what lasts of them was written as a shorter one. Or a
--- line is none of a journal, behind lines that are; of other faults nothing is said.
+-- line is none of a journal, behind lines that are, or something else was in the way; only where a write failed a part may
+-- have been written.
 abbrev pub HasCompacted : {S : Type 0} → Serving S → ℕ → S → Option Bytes → Option Bytes → Option Bytes
     → Result (Unit {0}) Stop → Type 0
 HasCompacted {S} serves longest s file old new (Ok _) =
     (end : JournalEnd) × (t : Watched S)
     × HasReplayed (Watching serves) longest None (unwatched s) file None None (Ok end) t × Appends old new (compacted t.lines)
 HasCompacted {S} serves longest s file old new (Err (stop.BadLine n)) =
-    (t : Watched S) × HasReplayed (Watching serves) longest None (unwatched s) file None None (Err (stop.BadLine n)) t
-HasCompacted serves longest s file old new (Err stop.CannotRead) = Unit {0}
-HasCompacted serves longest s file old new (Err stop.TooLong) = Unit {0}
-HasCompacted serves longest s file old new (Err stop.NoMemory) = Unit {0}
+    (new ≡ old) × ((t : Watched S) × HasReplayed (Watching serves) longest None (unwatched s) file None None (Err (stop.BadLine n)) t)
+HasCompacted serves longest s file old new (Err stop.CannotRead) = new ≡ old
+HasCompacted serves longest s file old new (Err stop.TooLong) = new ≡ old
+HasCompacted serves longest s file old new (Err stop.NoMemory) = new ≡ old
 HasCompacted serves longest s file old new (Err stop.CannotWrite) = Unit {0}

@@ -1,8 +1,10 @@
 -- What one read of a live host takes from its reader.
-use Rattle.std.specs.Prelude.{◌≡◌, ◌++◌, ◌||◌, ℕ, Bool, false, [], ◌∷◌, Option, Some, None, IfSome, IsTrue}
+use Rattle.std.specs.Prelude.{◌≡◌, ◌⊎◌, ◌++◌, ◌||◌, ℕ, Bool, true, false, List, [], ◌∷◌, Option, Some, None, Result, Ok, Err, IfSome, IsTrue}
 use Rattle.std.specs.Io.KnownBytes.{Consumes, IsAtEnd}
 use Rattle.scripts.specs.Script.{Bytes, has_no_feed}
 use Rattle.feed.specs.WholeLines.{given, has_hole}
+use Rattle.feed.specs.declared.fault.Fault.{Fault}
+use Rattle.feed.specs.declared.fault.Fault.TheVariants as fault
 use Rattle.feed.specs.declared.reading.Piece.{Piece}
 use Rattle.feed.specs.declared.reading.Piece.TheVariants as piece
 
@@ -10,6 +12,10 @@ use Rattle.feed.specs.declared.reading.Piece.TheVariants as piece
 pub record Held : Type 0 where
   pub given : Option Bytes
   pub hole : Bool
+
+-- the line as it is given
+abbrev pub given_of : Held → Option Bytes
+given_of h = h.given
 
 -- nothing is kept of a line, as at its beginning
 abbrev pub nothing_held : Held
@@ -47,3 +53,19 @@ IsNextLine longest old new read (Some more) =
     (line : Bytes) × IsTrue (has_no_feed line) × Consumes old new (line ++ 10 ∷ []) × (read ≡ held longest line)
 IsNextLine longest old new read None =
     (rest : Bytes) × IsTrue (has_no_feed rest) × Consumes old new rest × IfSome old (λ _. IsAtEnd new)
+
+-- a reader's next lines were taken, each with its line feed
+abbrev pub AreNextLines : ℕ → Option Bytes → Option Bytes → List Held → Type 0
+AreNextLines longest old new [] = new ≡ old
+AreNextLines longest old new (h ∷ hs) =
+    (now : Option Bytes) × (more : Bool) × IsNextLine longest old now h (Some more) × AreNextLines longest now new hs
+
+-- what was read of a further line behind these: nothing, or that there is none any more; or it could not be read
+abbrev pub IsReadTo : ℕ → Option Bytes → Option Bytes → Result Bool Fault → Type 0
+IsReadTo longest old new (Ok true) = new ≡ old
+IsReadTo longest old new (Ok false) = (h : Held) × IsNextLine longest old new h None
+IsReadTo longest old new (Err why) = (why ≡ fault.CannotRead) ⊎ (why ≡ fault.NoMemory)
+
+-- lines were read one after the other, and then this
+abbrev pub HasGathered : ℕ → Option Bytes → Option Bytes → List Held → Result Bool Fault → Type 0
+HasGathered longest old new hs read = (mid : Option Bytes) × AreNextLines longest old mid hs × IsReadTo longest mid new read

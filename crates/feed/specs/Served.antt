@@ -28,6 +28,13 @@ reply_of (Some a) = record { text = string_bytes a.block; done = a.done }
 abbrev pub Serving : Type 0 → Type 1
 Serving S = S → ℕ → Option Bytes → Reply → S → Type 0
 
+-- lines were answered one after the other, the first with this number, as far as there are answers; and what is left
+abbrev pub AreAnswered : {S : Type 0} → Serving S → S → ℕ → List (Option Bytes) → List Reply → S → Type 0
+AreAnswered serves s n lines [] t = t ≡ s
+AreAnswered serves s n [] (a ∷ answers) t = ⊥
+AreAnswered {S} serves s n (line ∷ lines) (a ∷ answers) t =
+    (u : S) × serves s n line a u × AreAnswered serves u (n + 1) lines answers t
+
 -- the line of the journal that stands for a line: the line, where it is kept, or an empty one
 abbrev pub kept_as : Option Bytes → Bool → Bytes
 kept_as None kept = []

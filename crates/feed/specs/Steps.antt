@@ -1,17 +1,12 @@
 -- One step of a live host's loop.
-use Rattle.std.specs.Prelude.{◌≡◌, ◌++◌, ◌+◌, ◌^◌, ℕ, Bool, List, [], ◌∷◌, Option, Result, Ok, Err}
+use Rattle.std.specs.Prelude.{◌≡◌, ◌⊎◌, ◌++◌, ◌+◌, ◌^◌, ℕ, Bool, List, [], ◌∷◌, Option, Result, Ok, Err}
 use Rattle.std.specs.Io.KnownBytes.{Appends, Keeps}
 use Rattle.scripts.specs.Script.{Bytes}
-use Rattle.feed.specs.Served.{Reply, Serving, is_kept, journal_line, kept_as}
+use Rattle.feed.specs.Served.{Reply, Serving, journal_line, kept_as}
 use Rattle.feed.specs.Acts.{Act, Did}
 use Rattle.feed.specs.Acts.Act.{Synced, Told, Wrote}
 use Rattle.feed.specs.declared.fault.Fault.{Fault}
 use Rattle.feed.specs.declared.fault.Fault.TheVariants as fault
-
--- a line was answered, and its answer waits to be told behind those that waited
-abbrev pub HasAnsweredLine : {S : Type 0} → Serving S → S → ℕ → Option Bytes → Bytes → Bool → Bytes → S → Type 0
-HasAnsweredLine serves s n given waits kept new t =
-    (a : Reply) × serves s n given a t × (kept ≡ is_kept a) × (new ≡ waits ++ a.text)
 
 -- the line behind so many was answered and written; or why not
 abbrev pub HasServedLine : {S : Type 0} → Serving S → S → ℕ → Option Bytes → Bytes → Option (List Act) → Option (List Act)
@@ -27,6 +22,16 @@ HasServedLine serves s c given waits old new (Err fault.NotAppended) now d t =
 HasServedLine serves s c given waits old new (Err fault.CannotRead) now d t = ⊥
 HasServedLine serves s c given waits old new (Err fault.NotSynced) now d t = ⊥
 HasServedLine serves s c given waits old new (Err fault.CannotWrite) now d t = ⊥
+
+-- lines behind so many were answered and written one after the other, until one was not
+abbrev pub HasServedLines : {S : Type 0} → Serving S → S → ℕ → List (Option Bytes) → Bytes → Option (List Act)
+    → Option (List Act) → Result (Unit {0}) Fault → Bytes → ℕ → S → Type 0
+HasServedLines serves s c [] waits old new result later e u =
+    (result ≡ Ok tt) × (later ≡ waits) × (new ≡ old) × (e ≡ c) × (u ≡ s)
+HasServedLines {S} serves s c (given ∷ lines) waits old new result later e u =
+    ((now : Bytes) × (d : ℕ) × (mid : Option (List Act)) × (t : S) × HasServedLine serves s c given waits old mid (Ok tt) now d t
+    × HasServedLines serves t d lines now mid new result later e u)
+    ⊎ ((why : Fault) × (result ≡ Err why) × HasServedLine serves s c given waits old new (Err why) later e u)
 
 -- the answers that wait were told once the journal was on the disk; or why not
 abbrev pub HasTold : Bytes → Option (List Act) → Option (List Act) → Option Bytes → Option Bytes → Result (Unit {0}) Fault

@@ -1,10 +1,15 @@
 //! What answers the lines of a live host, and what is done with its answers.
 
-ghost use Rattle.std.specs.Prelude.{◌≡◌, true};
+ghost use Rattle.std.specs.Prelude.{◌≡◌, ◌+◌, ◌<◌, ◌^◌, length, map, true};
 ghost use Rattle.std.specs.Io.KnownBytes.{Appends};
+ghost use Rattle.feed.specs.Reading.{given_of};
+ghost use Rattle.feed.specs.Served.{AreAnswered, reply_of};
 
+use crate::reading::KeptLine;
 use std::alloc::{AllocError, Global};
+use std::collections::VecDeque;
 use std::io::Write;
+use std::thread::Threads;
 
 /// What a line is answered.
 #[derive(Drop)]
@@ -75,6 +80,52 @@ pub trait LineServer {
     ) -> Result<Option<Answer>, AllocError>
         ensures { IfOk result (λ answer.
             serves self.old number (option_map (λ bytes. bytes.now) line.entry) (reply_of answer) self.new) };
+}
+
+/// What answers lines that came together.
+pub trait BatchServer: LineServer {
+    ghost use Rattle.std.specs.Prelude.{◌≡◌, ◌+◌, ◌<◌, ◌^◌, length, map};
+    ghost use Rattle.std.specs.Thread.{IsSync};
+    ghost use Rattle.feed.specs.Reading.{given_of};
+    ghost use Rattle.feed.specs.Served.{AreAnswered, reply_of};
+
+    /// Answers lines behind so many as if one after the other, as [`serve_in_turn`] does, by threads if it has any. If there
+    /// are fewer answers than lines, memory is short; then nothing is served any more.
+    fn serve_batch<X: Threads + Sync>(
+        &mut self,
+        rt: &X,
+        alloc: Global,
+        count: u64,
+        lines: &[KeptLine],
+    ) -> VecDeque<Option<Answer>>
+        requires shared { IsSync X.row }
+        requires numbers { count + length lines.now < 2 ^ 64 }
+        ensures { (t : Self) × AreAnswered Self.serves self.old (count + 1) (map given_of lines.now) (map reply_of result.items) t × (length result.items ≡ length lines.now → t ≡ self.new) };
+}
+
+/// Answers lines one after the other, behind so many, each by itself. If there are fewer answers than lines, memory is
+/// short.
+pub fn serve_in_turn<S: LineServer>(
+    server: &mut S,
+    alloc: Global,
+    count: u64,
+    lines: &[KeptLine],
+) -> VecDeque<Option<Answer>>
+    requires { count + length lines.now < 2 ^ 64 }
+    ensures { (t : S) × AreAnswered S.serves server.old (count + 1) (map given_of lines.now) (map reply_of result.items) t × (length result.items ≡ length lines.now → t ≡ server.new) }
+{
+    let mut answers = VecDeque::new(alloc);
+    let mut number = count;
+    for line in lines {
+        number += 1;
+        let Ok(answer) = server.serve(alloc, number, line.given()) else {
+            return answers;
+        };
+        let Ok(()) = answers.push_back(answer) else {
+            return answers;
+        };
+    }
+    answers
 }
 
 /// Where a live host keeps its journal and tells what lines are answered.

@@ -55,7 +55,7 @@ pub fn compact<X: Wait + AllocGlobal, S: LineServer + Drop, R: BufRead, W: Write
 /// Writes the shorter journal, and hands it on.
 fn write_compacted<W: Write>(alloc: Global, lines: &Lines, out: &mut W) -> Result<(), Stop>
     ensures written { OnOk result (Appends (W.contents out.old) (W.contents out.new) (compacted lines.now)) }
-    ensures failed { IfErr result (λ why. (why ≡ Stop.NoMemory) ⊎ (why ≡ Stop.CannotWrite)) }
+    ensures failed { IfErr result (λ why. ((why ≡ Stop.NoMemory) × (W.contents out.new ≡ W.contents out.old)) ⊎ (why ≡ Stop.CannotWrite)) }
 {
     let Ok(text) = lines.compacted(alloc) else {
         return Err(Stop::NoMemory);

@@ -2,9 +2,9 @@
 //!
 //! A [`Feed`] reads lines until the input ends and gives each to a [`LineServer`]. A [`Desk`] has the line in its journal,
 //! on the disk, before what the line is answered is told. However much comes, what is kept is one line, of at most
-//! [`LONGEST_LINE`] bytes, and the answers to the lines that came with it in one read. [`replay`] has the lines of a
-//! journal answered again, [`Lasting`] finds which of them concern what is still declared and open, and [`compact`] makes a
-//! shorter journal of these.
+//! [`LONGEST_LINE`] bytes, the lines that came with it in one read, some hundreds at most, and their answers, which a
+//! [`BatchServer`] gives together. [`replay`] has the lines of a journal answered again, [`Lasting`] finds which of them
+//! concern what is still declared and open, and [`compact`] makes a shorter journal of these.
 #![tactic(auto)]
 
 mod answering;
@@ -14,9 +14,11 @@ mod reading;
 mod replaying;
 mod serving;
 
-pub use answering::{Answer, Deed, Desk, Done, Drawn, LineServer, write_and_flush};
+pub use answering::{
+    Answer, BatchServer, Deed, Desk, Done, Drawn, LineServer, serve_in_turn, write_and_flush,
+};
 pub use fault::Fault;
 pub use lasting::{Lasting, compact};
-pub use reading::LONGEST_LINE;
+pub use reading::{KeptLine, LONGEST_LINE};
 pub use replaying::{JournalEnd, replay};
 pub use serving::Feed;

@@ -16,7 +16,7 @@ pub const LONGEST_LINE: usize = 262_144;
 /// A line as far as it has come. Once it has more than `LONGEST_LINE` bytes nothing is kept of it but whether a byte of it
 /// is 0.
 #[derive(Drop)]
-pub(crate) struct KeptLine {
+pub struct KeptLine {
     bytes: Vec<u8>,
     too_long: bool,
     hole: bool,
@@ -71,7 +71,7 @@ impl KeptLine {
     }
 
     /// The line, or `None` where it is too long.
-    pub(crate) fn given(&self) -> Option<&[u8]>
+    pub fn given(&self) -> Option<&[u8]>
         ensures { option_map (λ bytes. bytes.now) result ≡ self.now.given }
     {
         if self.too_long {

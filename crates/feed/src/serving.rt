@@ -1,32 +1,37 @@
 //! Serving the lines of a live host as they come.
 
-ghost use Rattle.std.specs.Prelude.{◌≡◌, ◌+◌, ◌^◌, [], IfErr, IfOk, OnErr};
+ghost use Rattle.std.specs.Prelude.{◌≡◌, ◌+◌, ◌++◌, ◌<◌, ◌^◌, ◌∷◌, [], IfErr, IfOk, OnErr, OnOk, length, map, take};
 ghost use Rattle.std.specs.Io.KnownBytes.{Keeps};
 ghost use Rattle.feed.specs.Hosted.{HasDone, HasHostedStream};
-ghost use Rattle.feed.specs.Served.{kept_as};
-ghost use Rattle.feed.specs.Steps.{HasAnsweredLine, HasServedLine, HasTold};
+ghost use Rattle.feed.specs.Reading.{HasGathered, given_of};
+ghost use Rattle.feed.specs.Served.{is_kept, kept_as, reply_of};
+ghost use Rattle.feed.specs.Steps.{HasServedLine, HasServedLines, HasTold};
 
-use crate::answering::{Answer, Desk, LineServer};
+use crate::answering::{Answer, BatchServer, Desk};
 use crate::fault::{Fault, fault_of_read};
 use crate::reading::{KeptLine, LONGEST_LINE, next_line};
 use std::alloc::{AllocError, Global};
 use std::io::BufRead;
 use std::sync::Wait;
+use std::thread::Threads;
 
-/// After so many bytes of answers no further line is taken before they are told (this host's profile).
-const MOST_WAITING: usize = 65_536;
+/// How many lines are served at a time at most (this host's profile).
+const MOST_LINES: usize = 256;
+
+/// If lines that were served together are answered by more bytes, fewer of them are taken the next time.
+const MANY_BYTES: usize = 65_536;
 
 /// A live host at work: what answers its lines, and how many there were.
 #[derive(Drop)]
-pub struct Feed<S: LineServer> {
+pub struct Feed<S: BatchServer> {
     alloc: Global,
     server: S,
     count: u64,
-    line: KeptLine,
+    most: usize,
     waiting: Vec<u8>,
 }
 
-impl<S: LineServer> Feed<S> {
+impl<S: BatchServer> Feed<S> {
     /// A host of which so many lines have been served.
     pub fn new(alloc: Global, server: S, count: u64) -> Feed<S>
         ensures server { result.server ≡ server }
@@ -37,7 +42,7 @@ impl<S: LineServer> Feed<S> {
             alloc,
             server,
             count,
-            line: KeptLine::new(alloc),
+            most: MOST_LINES,
             waiting: Vec::new(alloc),
         }
     }
@@ -51,7 +56,7 @@ impl<S: LineServer> Feed<S> {
     ///
     /// It stops early at a [`Fault`]. Where a read fails, no number is left, or memory is short, the lines before have been
     /// told. Where a line cannot be written to the journal they have been told too, if they could be brought to the disk.
-    pub fn serve<X: Wait, R: BufRead, D: Desk>(
+    pub fn serve<X: Threads + Wait + Sync, R: BufRead, D: Desk>(
         &mut self,
         rt: &X,
         input: &mut R,
@@ -61,69 +66,73 @@ impl<S: LineServer> Feed<S> {
         ensures { HasHostedStream S.serves LONGEST_LINE self.old.server (self.old.count + 1) (R.remaining input.old) (R.remaining input.new)
             (HasDone (D.acts desk.old) (D.acts desk.new) (D.told desk.old) (D.told desk.new)) result self.new.server }
     {
+        let mut lines = Vec::new(self.alloc);
         for _ in rt.forever() {
-            match next_line(rt, input, &mut self.line) {
-                Ok(Some(more)) => {
-                    if let Err(fault) = self.serve_line(desk) {
-                        self.tell(desk)?;
-                        return Err(fault);
-                    }
-                    let waits = self.may_wait(more);
-                    if !waits {
-                        self.tell(desk)?;
-                    }
-                }
-                Ok(None) => return self.tell(desk),
-                Err(error) => {
-                    self.tell(desk)?;
-                    return Err(fault_of_read(error));
-                }
+            let read = gather(rt, self.alloc, self.most, input, &mut lines);
+            let served = self.serve_lines(rt, lines.as_slice(), desk);
+            self.tell(desk)?;
+            served?;
+            if !read? {
+                return Ok(());
             }
         }
         unreachable!()
     }
 
-    /// Whether what lines were answered may wait for that of a further line: one is at hand, and not too much waits.
-    fn may_wait(&self, more: bool) -> bool {
-        more && self.waiting.len() < MOST_WAITING
-    }
-
-    /// Has the line answered, and writes it to the journal.
-    fn serve_line<D: Desk>(&mut self, desk: &mut D) -> Result<(), Fault>
-        ensures served { HasServedLine S.serves self.old.server self.old.count self.old.line.given self.old.waiting.items
+    /// Has lines answered, and writes each of them to the journal.
+    fn serve_lines<X: Threads + Sync, D: Desk>(
+        &mut self,
+        rt: &X,
+        lines: &[KeptLine],
+        desk: &mut D,
+    ) -> Result<(), Fault>
+        ensures served { HasServedLines S.serves self.old.server self.old.count (map given_of lines.now) self.old.waiting.items
             (D.acts desk.old) (D.acts desk.new) result self.new.waiting.items self.new.count self.new.server }
         ensures told { Keeps (D.told desk.old) (D.told desk.new) }
     {
-        let number = number_after(self.count)?;
+        let numbered = numbered(self.count, lines);
+        let mut answers = self
+            .server
+            .serve_batch(rt, self.alloc, self.count, numbered);
+        for line in numbered {
+            match answers.pop_front() {
+                Some(answer) => self.settle(line, answer, desk)?,
+                // Memory: an answer is wanting, so there was none for it.
+                None => return Err(Fault::NoMemory),
+            }
+        }
+        if numbered.len() < lines.len() {
+            return Err(Fault::TooLong);
+        }
+        Ok(())
+    }
+
+    /// Writes a line to the journal that was answered. What is told of it waits.
+    fn settle<D: Desk>(
+        &mut self,
+        line: &KeptLine,
+        answer: Option<Answer>,
+        desk: &mut D,
+    ) -> Result<(), Fault>
+        requires { self.old.count + 1 < 2 ^ 64 }
+        ensures served { OnOk result ((s t : S) → S.serves s (self.old.count + 1) line.now.given (reply_of answer) t → HasServedLine S.serves s self.old.count line.now.given self.old.waiting.items
+            (D.acts desk.old) (D.acts desk.new) result self.new.waiting.items self.new.count t) }
+        ensures unserved { IfErr result (λ why. (s t : S) → HasServedLine S.serves s self.old.count line.now.given self.old.waiting.items
+            (D.acts desk.old) (D.acts desk.new) result self.new.waiting.items self.new.count t) }
+        ensures told { Keeps (D.told desk.old) (D.told desk.new) }
+        ensures server { self.new.server ≡ self.old.server }
+    {
         let told = self.waiting.len();
-        let kept = self.answer_line(number)?;
-        if desk.append(journal_line(&self.line, kept)) {
-            self.count = number;
+        let kept = push_answer(&mut self.waiting, answer)?;
+        if desk.append(journal_line(line, kept)) {
+            self.count += 1;
             if told < self.waiting.len() {
-                desk.explain(number, self.line.given(), self.waiting.as_slice());
+                desk.explain(self.count, line.given(), self.waiting.as_slice());
             }
             Ok(())
         } else {
             self.waiting.truncate(told);
             Err(Fault::NotAppended)
-        }
-    }
-
-    /// Has the line answered, and answers whether the journal keeps it. What is told of it waits. An error says that memory
-    /// is short.
-    fn answer_line(&mut self, number: u64) -> Result<bool, AllocError>
-        ensures answered { IfOk result (λ kept. HasAnsweredLine S.serves self.old.server number self.old.line.given self.old.waiting.items kept self.new.waiting.items self.new.server) }
-        ensures unanswered { OnErr result (self.new.waiting.items ≡ self.old.waiting.items) }
-        ensures same { (self.new.count ≡ self.old.count) × (self.new.line ≡ self.old.line) }
-    {
-        match self.server.serve(self.alloc, number, self.line.given())? {
-            None => Ok(false),
-            Some(Answer { block, done }) => {
-                let waits = self.waiting.extend_from_slice(block.as_str().as_bytes());
-                drop(block);
-                waits?;
-                Ok(done.is_some())
-            }
         }
     }
 
@@ -138,8 +147,83 @@ impl<S: LineServer> Feed<S> {
         if !desk.tell(self.waiting.as_slice()) {
             return Err(Fault::CannotWrite);
         }
+        self.most = if self.waiting.len() > MANY_BYTES {
+            self.most / 2 + 1
+        } else {
+            MOST_LINES
+        };
         self.waiting.clear();
         Ok(())
+    }
+}
+
+/// Reads the next line, and those at hand behind it, as many as asked for at most. It answers whether the input may go on.
+fn gather<X: Wait, R: BufRead>(
+    rt: &X,
+    alloc: Global,
+    most: usize,
+    input: &mut R,
+    lines: &mut Vec<KeptLine>,
+) -> Result<bool, Fault>
+    ensures { HasGathered LONGEST_LINE (R.remaining input.old) (R.remaining input.new) lines.new.items result }
+{
+    lines.clear();
+    for _ in 0..most {
+        let mut line = KeptLine::new(alloc);
+        match next_line(rt, input, &mut line) {
+            Ok(Some(more)) => {
+                if let Err(fault) = keep(lines, line) {
+                    return Err(fault);
+                }
+                if !more {
+                    return Ok(true);
+                }
+            }
+            Ok(None) => return Ok(false),
+            Err(error) => return Err(fault_of_read(error)),
+        }
+    }
+    Ok(true)
+}
+
+/// Puts a line behind others. The error says that memory is short.
+fn keep(lines: &mut Vec<KeptLine>, line: KeptLine) -> Result<(), Fault>
+    ensures kept { OnOk result (lines.new.items ≡ lines.old.items ++ line ∷ []) }
+    ensures none { IfErr result (λ why. (why ≡ Fault.NoMemory) × (lines.new.items ≡ lines.old.items)) }
+{
+    match lines.push(line) {
+        Ok(()) => Ok(()),
+        Err(_) => Err(Fault::NoMemory),
+    }
+}
+
+/// The lines behind so many for which there are numbers.
+fn numbered(count: u64, lines: &[KeptLine]) -> &[KeptLine]
+    ensures first { result.now ≡ take (length result.now) lines.now }
+    ensures numbers { count + length result.now < 2 ^ 64 }
+    ensures none { length result.now < length lines.now → count + length result.now + 1 ≡ 2 ^ 64 }
+{
+    let left = u64::MAX - count;
+    if (lines.len() as u64) <= left {
+        lines
+    } else {
+        &lines[..left as usize]
+    }
+}
+
+/// Adds what is told of a line, and answers whether the journal keeps the line. An error says that memory is short.
+fn push_answer(waiting: &mut Vec<u8>, answer: Option<Answer>) -> Result<bool, AllocError>
+    ensures answered { IfOk result (λ kept. (kept ≡ is_kept (reply_of answer)) × (waiting.new.items ≡ waiting.old.items ++ (reply_of answer).text)) }
+    ensures unanswered { OnErr result (waiting.new.items ≡ waiting.old.items) }
+{
+    match answer {
+        None => Ok(false),
+        Some(Answer { block, done }) => {
+            let pushed = waiting.extend_from_slice(block.as_str().as_bytes());
+            drop(block);
+            pushed?;
+            Ok(done.is_some())
+        }
     }
 }
 
@@ -150,16 +234,5 @@ fn journal_line(line: &KeptLine, kept: bool) -> &[u8]
     match line.given() {
         Some(bytes) if kept => bytes,
         _ => &[],
-    }
-}
-
-/// The number of the line behind so many. The error says that there is none.
-fn number_after(count: u64) -> Result<u64, Fault>
-    ensures number { IfOk result (λ number. number ≡ count + 1) }
-    ensures none { IfErr result (λ why. (why ≡ Fault.TooLong) × (count + 1 ≡ 2 ^ 64)) }
-{
-    match count.checked_add(1) {
-        Some(number) => Ok(number),
-        None => Err(Fault::TooLong),
     }
 }

@@ -7,12 +7,19 @@ use Rattle.scripts.specs.Script.{Bytes}
 use Rattle.scripts.specs.declared.run.Stop.{Stop}
 use Rattle.feed.specs.Compacting.{HasCompacted}
 use Rattle.feed.specs.Hosted.{HasDone, HasHostedStream}
+use Rattle.feed.specs.Hosted.Hosts.{begins}
+use Rattle.feed.specs.WholeLines.{BeginsWithLines}
+use Rattle.feed.proofs.StopLaws.{survives}
+use Rattle.std.proofs.KnownBytes.{Appends-nil}
+use Rattle.std.specs.Prelude.{IfSome}
 use Rattle.feed.specs.declared.fault.Fault.{Fault}
+use Rattle.feed.specs.declared.fault.Fault.TheVariants as fault
 use Rattle.feed.specs.declared.reading.TheConstants.{LONGEST_LINE}
 use Rattle.journal.specs.Resuming.{HasResumed}
 use Rattle.journal.specs.declared.fault.JournalFault.{JournalFault}
 use Rattle.journal.specs.declared.fault.JournalFault.TheVariants as journal
 use Rattle.serving.specs.Hosts.{Live, Remembers, Serves, new_live}
+use Rattle.serving.specs.Keeping.{empty_lines_are_skipped, kept_lines_are_whole, only_kept_lines_count}
 use Rattle.command_line.specs.declared.replay.ReplayFrom.{ReplayFrom}
 use Rattle.command_line.specs.declared.replay.ReplayFrom.TheVariants.{Line, Open}
 use Rattle.scphost.specs.Hosting.{HasGoneOn, HasMadeShorter, HasServed, IsFrom, IsNotGoneOn}
@@ -41,6 +48,33 @@ served_anew bytes from input left old told new m s last ran end e f g hosted end
     let from_told = subst (λ x. HasHostedStream Serves LONGEST_LINE s (m + 1) input left (HasDone None None x new) ran last) g hosted in
     let from_number = subst (λ (k : ℕ). HasHostedStream Serves LONGEST_LINE s (k + 1) input left (HasDone None None old new) ran last) f from_told in
     (ran, left, last, ended, subst (λ x. HasHostedStream Serves LONGEST_LINE x 1 input left (HasDone None None old new) ran last) e from_number)
+
+-- there was no memory for a host
+nothing_read : (input : Option Bytes) → IfSome input (λ text. BeginsWithLines text [])
+nothing_read None = tt
+nothing_read (Some text) = record { rest = text; parts = refl; plain = refl }
+
+pub not_begun : (bytes : Bool) (from : Option ReplayFrom) (input old : Option Bytes) (end : End) → IsEndOfHost (Err fault.NoMemory) end → HasServed bytes None from input old old end
+not_begun bytes from input old end is = (
+  Err fault.NoMemory,
+  input,
+  new_live bytes,
+  is,
+  (
+    [],
+    [],
+    [],
+    new_live bytes,
+    nothing_read input,
+    record {
+      acts = [];
+      hosts = begins;
+      did = (tt, Appends-nil old);
+      safe = survives Serves LONGEST_LINE only_kept_lines_count empty_lines_are_skipped kept_lines_are_whole (new_live bytes) 1 [] [] [] [] (new_live bytes) begins;
+    },
+    (refl, refl),
+  ),
+)
 
 -- ---- a host that does not go on
 

@@ -1,11 +1,18 @@
 -- A block in which the words are not found says of no want of memory.
-use Rattle.std.specs.Prelude.{◌≡◌, ◌++◌, ◌∷◌, [], Bool, true, false, length, drop, codes, None}
+use Rattle.std.specs.Prelude.{◌≡◌, ◌+◌, ◌<◌, ◌≤◌, ◌++◌, ◌∷◌, [], ℕ, zero, suc, Bool, true, false, length, drop, take, get_or, map, min, codes, List, Option, None}
 use Rattle.std.specs.Bool.{MatchBool}
 use Rattle.std.specs.Fmt.{decimal, digits}
 use Rattle.std.specs.Str.Pattern.{FindsText, HasMatch}
-use Rattle.std.proofs.Common.{◌∙◌, refl, ap, arith, drop_at, length-append, true≢false}
+use Rattle.std.proofs.Common.{◌∙◌, refl, sym, ap, subst, arith, drop_at, length-append, true≢false}
+use Rattle.std.proofs.lemmas.List.{length-map, length-take, take-map}
+use Rattle.std.proofs.lemmas.List.Elements.{All-cons, All-head, All-nil, All-tail}
 use Rattle.scripts.specs.Script.{Bytes}
+use Rattle.feed.specs.Reading.{Held, given_of}
+use Rattle.feed.specs.Served.{AreAnswered, Reply, reply_of}
+use Rattle.feed.specs.declared.answering.Answer.{Answer}
 use Rattle.serving.specs.Blocks.{TellsOfNoWant, want_of_memory}
+use Rattle.serving.specs.Hosts.{Live, Remembers, Serves}
+use Rattle.scphost.specs.Remembering.{AllTellOfNoWant}
 
 -- the words, and the line feed (10) behind them
 abbrev words : Bytes
@@ -29,3 +36,46 @@ pub none_found : (found : Bool) (text : Bytes)
     → MatchBool found (HasMatch (FindsText words) text) (FindsText words text None) → found ≡ false → TellsOfNoWant text
 none_found true text cases is = absurd (true≢false is)
 none_found false text cases is = not-there text cases
+
+-- ---- answers up to the first that says so
+pub remembered_first : (s t : Live) (n k : ℕ) (lines : List (Option Bytes)) (answers : List Reply) → AreAnswered Serves s n lines answers t → AllTellOfNoWant (take k answers)
+    → (u : Live) × AreAnswered Remembers s n lines (take k answers) u × (length answers ≤ k → u ≡ t)
+remembered_first s t n zero lines [] are tell = (s, refl, λ few. sym are)
+remembered_first s t n (suc k) lines [] are tell = (s, refl, λ few. sym are)
+remembered_first s t n zero lines (a ∷ answers) are tell = (s, refl, λ few. absurd (omega (arith, few)))
+remembered_first s t n (suc k) [] (a ∷ answers) are tell = absurd are
+remembered_first s t n (suc k) (line ∷ lines) (a ∷ answers) are tell =
+    let rest = remembered_first are.0 t (n + 1) k lines answers are.2 (All-tail (λ (b : Reply). TellsOfNoWant b.text) a (take k answers) tell) in
+    (rest.0, (are.0, (are.1, All-head (λ (b : Reply). TellsOfNoWant b.text) a (take k answers) tell), rest.1), λ few. rest.2 (omega (arith, few)))
+
+-- one more of them says nothing of it
+pub told_more : (k : ℕ) (answers : List Reply) (d : Reply) → AllTellOfNoWant (take k answers) → k < length answers → TellsOfNoWant (get_or answers k d).text → AllTellOfNoWant (take (k + 1) answers)
+told_more k [] d tell l one = absurd (omega (arith, l))
+told_more zero (a ∷ answers) d tell l one = All-cons (λ (b : Reply). TellsOfNoWant b.text) a [] one (All-nil (λ (b : Reply). TellsOfNoWant b.text))
+told_more (suc k) (a ∷ answers) d tell l one =
+    let same : suc (k + 1) ≡ suc k + 1 = omega arith in
+    subst (λ (m : ℕ). AllTellOfNoWant (take m (a ∷ answers))) same
+    (All-cons (λ (b : Reply). TellsOfNoWant b.text) a (take (k + 1) answers) (All-head (λ (b : Reply). TellsOfNoWant b.text) a (take k answers) tell)
+    (told_more k answers d (All-tail (λ (b : Reply). TellsOfNoWant b.text) a (take k answers) tell) (omega (arith, l)) one))
+
+few-answered : (s t : Live) (n : ℕ) (lines : List (Option Bytes)) (answers : List Reply) → AreAnswered Serves s n lines answers t → length answers ≤ length lines
+few-answered s t n lines [] are = omega arith
+few-answered s t n [] (a ∷ answers) are = absurd are
+few-answered s t n (x ∷ lines) (a ∷ answers) are = let few = few-answered are.0 t (n + 1) lines answers are.2 in omega (arith, few)
+
+pub remembered_batch : (s new : Live) (n k : ℕ) (lines : List Held) (answers left : List (Option Answer)) → left ≡ take k answers
+    → (t : Live) × AreAnswered Serves s n (map given_of lines) (map reply_of answers) t × (length answers ≡ length lines → t ≡ new) → AllTellOfNoWant (take k (map reply_of answers))
+    → (u : Live) × AreAnswered Remembers s n (map given_of lines) (map reply_of left) u × (length left ≡ length lines → u ≡ new)
+remembered_batch s new n k lines answers left is (t, are, last) tell =
+    let first = remembered_first s t n k (map given_of lines) (map reply_of answers) are tell in
+    let told : map reply_of left ≡ take k (map reply_of answers) = ap (map reply_of) is ∙ sym (take-map reply_of k answers) in
+    let few = few-answered s t n (map given_of lines) (map reply_of answers) are in
+    let many = length-map answers reply_of in
+    let lines_many = length-map lines given_of in
+    let left_many : length left ≡ min k (length answers) = ap length is ∙ length-take k answers in (
+      first.0,
+      subst (λ rs. AreAnswered Remembers s n (map given_of lines) rs first.0) (sym told) first.1,
+      λ all.
+          let whole : length answers ≤ k = omega (arith, all, left_many, few, many, lines_many) in
+          first.2 (omega (arith, whole, many)) ∙ last (omega (arith, all, left_many, whole, few, many, lines_many)),
+    )

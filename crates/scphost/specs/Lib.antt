@@ -2,4 +2,5 @@ pub mod Stops
 pub mod Hosting
 pub mod Commands
 pub mod Printing
+pub mod Remembering
 pub mod Reporting

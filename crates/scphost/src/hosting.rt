@@ -1,26 +1,30 @@
 //! A live host, which is sent its lines and answers each of them.
 
-ghost use Rattle.std.specs.Prelude.{◌≡◌, None, Some, Err};
+ghost use Rattle.std.specs.Prelude.{◌≡◌, ◌<◌, None, Some, Err, false};
 ghost use Rattle.serving.specs.Hosts.{new_live};
 ghost use Rattle.scphost.specs.Hosting.{HasMadeShorter, HasServed, HasStarted, IsFrom};
 ghost use Rattle.scphost.specs.Stops.{IsEndOfHost, IsEndOfJournal};
 
 use crate::outputs::Outputs;
 use crate::perform::print_stop;
-use crate::remembering::{RememberedHost, new_host};
+use crate::remembering::RememberedHost;
 use command_line::ReplayFrom;
 use feed::{Fault, Feed, compact};
 use journal::{JournalFault, first_open_line, open_journal, resume};
 use scripts::Stop;
+use shards::ShardedHost;
 use std::fs::{File, Files};
 use std::io::{BufRead, BufReader, Read, Write};
 use std::sync::Wait;
+use std::thread::Threads;
 
-/// How a live host answers: whether envelopes are printed as bytes, and whether it is said why a line is bad.
+/// How a live host answers: whether envelopes are printed as bytes, whether it is said why a line is bad, and how many
+/// workers its networks are shared out among.
 #[derive(Clone, Copy)]
 pub struct AnswerForm {
     pub bytes: bool,
     pub explain: bool,
+    pub workers: usize,
 }
 
 /// The journal of a live host: the name of its file, and from which line on its blocks are printed at the start.
@@ -34,19 +38,35 @@ pub struct JournalUse<'a> {
 /// line is written to `outputs.out` before a further one is waited for, with envelopes as bytes where that is asked for.
 /// Why lines are bad, where that is asked for, and one line on what ended it early go to `outputs.err`.
 ///
-/// One thread serves all networks.
-pub fn serve<A: AllocGlobal + Wait, R: BufRead, W: Write, E: Write>(
+/// The networks are shared out among the workers.
+pub fn serve<A: AllocGlobal + Threads + Wait + Sync, R: BufRead, W: Write, E: Write>(
     rt: &A,
     form: AnswerForm,
     input: &mut R,
     outputs: &mut Outputs<W, E>,
 ) -> Result<bool, Stop>
+    requires { 0 < form.workers }
+    ensures { HasServed form.bytes None None (R.remaining input.old) (W.contents outputs.old.out) (W.contents outputs.new.out) result }
+{
+    let Ok(host) = ShardedHost::new(rt.alloc(), form.bytes, form.workers) else {
+        return print_end_of_host(Err(Fault::NoMemory), "", &mut outputs.err);
+    };
+    serve_by(rt, form, host, input, outputs)
+}
+
+/// The same by this host.
+fn serve_by<A: AllocGlobal + Threads + Wait + Sync, R: BufRead, W: Write, E: Write>(
+    rt: &A,
+    form: AnswerForm,
+    host: ShardedHost,
+    input: &mut R,
+    outputs: &mut Outputs<W, E>,
+) -> Result<bool, Stop>
+    requires { host ≡ new_live form.bytes }
     ensures { HasServed form.bytes None None (R.remaining input.old) (W.contents outputs.old.out) (W.contents outputs.new.out) result }
 {
     outputs.explain = form.explain;
-    let alloc = rt.alloc();
-    let host = new_host(alloc, form.bytes);
-    let mut feed = Feed::new(alloc, host, 0);
+    let mut feed = Feed::new(rt.alloc(), host, 0);
     let ran = feed.serve(rt, input, outputs);
     drop(feed);
     print_end_of_host(ran, "", &mut outputs.err)
@@ -56,7 +76,7 @@ pub fn serve<A: AllocGlobal + Wait, R: BufRead, W: Write, E: Write>(
 /// to its end; what some of them were answered is written again if that is asked for, and then `resumed L`, L being how
 /// many there are.
 pub fn serve_with_journal<
-    A: AllocGlobal + Wait + Files<File = File>,
+    A: AllocGlobal + Threads + Wait + Sync + Files<File = File>,
     R: BufRead,
     W: Write,
     E: Write,
@@ -67,10 +87,32 @@ pub fn serve_with_journal<
     input: &mut R,
     outputs: &mut Outputs<W, E>,
 ) -> Result<bool, Stop>
+    requires { 0 < form.workers }
     ensures { HasServed form.bytes (Some journal.entry.name.now) journal.entry.from (R.remaining input.old) (W.contents outputs.old.out) (W.contents outputs.new.out) result }
 {
-    let alloc = rt.alloc();
-    let mut host = RememberedHost::new(alloc, form.bytes);
+    let Ok(host) = RememberedHost::new(rt.alloc(), form.bytes, form.workers) else {
+        return print_end_of_journal(JournalFault::NoMemory, journal.name, &mut outputs.err);
+    };
+    go_on(rt, form, journal, host, input, outputs)
+}
+
+/// The same by this host.
+fn go_on<
+    A: AllocGlobal + Threads + Wait + Sync + Files<File = File>,
+    R: BufRead,
+    W: Write,
+    E: Write,
+>(
+    rt: &A,
+    form: AnswerForm,
+    journal: JournalUse<'_>,
+    mut host: RememberedHost,
+    input: &mut R,
+    outputs: &mut Outputs<W, E>,
+) -> Result<bool, Stop>
+    requires { host ≡ new_live form.bytes }
+    ensures { HasServed form.bytes (Some journal.entry.name.now) journal.entry.from (R.remaining input.old) (W.contents outputs.old.out) (W.contents outputs.new.out) result }
+{
     let (file, count) = match start(rt, journal, form.bytes, &mut host, &mut outputs.out) {
         Ok(started) => started,
         Err(fault) => {
@@ -80,7 +122,7 @@ pub fn serve_with_journal<
     };
     outputs.journal = Some(file);
     outputs.explain = form.explain;
-    let mut feed = Feed::new(alloc, host, count);
+    let mut feed = Feed::new(rt.alloc(), host, count);
     let ran = feed.serve(rt, input, outputs);
     drop(feed);
     print_end_of_host(ran, journal.name, &mut outputs.err)
@@ -116,7 +158,10 @@ fn first_told<A: AllocGlobal + Wait>(
         None => Ok(None),
         Some(ReplayFrom::Line(line)) => Ok(Some(line)),
         Some(ReplayFrom::Open) => {
-            first_open_line(rt, file, RememberedHost::new(rt.alloc(), bytes))
+            let Ok(host) = RememberedHost::new(rt.alloc(), bytes, 1) else {
+                return Err(JournalFault::NoMemory);
+            };
+            first_open_line(rt, file, host)
         }
     }
 }
@@ -131,7 +176,23 @@ pub fn make_shorter<A: AllocGlobal + Wait, R: BufRead, W: Write, E: Write>(
 ) -> Result<bool, Stop>
     ensures { HasMadeShorter (R.remaining journal.old) (W.contents outputs.old.out) (W.contents outputs.new.out) result }
 {
-    let host = RememberedHost::new(rt.alloc(), false);
+    let Ok(host) = RememberedHost::new(rt.alloc(), false, 1) else {
+        return print_stop(Stop::NoMemory, "", &mut outputs.err);
+    };
+    make_shorter_by(rt, name, host, journal, outputs)
+}
+
+/// The same by this host.
+fn make_shorter_by<A: AllocGlobal + Wait, R: BufRead, W: Write, E: Write>(
+    rt: &A,
+    name: &str,
+    host: RememberedHost,
+    journal: &mut R,
+    outputs: &mut Outputs<W, E>,
+) -> Result<bool, Stop>
+    requires { host ≡ new_live false }
+    ensures { HasMadeShorter (R.remaining journal.old) (W.contents outputs.old.out) (W.contents outputs.new.out) result }
+{
     match compact(rt, host, journal, &mut outputs.out) {
         Ok(()) => Ok(false),
         Err(stop) => print_end_of_journal(JournalFault::from(stop), name, &mut outputs.err),

@@ -1,6 +1,6 @@
 //! Carrying out a call: its files are run, and how it ended is answered.
 
-ghost use Rattle.std.specs.Prelude.{◌≡◌, Err, IfSome, IsTrue, None, false};
+ghost use Rattle.std.specs.Prelude.{◌≡◌, ◌<◌, Err, IfSome, IsTrue, None, false};
 ghost use Rattle.runs.specs.Hosting.{new_hosting};
 ghost use Rattle.runs.specs.Running.{RefusesLine, Tells};
 ghost use Rattle.scphost.specs.Printing.{HasAnswered, HasAnsweredUsage, HasRunLines, IsCompared, IsCrowd, IsPerformed, IsPerformedAsItComes, IsPooled, IsReported, names_files};
@@ -332,15 +332,16 @@ pub fn perform_stream<
         | Call::Compare { .. }
         | Call::Crowd { .. } => { perform(rt, call, input, &mut io::empty(), outputs) }
         Call::Serve {
+            workers,
             bytes,
             explain,
             journal,
             from,
-            ..
         } => {
             let form = AnswerForm {
                 bytes: *bytes,
                 explain: *explain,
+                workers: worker_count(*workers),
             };
             match journal {
                 None => serve(rt, form, input, outputs),
@@ -354,6 +355,16 @@ pub fn perform_stream<
             }
         }
         Call::Compact { file } => make_shorter(rt, file.as_str(), input, outputs),
+    }
+}
+
+/// How many workers a live host has: one, if no number is asked for.
+fn worker_count(workers: Option<PoolSize>) -> usize
+    ensures { 0 < result }
+{
+    match workers {
+        Some(workers) => workers.workers() as usize,
+        None => 1,
     }
 }
 

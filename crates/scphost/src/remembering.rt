@@ -1,14 +1,17 @@
 //! A live host that ends where its journal could not tell what it did.
 
-ghost use Rattle.std.specs.Prelude.{◌≡◌, false};
+ghost use Rattle.std.specs.Prelude.{◌≡◌, ◌<◌, ◌≤◌, IfOk, false, length, map, take};
 ghost use Rattle.feed.specs.Served.{reply_of};
 ghost use Rattle.serving.specs.Blocks.{TellsOfNoWant};
 ghost use Rattle.serving.specs.Hosts.{new_live};
+ghost use Rattle.scphost.specs.Remembering.{AllTellOfNoWant};
 
-use feed::{Answer, LineServer};
-use serving::LiveHost;
+use feed::{Answer, BatchServer, KeptLine, LineServer};
+use shards::ShardedHost;
 use std::alloc::{AllocError, Global};
+use std::collections::VecDeque;
 use std::marker::Model;
+use std::thread::Threads;
 
 /// A live host of which a journal is kept.
 ///
@@ -16,7 +19,7 @@ use std::marker::Model;
 /// the line is run again, and then the journal would not tell what happened.
 #[derive(Drop)]
 pub struct RememberedHost {
-    host: LiveHost,
+    host: ShardedHost,
 }
 
 impl Model for RememberedHost {
@@ -32,21 +35,15 @@ impl Model for RememberedHost {
 }
 
 impl RememberedHost {
-    /// A host without networks, which prints envelopes as bytes if that is asked for.
-    pub fn new(alloc: Global, bytes: bool) -> RememberedHost
-        ensures { result ≡ new_live bytes }
+    /// A host without networks for so many workers, which prints envelopes as bytes if that is asked for. An error says that
+    /// memory is short.
+    pub fn new(alloc: Global, bytes: bool, workers: usize) -> Result<RememberedHost, AllocError>
+        requires { 0 < workers }
+        ensures { IfOk result (λ host. host ≡ new_live bytes) }
     {
-        RememberedHost {
-            host: new_host(alloc, bytes),
-        }
+        let host = ShardedHost::new(alloc, bytes, workers)?;
+        Ok(RememberedHost { host })
     }
-}
-
-/// A host of which no journal is kept, without networks.
-pub fn new_host(alloc: Global, bytes: bool) -> LiveHost
-    ensures { result ≡ new_live bytes }
-{
-    LiveHost::new(alloc, bytes)
 }
 
 impl LineServer for RememberedHost {
@@ -75,6 +72,35 @@ impl LineServer for RememberedHost {
         }
         Ok(answer)
     }
+}
+
+impl BatchServer for RememberedHost {
+    /// The answers up to the first that says that memory was wanting.
+    fn serve_batch<R: Threads + Sync>(
+        &mut self,
+        rt: &R,
+        alloc: Global,
+        count: u64,
+        lines: &[KeptLine],
+    ) -> VecDeque<Option<Answer>> {
+        let mut answers = self.host.serve_batch(rt, alloc, count, lines);
+        let told = told_of(&answers);
+        answers.truncate(told);
+        answers
+    }
+}
+
+/// How many answers there are before the first that says that memory was wanting.
+fn told_of(answers: &VecDeque<Option<Answer>>) -> usize
+    ensures all { AllTellOfNoWant (take result (map reply_of answers.now.items)) }
+    ensures few { result ≤ length answers.now.items }
+{
+    for told in 0..answers.len() {
+        if lacked_memory(&answers[told]) {
+            return told;
+        }
+    }
+    answers.len()
 }
 
 /// Whether an event or a hearing was refused for want of memory. No other line of a block has these words.

@@ -6,21 +6,41 @@ use Rattle.requests.specs.Outlines.{waiting_at}
 use Rattle.requests.specs.declared.ask.Ask.{Ask}
 use Rattle.requests.specs.declared.ask.Ask.TheVariants as ask
 use Rattle.requests.specs.declared.request.Declaration.{Declaration}
+use Rattle.requests.specs.declared.request.Declaration.TheVariants as declaration
+use Rattle.requests.specs.Taking.{takes_node, takes_roster}
+use Rattle.configuration.specs.declared.roster.Reservation.{Reservation}
 use Rattle.scripts.specs.Script.{Bytes}
-use Rattle.serving.specs.Apart.{AnswersAreGivenNextToOthers, AnswersAreLocal, HasRoom, IsOrdered, alone}
+use Rattle.serving.specs.Apart.{AnswersAreGivenNextToOthers, AnswersAreLocal, HasRoomToAnswer, IsOrdered, alone}
 use Rattle.serving.specs.Blocks.{closing_line}
+use Rattle.serving.specs.Merging.{HasRoomFor}
 use Rattle.serving.specs.Hosts.{AreAllAnswered, IsAnswer, IsEventAnswered, IsLeftText, IsShown, Live, left_at, left_by, live_at, not_shown, takes}
 use Rattle.serving.specs.declared.block.Closing.TheVariants as closing
 use Rattle.serving.proofs.Alone.{found-alone}
 use Rattle.serving.proofs.ApartLines.{HappensLocally, HappensNextTo, all-local, all-next, declared-local, declared-next, dropped-local, dropped-next, event-local, event-next, once-begun-local, once-begun-next, same-local, taken-alone, taken-next}
 
--- ---- what is not taken
-refused-alone : (l : Live) (g : ℕ) (d : Declaration) → HasRoom l → takes l g d ≡ false → takes (alone g l) g d ≡ false
-refused-alone l g d room refused = by (takes (alone g l) g d) refl
+-- ---- what is taken
+same-node : (l : Live) (g u : ℕ) → takes_node (waiting_at (alone g l).waiting g) u ≡ takes_node (waiting_at l.waiting g) u
+same-node l g u = ap (λ w. takes_node w u) (found-alone g l.waiting)
+
+same-roster : (l : Live) (g : ℕ) (r : Reservation) → takes_roster (waiting_at (alone g l).waiting g) r.names.items r.shares ≡ takes_roster (waiting_at l.waiting g) r.names.items r.shares
+same-roster l g r = ap (λ w. takes_roster w r.names.items r.shares) (found-alone g l.waiting)
+
+refused-alone : (l : Live) (g : ℕ) (d : Declaration) → HasRoomToAnswer (ask.Declare d) l → takes l g d ≡ false → takes (alone g l) g d ≡ false
+refused-alone l g (declaration.Net b) room refused = by (takes (alone g l) g (declaration.Net b)) refl
   where
-    by : (is : Bool) → takes (alone g l) g d ≡ is → takes (alone g l) g d ≡ false
-    by true is = absurd (true≢false (sym (taken-next l g d (λ waits runs. room) is) ∙ refused))
+    by : (is : Bool) → takes (alone g l) g (declaration.Net b) ≡ is → takes (alone g l) g (declaration.Net b) ≡ false
+    by true is = absurd (true≢false (sym (taken-next l g (declaration.Net b) (λ waits runs. room) is) ∙ refused))
     by false is = is
+refused-alone l g (declaration.Node u q) room refused = same-node l g u ∙ refused
+refused-alone l g (declaration.Roster r) room refused = same-roster l g r ∙ refused
+
+-- what is taken of a network that does not wait is a network, for which there is room
+room-for : (l : Live) (g : ℕ) (d : Declaration) → HasRoomToAnswer (ask.Declare d) l → takes (alone g l) g d ≡ true → HasRoomFor g l
+room-for l g (declaration.Net b) room taken waits runs = room
+room-for l g (declaration.Node u q) room taken waits runs =
+    absurd (true≢false (sym taken ∙ same-node l g u ∙ ap (λ w. takes_node w u) waits))
+room-for l g (declaration.Roster r) room taken waits runs =
+    absurd (true≢false (sym taken ∙ same-roster l g r ∙ ap (λ w. takes_roster w r.names.items r.shares) waits))
 
 refused-next : (l : Live) (g : ℕ) (d : Declaration) → takes (alone g l) g d ≡ false → takes l g d ≡ false
 refused-next l g d refused = by (takes l g d) refl
@@ -51,7 +71,7 @@ shown-next l n g i u text (None, at, is) =
 shown-next l n g i u text (Some m, at, shown) = (Some m, sym (found-alone g l.running) ∙ at, shown)
 
 -- ---- answers
-all-answers-local : (n g : ℕ) (asked : Ask) (old new : Live) (a : Reply) → IsOrdered old → HasRoom old
+all-answers-local : (n g : ℕ) (asked : Ask) (old new : Live) (a : Reply) → IsOrdered old → HasRoomToAnswer asked old
     → IsAnswer n g asked old a new → HappensLocally g (λ l t. IsAnswer n g asked l a t) old new
 all-answers-local n g (ask.Declare x) old new a ordered room (true, declares, is) =
     let kept = declared-local g x old new ordered declares in
@@ -73,10 +93,10 @@ all-answers-local n g ask.Drop old new a ordered room (taken, drops, is) =
     let kept = dropped-local g taken old new ordered drops in
     ((taken, kept.0, is), kept.1, kept.2)
 
-all-answers-next : (n g : ℕ) (asked : Ask) (old own : Live) (a : Reply) → IsOrdered old → HasRoom old
+all-answers-next : (n g : ℕ) (asked : Ask) (old own : Live) (a : Reply) → IsOrdered old → HasRoomToAnswer asked old
     → IsAnswer n g asked (alone g old) a own → HappensNextTo g (λ l t. IsAnswer n g asked l a t) old own
 all-answers-next n g (ask.Declare x) old own a ordered room (true, declares, is) =
-    let next = declared-next g x old own (λ waits runs. room) declares in
+    let next = declared-next g x old own (room-for old g x room declares.0) declares in
     (next.0, (true, next.1, is), next.2)
 all-answers-next n g (ask.Declare x) old own a ordered room (false, (refused, same), is) =
     (old, (false, (refused-next old g x refused, refl), is), sym same)

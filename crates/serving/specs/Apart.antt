@@ -8,6 +8,8 @@ use Rattle.requests.specs.Outlines.{waiting_at}
 use Rattle.requests.specs.declared.ask.Ask.{Ask}
 use Rattle.serving.specs.Futures.{AreAlike, behind_number, behind_numbers}
 use Rattle.serving.specs.Hosts.{IsAnswer, Live, Serves, live_at, new_live}
+use Rattle.requests.specs.declared.ask.Ask.TheVariants as ask
+use Rattle.requests.specs.declared.request.Declaration.TheVariants as declaration
 
 -- ---- one network of a host
 -- an entry of this number alone, if there is one
@@ -72,17 +74,23 @@ LinesAreAnsweredNextToOthers =
     → Serves (alone d.network l) n line a own → a.done ≡ Some d
     → (t : Live) × Serves l n line a t × (alone d.network t ≡ own) × OthersStay d.network l t
 
+-- there is room for a network, if the line declares one
+abbrev pub HasRoomToAnswer : Ask → Live → Type 0
+HasRoomToAnswer (ask.Declare (declaration.Net budgets)) l = HasRoom l
+HasRoomToAnswer _ l = Unit {0}
+
 -- What a line may ask of a network, questions too, is answered as if there were no other, if there is room for one that
 -- may be declared.
 abbrev pub AnswersAreLocal : Type 0
 AnswersAreLocal =
-    (l t : Live) (n g : ℕ) (asked : Ask) (a : Reply) → IsOrdered l → HasRoom l → IsAnswer n g asked l a t
+    (l t : Live) (n g : ℕ) (asked : Ask) (a : Reply) → IsOrdered l → HasRoomToAnswer asked l → IsAnswer n g asked l a t
     → IsAnswer n g asked (alone g l) a (alone g t) × OthersStay g l t
 
--- what a question or an event is answered where there is no other network, it may be answered next to others
+-- what it is answered where there is no other network, it may be answered next to others
 abbrev pub AnswersAreGivenNextToOthers : Type 0
 AnswersAreGivenNextToOthers =
-    (l own : Live) (n g : ℕ) (asked : Ask) (a : Reply) → IsOrdered l → HasRoom l → IsAnswer n g asked (alone g l) a own
+    (l own : Live) (n g : ℕ) (asked : Ask) (a : Reply) → IsOrdered l → HasRoomToAnswer asked l
+    → IsAnswer n g asked (alone g l) a own
     → (t : Live) × IsAnswer n g asked l a t × (alone g t ≡ own) × OthersStay g l t
 
 -- Of two hosts in which a network is alike, whatever their others are, what the one answers to a line that did something to

@@ -143,7 +143,7 @@ kept_lines_are_whole old new n line a (inr (runs, inr (fields, are, answer))) ke
     subst (λ bytes. has_no_hole bytes ≡ true) are.0 (fields-are-whole fields are.1)
 
 -- ---- where a journal is kept
--- no words at all tell of no want of memory
+-- where nothing is told, nothing says that memory was wanting
 pub none_told : TellsOfNoWant []
 none_told [] rest is = cc
 none_told (b ∷ front) rest is = cc

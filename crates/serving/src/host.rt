@@ -1,6 +1,6 @@
 //! A live host, and what it answers to its lines.
 
-ghost use Rattle.std.specs.Prelude.{◌≡◌, [], IfOk, None, OnOk, Some, map, string_bytes};
+ghost use Rattle.std.specs.Prelude.{◌≡◌, ◌+◌, [], IfOk, None, OnOk, Some, length, map, string_bytes};
 ghost use Rattle.feed.specs.Served.{reply_of};
 ghost use Rattle.std.specs.BTreeMap.{insert_entry};
 ghost use Rattle.std.specs.Ordering.{nat_cmp};
@@ -63,6 +63,13 @@ impl LiveHost {
             waiting: Waiting::none(alloc),
             running: BTreeMap::new(alloc),
         }
+    }
+
+    /// How many networks are declared.
+    pub fn len(&self) -> usize
+        ensures { result ≡ length self.now.waiting + length self.now.running }
+    {
+        self.waiting.count() + self.running.len()
     }
 
     /// The answer to a line that is not too long; `None` where it is empty or a comment.
@@ -207,7 +214,7 @@ impl LiveHost {
     {
         !self.waiting.has(number)
             && !self.running.contains_key(&number)
-            && self.waiting.count() + self.running.len() < MOST_NETWORKS
+            && self.len() < MOST_NETWORKS
     }
 
     /// Adds what is declared to the networks that wait.

@@ -10,6 +10,7 @@ use std::alloc::{AllocError, Global};
 use std::io::{BufRead, Read};
 use std::process::Abort;
 use std::sync::Wait;
+use std::thread::Threads;
 use std::test::Fail;
 
 mod counter;
@@ -48,7 +49,7 @@ struct Ran<R: Abort + Drop> {
 }
 
 /// Serves what is sent by a host to which nothing has come yet. A call of its desk fails, or none at 0.
-fn serve<R: Wait + Abort + AllocGlobal + Copy + Drop>(
+fn serve<R: Threads + Wait + Abort + AllocGlobal + Sync + Copy + Drop>(
     rt: R,
     input: &mut impl BufRead,
     fails_at: u32,

@@ -102,6 +102,7 @@ impl<S: Shelf + Drop, H: Wait + Drop> Host<S, H> {
                     return Err((NotJoined::TooManyNetworks, cell, seats));
                 }
                 if !self.host_state.reserve() {
+                    // Memory: one of the lists has no room.
                     return Err((NotJoined::NoMemory, cell, seats));
                 }
                 self.host_state.put_at(place, cell, seats);

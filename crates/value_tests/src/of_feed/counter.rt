@@ -4,9 +4,11 @@ ghost use Rattle.std.specs.Prelude.{◌≡◌, option_map};
 ghost use Rattle.feed.specs.WholeLines.{has_no_hole};
 ghost use Rattle.value_tests.specs.Counting.{Adds};
 
-use feed::{Answer, Deed, Done, LineServer};
+use feed::{Answer, BatchServer, Deed, Done, KeptLine, LineServer, serve_in_turn};
 use std::alloc::{AllocError, Global};
+use std::collections::VecDeque;
 use std::marker::Model;
+use std::thread::Threads;
 
 /// Counts plus signs. A line of them, and of nothing else, is kept; it is answered by its number and how many there have
 /// been. An empty line and one that begins with `#` is not answered, and another is bad.
@@ -88,5 +90,17 @@ impl LineServer for Counter {
         };
         let done = if kept { Some(DECLARED) } else { None };
         Ok(Some(Answer { block, done }))
+    }
+}
+
+impl BatchServer for Counter {
+    fn serve_batch<X: Threads + Sync>(
+        &mut self,
+        _rt: &X,
+        alloc: Global,
+        count: u64,
+        lines: &[KeptLine],
+    ) -> VecDeque<Option<Answer>> {
+        serve_in_turn(self, alloc, count, lines)
     }
 }

@@ -1,11 +1,11 @@
-use Rattle.std.proofs.Common.{Err}
+use Rattle.std.proofs.Common.{Err, refl}
 use Rattle.std.specs.Io.Buffered.{reader_remaining}
 use Rattle.scripts.specs.declared.run.Stop.TheVariants as stop
 use Rattle.scphost.proofs.HostingLaws.{holds_the_same, shorter_by_reader}
 use Rattle.scphost.proofs.hosting.make_file_shorter.Goals as goal
 
 pub returns-in_default : goal.returns-in_default
-returns-in_default g c = (Err stop.NoMemory, c.print_stop.ensures, tt)
+returns-in_default g c = (Err stop.NoMemory, c.print_stop.ensures, refl)
 
 pub returns : goal.returns
 returns g c =

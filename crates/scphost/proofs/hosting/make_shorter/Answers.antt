@@ -1,11 +1,6 @@
-use Rattle.std.proofs.Common.{Ok, Err, refl, rules}
-use Rattle.scphost.proofs.HostingLaws.{made_shorter}
+use Rattle.std.proofs.Common.{Err, refl}
+use Rattle.scripts.specs.declared.run.Stop.TheVariants as stop
 use Rattle.scphost.proofs.hosting.make_shorter.Goals as goal
 
-pub returns-in-Ok : goal.returns-in-Ok
-returns-in-Ok g c =
-    made_shorter _ _ _ c.new-host.result (Ok c.in-Ok.field-0) _ c.new-host.ensures (rw c.in-Ok.is at c.compact.ensures) refl
-
-pub returns-in-Err : goal.returns-in-Err
-returns-in-Err g c =
-    made_shorter _ _ _ c.new-host.result (Err c.in-Err.stop) _ c.new-host.ensures (rw c.in-Err.is at c.compact.ensures) (search rules)
+pub returns-in_default : goal.returns-in_default
+returns-in_default g c = (Err stop.NoMemory, c.print_stop.ensures, refl)

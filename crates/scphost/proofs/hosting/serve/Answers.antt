@@ -1,7 +1,6 @@
-use Rattle.std.proofs.Common.{None, rules}
-use Rattle.scphost.proofs.HostingLaws.{served_anew}
+use Rattle.std.proofs.Common.{None}
+use Rattle.scphost.proofs.HostingLaws.{not_begun}
 use Rattle.scphost.proofs.hosting.serve.Goals as goal
 
-pub returns : goal.returns
-returns g c =
-    served_anew c.args.form.bytes None _ _ _ _ _ _ _ _ c.serve-ran.result _ (search rules) c.new-feed.ensures.count (search rules) c.serve-ran.ensures c.print_end_of_host.ensures
+pub returns-in_default : goal.returns-in_default
+returns-in_default g c = not_begun c.args.form.bytes None _ _ _ c.print_end_of_host.ensures

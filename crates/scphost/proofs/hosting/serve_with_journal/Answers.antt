@@ -1,8 +1,6 @@
-use Rattle.std.proofs.Common.{rules}
-use Rattle.scphost.proofs.HostingLaws.{served_on}
+use Rattle.std.proofs.Common.{inl}
+use Rattle.journal.specs.declared.fault.JournalFault.TheVariants as journal
 use Rattle.scphost.proofs.hosting.serve_with_journal.Goals as goal
 
-pub returns : goal.returns
-returns g c =
-    let gone = rw c.in-Ok.is at c.start.ensures in
-    served_on c.args.form.bytes c.args.journal.name.now _ _ _ _ _ _ _ _ _ _ _ _ c.serve-ran.result _ gone c.new-feed.ensures.server c.new-feed.ensures.count (search rules) c.serve-ran.ensures c.print_end_of_host.ensures
+pub returns-in_default : goal.returns-in_default
+returns-in_default g c = inl (journal.NoMemory, tt, c.print_end_of_journal.ensures)

@@ -1,7 +1,7 @@
-use Rattle.std.proofs.Common.{◌+◌}
+use Rattle.std.proofs.Common.{◌∙◌, Ok, ap}
 use Rattle.std.proofs.lemmas.Result.{err_from_is_err_and}
-use Rattle.feed.specs.Faults.{fault_of_read}
-use Rattle.feed.proofs.ServingLaws.{Laws, all_told, ended_by, ended_still, line_more, not_told, starts, told_then, unread, unserved}
+use Rattle.feed.proofs.ServingLaws.{Laws, starts}
+use Rattle.feed.proofs.TogetherLaws.{not_read, not_served, read_all, reads_on, served_on, told_not}
 use Rattle.feed.proofs.serving.Feed.serve.Goals as goal
 
 pub loop-init : goal.loop-init
@@ -9,62 +9,32 @@ loop-init g c = starts _ _ _ _ _ _ _ _ c.requires
 
 pub loop-preserved : goal.loop-preserved
 loop-preserved g c =
-    let next = rw c.in-Ok-Some.field-0-is at c.in-Ok-Some.ensures.next in
-    let served = rw c.in_default.is at c.serve_line.ensures.served in
-    line_more _ _ _ _ _ _ _ _ _ _ _ _ _ _ _ _ _ _ _ c.next_line.new.line c.in-Ok-Some.more c.loop.invariant next served c.serve_line.ensures.told
+    let on = served_on _ _ _ _ _ _ _ _ _ _ _ _ _ _ _ _ _ _ _ c.gather-read.new.lines.items c.gather-read.result c.serve_lines-served.result c.loop.invariant c.gather-read.ensures (rw c.as_slice.ensures.value at c.serve_lines-served.ensures.served) c.serve_lines-served.ensures.told in
+    reads_on _ _ _ _ _ on.0 _ _ _ _ _ _ _ _ _ _ _ _ _ c.serve_lines-served.result c.gather-read.result c.tell.ensures.same.0 c.tell.ensures.same.1 on.2 c.in_ok-served.was on.1 (c.in_ok-read.was ∙ ap Ok c.if-not-branch.false) (rw c.in_ok-tell.was at c.tell.ensures.told)
 
-pub loop-preserved-in-Continue-branch-2 : goal.loop-preserved-in-Continue-branch-2
-loop-preserved-in-Continue-branch-2 g c =
-    let next = rw c.in-Ok-Some.field-0-is at c.in-Ok-Some.ensures.next in
-    let served = rw c.in_default.is at c.serve_line.ensures.served in
-    let going = line_more _ _ _ _ _ _ _ _ _ _ _ _ _ _ _ _ _ _ _ c.next_line.new.line c.in-Ok-Some.more c.loop.invariant next served c.serve_line.ensures.told in
-    let same = c.tell-then-not-waits.ensures.same in
-    rw (same.0, same.1) (told_then _ _ _ _ _ _ _ _ _ _ _ _ _ _ _ _ going (rw c.in_ok-tell-in-Ok-Some-2.was at c.tell-then-not-waits.ensures.told))
-
-pub returns-in_err-tell-in-Ok-Some : goal.returns-in_err-tell-in-Ok-Some
-returns-in_err-tell-in-Ok-Some g c =
+pub returns-in_err-tell : goal.returns-in_err-tell
+returns-in_err-tell g c =
     let laws : Laws g.S.LineServer.serves = record { only = g.S.LineServer.only_kept; skipped = g.S.LineServer.skipped; whole = g.S.LineServer.whole } in
-    let next = rw c.in-Ok-Some.field-0-is at c.in-Ok-Some.ensures.next in
-    let served = rw c.in-Err-serve_line.is at c.serve_line.ensures.served in
-    let un = unserved _ _ _ _ _ _ _ _ _ _ _ _ _ _ _ _ _ _ _ c.next_line.new.line c.in-Ok-Some.more c.in-Err-serve_line.fault c.loop.invariant next served c.serve_line.ensures.told in
+    let on = served_on _ _ _ _ _ _ _ _ _ _ _ _ _ _ _ _ _ _ _ c.gather-read.new.lines.items c.gather-read.result c.serve_lines-served.result c.loop.invariant c.gather-read.ensures (rw c.as_slice.ensures.value at c.serve_lines-served.ensures.served) c.serve_lines-served.ensures.told in
     let out = err_from_is_err_and c.from_residual.result c.from_residual.ensures.1 in
-    rw (out.1, out.2) (not_told _ _ laws _ _ _ (g.R.Read.remaining c.next_line.new.reader) _ _ _ _ _ _ _ _ _ _ c.tell.new.self.server _ _ un.1 (rw c.in_err-tell-in-Ok-Some.was at c.tell.ensures.told))
+    rw (out.1, out.2) (told_not _ _ laws _ _ _ on.0 (g.R.Read.remaining c.gather-read.new.input) _ _ _ _ _ _ _ _ _ _ _ c.serve_lines-served.result _ on.2 (rw c.in_err-tell.was at c.tell.ensures.told))
 
-pub returns-in-Err-serve_line : goal.returns-in-Err-serve_line
-returns-in-Err-serve_line g c =
+pub returns-in_err-served : goal.returns-in_err-served
+returns-in_err-served g c =
     let laws : Laws g.S.LineServer.serves = record { only = g.S.LineServer.only_kept; skipped = g.S.LineServer.skipped; whole = g.S.LineServer.whole } in
-    let next = rw c.in-Ok-Some.field-0-is at c.in-Ok-Some.ensures.next in
-    let served = rw c.in-Err-serve_line.is at c.serve_line.ensures.served in
-    let un = unserved _ _ _ _ _ _ _ _ _ _ _ _ _ _ _ _ _ _ _ c.next_line.new.line c.in-Ok-Some.more c.in-Err-serve_line.fault c.loop.invariant next served c.serve_line.ensures.told in
-    let end = ended_still _ _ _ _ _ _ _ c.tell.ensures.same.0 un.2 in
-    ended_by _ _ laws _ _ _ (g.R.Read.remaining c.next_line.new.reader) _ _ _ _ _ _ _ _ _ _ c.tell.new.self.server _ c.in-Err-serve_line.fault un.1 end (rw c.in_ok-tell-in-Ok-Some.was at c.tell.ensures.told)
+    let on = served_on _ _ _ _ _ _ _ _ _ _ _ _ _ _ _ _ _ _ _ c.gather-read.new.lines.items c.gather-read.result c.serve_lines-served.result c.loop.invariant c.gather-read.ensures (rw c.as_slice.ensures.value at c.serve_lines-served.ensures.served) c.serve_lines-served.ensures.told in
+    let out = err_from_is_err_and c.from_residual-in_err-served.result c.from_residual-in_err-served.ensures.1 in
+    rw (out.1, out.2) (not_served _ _ laws _ _ _ on.0 (g.R.Read.remaining c.gather-read.new.input) _ _ _ _ _ _ _ _ _ _ _ c.serve_lines-served.result _ c.tell.ensures.same.0 on.2 c.in_err-served.was (rw c.in_ok-tell.was at c.tell.ensures.told))
 
-pub returns-in_err-tell-in-Ok-Some-2 : goal.returns-in_err-tell-in-Ok-Some-2
-returns-in_err-tell-in-Ok-Some-2 g c =
+pub returns-in_err-read : goal.returns-in_err-read
+returns-in_err-read g c =
     let laws : Laws g.S.LineServer.serves = record { only = g.S.LineServer.only_kept; skipped = g.S.LineServer.skipped; whole = g.S.LineServer.whole } in
-    let next = rw c.in-Ok-Some.field-0-is at c.in-Ok-Some.ensures.next in
-    let served = rw c.in_default.is at c.serve_line.ensures.served in
-    let going = line_more _ _ _ _ _ _ _ _ _ _ _ _ _ _ _ _ _ _ _ c.next_line.new.line c.in-Ok-Some.more c.loop.invariant next served c.serve_line.ensures.told in
-    let out = err_from_is_err_and c.from_residual-in_err-tell-in-Ok-Some-2.result c.from_residual-in_err-tell-in-Ok-Some-2.ensures.1 in
-    rw (out.1, out.2) (not_told _ _ laws _ _ _ (g.R.Read.remaining c.next_line.new.reader) _ _ _ _ _ _ _ _ _ _ c.tell-then-not-waits.new.self.server _ _ going.hosting
-    (rw c.in_err-tell-in-Ok-Some-2.was at c.tell-then-not-waits.ensures.told))
+    let on = served_on _ _ _ _ _ _ _ _ _ _ _ _ _ _ _ _ _ _ _ c.gather-read.new.lines.items c.gather-read.result c.serve_lines-served.result c.loop.invariant c.gather-read.ensures (rw c.as_slice.ensures.value at c.serve_lines-served.ensures.served) c.serve_lines-served.ensures.told in
+    let out = err_from_is_err_and c.from_residual-in_err-read.result c.from_residual-in_err-read.ensures.1 in
+    rw (out.1, out.2) (not_read _ _ laws _ _ _ on.0 (g.R.Read.remaining c.gather-read.new.input) _ _ _ _ _ _ _ _ _ _ _ c.serve_lines-served.result c.gather-read.result _ c.tell.ensures.same.0 on.2 c.in_ok-served.was on.1 c.in_err-read.was (rw c.in_ok-tell.was at c.tell.ensures.told))
 
-pub returns-in-Ok-None : goal.returns-in-Ok-None
-returns-in-Ok-None g c =
+pub returns-then-not-branch : goal.returns-then-not-branch
+returns-then-not-branch g c =
     let laws : Laws g.S.LineServer.serves = record { only = g.S.LineServer.only_kept; skipped = g.S.LineServer.skipped; whole = g.S.LineServer.whole } in
-    let next = rw c.in-Ok-None.field-0-is at c.in-Ok-None.ensures.next in
-    rw c.tell-in-Ok-None.ensures.same.0 (all_told _ _ laws _ _ _ _ _ _ _ _ _ _ _ _ _ _ _ c.next_line.new.line c.tell-in-Ok-None.result c.loop.invariant next c.tell-in-Ok-None.ensures.told)
-
-pub returns-in_err-tell-in-Err : goal.returns-in_err-tell-in-Err
-returns-in_err-tell-in-Err g c =
-    let laws : Laws g.S.LineServer.serves = record { only = g.S.LineServer.only_kept; skipped = g.S.LineServer.skipped; whole = g.S.LineServer.whole } in
-    let out = err_from_is_err_and c.from_residual-in_err-tell-in-Err.result c.from_residual-in_err-tell-in-Err.ensures.1 in
-    rw (out.1, out.2) (not_told _ _ laws _ _ _ (g.R.Read.remaining c.next_line.new.reader) _ _ _ _ _ _ _ _ _ _ c.tell-in-Err.new.self.server _ _ c.loop.invariant.hosting
-    (rw c.in_err-tell-in-Err.was at c.tell-in-Err.ensures.told))
-
-pub returns-in-Err : goal.returns-in-Err
-returns-in-Err g c =
-    let laws : Laws g.S.LineServer.serves = record { only = g.S.LineServer.only_kept; skipped = g.S.LineServer.skipped; whole = g.S.LineServer.whole } in
-    let end = ended_still _ _ _ _ _ _ _ c.tell-in-Err.ensures.same.0 (unread c.in-Err.error (c.loop.self.count + 1) c.loop.self.server c.in-Err.ensures.failed) in
-    rw c.fault_of_read.ensures (ended_by _ _ laws _ _ _ (g.R.Read.remaining c.next_line.new.reader) _ _ _ _ _ _ _ _ _ _ c.tell-in-Err.new.self.server _ (fault_of_read c.in-Err.error) c.loop.invariant.hosting end
-    (rw c.in_ok-tell-in-Err.was at c.tell-in-Err.ensures.told))
+    let on = served_on _ _ _ _ _ _ _ _ _ _ _ _ _ _ _ _ _ _ _ c.gather-read.new.lines.items c.gather-read.result c.serve_lines-served.result c.loop.invariant c.gather-read.ensures (rw c.as_slice.ensures.value at c.serve_lines-served.ensures.served) c.serve_lines-served.ensures.told in
+    read_all _ _ laws _ _ _ on.0 (g.R.Read.remaining c.gather-read.new.input) _ _ _ _ _ _ _ _ _ _ _ c.serve_lines-served.result c.gather-read.result c.tell.ensures.same.0 on.2 c.in_ok-served.was on.1 (c.in_ok-read.was ∙ ap Ok c.if-not-branch.true) (rw c.in_ok-tell.was at c.tell.ensures.told)

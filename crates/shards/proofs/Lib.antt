@@ -1,0 +1,16 @@
+pub mod Fields
+pub mod Nets
+pub mod Named
+pub mod Declared
+pub mod Words
+pub mod Inverted
+pub mod Loops
+pub mod Many
+pub mod DealingLaws
+pub mod ShardLaws
+pub mod Both
+pub mod Joined
+pub mod Counted
+pub mod Whole
+pub mod Shared
+pub mod Crossing

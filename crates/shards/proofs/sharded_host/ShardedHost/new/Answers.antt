@@ -1,0 +1,26 @@
+use Rattle.std.proofs.Common.{rules, ◌<◌, [], length, subst, sym}
+use Rattle.std.specs.List.{All}
+use Rattle.std.proofs.lemmas.List.Elements.{All-append, All-cons, All-nil}
+use Rattle.shards.proofs.ShardLaws.{IsFresh, fresh_joined, fresh_shards}
+use Rattle.shards.proofs.sharded_host.ShardedHost.new.Goals as goal
+
+pub loop-made-preserved : goal.loop-made-preserved
+loop-made-preserved c =
+    let one : IsFresh c.args.bytes (record { host = c.new.result; answers = c.new-in-loop-made.result }) =
+    record { bytes_is = c.new.ensures.bytes; waiting = c.new.ensures.waiting; running = c.new.ensures.running; idle = c.new-in-loop-made.ensures.items } in (
+      search rules,
+      search rules,
+      search rules,
+      subst (All (IsFresh c.args.bytes)) (sym c.push_reserved.ensures.items)
+          (All-append (IsFresh c.args.bytes) c.loop-made.shards.items _ c.loop-made.invariant.3 (All-cons (IsFresh c.args.bytes) _ [] one (All-nil (IsFresh c.args.bytes)))),
+    )
+
+pub invariant_of-result : goal.invariant_of-result
+invariant_of-result c =
+    let some : 0 < length c.loop-made.shards.items = search rules in
+    fresh_shards c.args.bytes c.loop-made.shards.items c.loop-made.invariant.3 some
+
+pub returns : goal.returns
+returns c =
+    let some : 0 < length c.loop-made.shards.items = search rules in
+    fresh_joined c.args.bytes c.loop-made.shards.items c.loop-made.invariant.3 some

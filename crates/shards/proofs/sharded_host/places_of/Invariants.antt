@@ -1,0 +1,7 @@
+use Rattle.std.proofs.Common.{map, take}
+use Rattle.feed.specs.Reading.{given_of}
+use Rattle.shards.specs.Parts.{ArePlaced}
+use Rattle.shards.proofs.sharded_host.places_of.Given as goal
+
+abbrev pub invariant-loop-line : goal.invariant-loop-line
+invariant-loop-line l = ArePlaced l.count (map given_of (take l.line-index l.lines)) l.places.items

@@ -1,0 +1,36 @@
+-- Which network a line names.
+use Rattle.std.specs.Prelude.{◌≡◌, ℕ, Bool, true, false, List, [], ◌∷◌, codes, Option, Some, None}
+use Rattle.scripts.specs.Script.{Bytes}
+use Rattle.scripts.specs.Words.{word_counter}
+use Rattle.protocol.specs.Networks.{Budgets}
+use Rattle.requests.specs.Asking.{IsAsked}
+use Rattle.requests.specs.Forms.{is_word}
+use Rattle.requests.specs.declared.ask.Ask.{Ask}
+use Rattle.requests.specs.declared.ask.Ask.TheVariants as ask
+use Rattle.requests.specs.declared.request.Declaration.TheVariants as declaration
+
+-- the number that the second field spells
+abbrev pub network_in : List Bytes → Option ℕ
+network_in (word ∷ number ∷ fields) = word_counter number
+network_in fields = None
+
+-- what a line asks for, it asks of the network whose number is its second field
+abbrev pub AskedNetworksAreNamed : Type 0
+AskedNetworksAreNamed = (fields : List Bytes) (g : ℕ) (asked : Ask) → IsAsked fields (Some (g, asked)) → network_in fields ≡ Some g
+
+-- the first field is `net`
+abbrev pub is_net : List Bytes → Bool
+is_net [] = false
+is_net (word ∷ fields) = is_word word (codes "net")
+
+-- only such a line declares a network
+abbrev pub OnlyNetsDeclareNetworks : Type 0
+OnlyNetsDeclareNetworks =
+    (fields : List Bytes) (g : ℕ) (budgets : Budgets) → IsAsked fields (Some (g, ask.Declare (declaration.Net budgets)))
+    → is_net fields ≡ true
+
+-- such a line asks for nothing else
+abbrev pub NetsDeclareNetworks : Type 0
+NetsDeclareNetworks =
+    (fields : List Bytes) (g : ℕ) (asked : Ask) → is_net fields ≡ true → IsAsked fields (Some (g, asked))
+    → (budgets : Budgets) × (asked ≡ ask.Declare (declaration.Net budgets))

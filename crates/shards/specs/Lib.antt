@@ -1,0 +1,4 @@
+pub mod Asked
+pub mod Dealing
+pub mod Parts
+pub mod Sharded

@@ -1,0 +1,21 @@
+//! Laws on hosts in parts.
+
+ghost use Rattle.shards.specs.Asked.{AskedNetworksAreNamed, NetsDeclareNetworks, OnlyNetsDeclareNetworks};
+ghost use Rattle.shards.specs.Parts.{JoinedHostsHaveAllNetworks, PartsAnswerForTheWhole, PartsAnswerLinesForTheWhole};
+
+/// A law: what a line asks for, it asks of the network whose number is its second field; and those lines that begin with
+/// `net`, and no others, declare a network.
+#[tactic(auto, using(crate::proofs::Words::asked_networks_are_named, crate::proofs::Words::only_nets_declare_networks, crate::proofs::Nets::nets_declare_networks))]
+pub fn lines_name_their_networks()
+    ensures named { AskedNetworksAreNamed }
+    ensures only { OnlyNetsDeclareNetworks }
+    ensures nothing_else { NetsDeclareNetworks }
+{}
+
+/// A law: where networks are shared out by their numbers among the parts of a host, what a part answers to a line of its
+/// networks the whole host may answer; and so of many lines, whichever part is first.
+pub fn parts_answer_for_the_whole()
+    ensures line { PartsAnswerForTheWhole }
+    ensures lines { PartsAnswerLinesForTheWhole }
+    ensures networks { JoinedHostsHaveAllNetworks }
+{}
