@@ -10,8 +10,8 @@ use std::alloc::{AllocError, Global};
 use std::io::{BufRead, Read};
 use std::process::Abort;
 use std::sync::Wait;
-use std::thread::Threads;
 use std::test::Fail;
+use std::thread::Threads;
 
 mod counter;
 mod memory;
