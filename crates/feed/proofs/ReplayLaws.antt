@@ -1,24 +1,26 @@
 -- The lines of a journal are answered again.
-use Rattle.std.proofs.Common.{◌≡◌, ◌∙◌, ℕ, ◌+◌, Bool, true, false, List, [], ◌∷◌, ◌++◌, length, refl, sym, ap, ap₂, subst, arith, append_assoc, length-append}
-use Rattle.std.specs.Prelude.{◌==◌, ◌&&◌, ◌||◌, not, is_none, Option, Some, None, Result, Ok, Err, IfSome, IfOk, IfErr}
-use Rattle.std.specs.List.{list_all}
+use Rattle.std.proofs.Common.{◌≡◌, ◌⊎◌, inl, inr, ◌∙◌, ℕ, suc, ◌+◌, ◌<◌, ◌≤◌, Bool, true, false, List, [], ◌∷◌, ◌++◌, length, map, get_or, take, drop, refl, sym, ap, ap₂, subst, arith, append_assoc, length-append, ltb-false}
+use Rattle.std.specs.Prelude.{◌==◌, ◌&&◌, ◌||◌, cond, nat_lt, not, is_none, Option, Some, None, Result, Ok, Err, IfSome, IfOk, IfErr}
+use Rattle.std.specs.List.{list_all, position, position_or_len}
 use Rattle.std.specs.Io.KnownBytes.{Appends, Consumes, IsAtEnd}
 use Rattle.std.proofs.KnownBytes.{Appends-nil, Appends-trans, Consumes-nil, Consumes-trans}
-use Rattle.std.proofs.lemmas.List.{append-nil}
+use Rattle.std.proofs.lemmas.List.{append-nil, drop_all, take_all}
 use Rattle.std.proofs.lemmas.List.Folds.{list_all-append}
 use Rattle.scripts.specs.Script.{Bytes, lines_with_feeds, has_no_feed}
+use Rattle.scripts.specs.declared.input.ReadError.{ReadError}
 use Rattle.scripts.specs.declared.run.Stop.{Stop}
 use Rattle.scripts.specs.declared.run.Stop.TheVariants as stop
 use Rattle.feed.specs.WholeLines.{BeginsWithLines, given, has_hole, has_no_hole, is_plain}
-use Rattle.feed.specs.Reading.{Held, IsNextLine}
-use Rattle.feed.specs.Served.{Reply, Serves, Serving, journal_line}
+use Rattle.feed.specs.Reading.{AreNextLines, Held, IsNextLine, IsReadTo, given_of, nothing_held, whole_of}
+use Rattle.feed.specs.Served.{AreAnswered, Reply, Serves, Serving, journal_line}
 use Rattle.feed.specs.Served.Serves.{none}
 use Rattle.feed.specs.Acts.{lines_run}
-use Rattle.feed.specs.Replayed.{AreRun, AreRunBefore, HasReplayed, HasReplayedLine, IsNoLine, IsTaken, Replaying, is_told, told_if}
+use Rattle.feed.specs.Replayed.{AreRun, AreRunBefore, HasReplayed, HasReplayedLine, HasReplayedLines, IsNoLine, IsTaken, Replaying, is_told, told_if}
 use Rattle.feed.specs.declared.replaying.JournalEnd.{JournalEnd}
 use Rattle.feed.proofs.LineLaws.{one_line_more, plain_more}
 use Rattle.feed.proofs.RunLaws.{no_line_whole, runs_front, stops_at_hole}
 use Rattle.feed.proofs.ServesLaws.{given_is, serves_more}
+use Rattle.feed.proofs.TogetherLaws.{Left, at_self, dropped, left_at_first, left_end, left_next}
 
 -- ---- holes
 
@@ -177,18 +179,160 @@ line_replayed serves from s t end g old new line a n (Ok now) is place one taken
 line_replayed serves from s t end g old new line a n (Err why) is place one taken told ends other =
     subst (λ w. HasReplayedLine serves from s end g old new (Err w) t) (sym other) tt
 
--- a line that was read was answered again
-pub goes_on : {S : Type 0} (serves : Serving S) (longest : ℕ) (from : Option ℕ) (s : S) (file mid now old kept new : Option Bytes) (before end : JournalEnd) (t u : S) (h : Held) (read : Option Bool)
-    → (is_none read || h.hole) ≡ false → Replays serves longest from s file mid old kept before t → IsNextLine longest mid now h read
-    → HasReplayedLine serves from t before h.given kept new (Ok end) u → Replays serves longest from s file now old new end u
-goes_on serves longest from s file mid now old kept new before end t u h None e r next served = cc
-goes_on serves longest from s file mid now old kept new before end t u h (Some more) e r next served =
-    one_more serves longest from s file mid now old kept new before end t u h more e r next served
+-- ---- lines that came together
 
--- or it was not
-pub stops : {S : Type 0} (serves : Serving S) (longest : ℕ) (from : Option ℕ) (s : S) (file mid now old kept new last : Option Bytes) (end : JournalEnd) (t u v : S) (h : Held) (read : Option Bool) (why : Stop)
-    → (is_none read || h.hole) ≡ false → Replays serves longest from s file mid old kept end t → IsNextLine longest mid now h read
-    → HasReplayedLine serves from t end h.given kept new (Err why) u → HasReplayed serves longest from s file old last (Err why) v
-stops serves longest from s file mid now old kept new last end t u v h None why e r next bad = cc
-stops serves longest from s file mid now old kept new last end t u v h (Some more) why e r next bad =
-    not_replayed serves longest from s file mid now old kept new last end t u v h more why e r next bad
+-- what is answered again behind so many of these lines is answered behind all
+abbrev pub FollowsAgain : {S : Type 0} → Serving S → Option ℕ → S → JournalEnd → List Held → Option Bytes → ℕ → JournalEnd → Option Bytes → S → Type 0
+FollowsAgain {S} serves from s first all old k end now state =
+    (new : Option Bytes) (result : Result JournalEnd Stop) (t : S)
+    → HasReplayedLines serves from state end (map given_of (drop k all)) now new result t → HasReplayedLines serves from s first (map given_of all) old new result t
+
+-- so many of these lines were answered again, with these answers left for others
+abbrev pub Again : {S : Type 0} → Serving S → Option ℕ → S → S → JournalEnd → List Held → Option Bytes → ℕ → ℕ → List Reply → JournalEnd → Option Bytes → Type 0
+Again serves from s final first all old m k answers end now = Left serves final first.lines all m k answers end.lines (FollowsAgain serves from s first all old k end now)
+
+module _ {S : Type 0} (serves : Serving S) (from : Option ℕ) (s final : S) (first : JournalEnd) (all : List Held) (old : Option Bytes) (m : ℕ) where
+  pub again_at_first : (t : S) (answers : List Reply) → AreAnswered serves s (first.lines + 1) (map given_of (take m all)) answers t → m ≤ length all → (length answers ≡ m → t ≡ final)
+      → Again serves from s final first all old m 0 answers first old
+  again_at_first t answers are l same = left_at_first serves s t final first.lines all m answers (FollowsAgain serves from s first all old 0 first old) are l same (λ new result t h. h)
+
+  -- all lines were answered again
+  pub again_all : (k : ℕ) (end : JournalEnd) (now : Option Bytes) (answers : List Reply) → k ≡ m → Again serves from s final first all old m k answers end now → length all ≤ k
+      → HasReplayedLines serves from s first (map given_of all) old now (Ok end) final
+  again_all k end now answers q r l =
+      left_end serves final first.lines all m k answers end.lines (FollowsAgain serves from s first all old k end now) q r now (Ok end) final
+      (subst (λ hs. HasReplayedLines serves from final end (map given_of hs) now now (Ok end) final) (sym (drop_all k all l)) (refl, refl, refl))
+
+  -- there is no number for the next line
+  pub again_unnumbered : (k : ℕ) (end : JournalEnd) (now : Option Bytes) (answers : List Reply) → k ≡ m → Again serves from s final first all old m k answers end now → k < length all
+      → HasReplayedLines serves from s first (map given_of all) old now (Err stop.TooLong) final
+  again_unnumbered k end now answers q r l =
+      let is = dropped k all (get_or all k nothing_held) l (at_self all k nothing_held l) in
+      left_end serves final first.lines all m k answers end.lines (FollowsAgain serves from s first all old k end now) q r now (Err stop.TooLong) final
+      (subst (λ hs. HasReplayedLines serves from final end (map given_of hs) now now (Err stop.TooLong) final) (sym is) (inr (stop.TooLong, refl, final, tt)))
+
+  -- the next line was answered again
+  pub again_next : (k : ℕ) (end e : JournalEnd) (now mid : Option Bytes) (h : Held) (a : Reply) (answers : List Reply) → get_or all k h ≡ h → k < length all
+      → Again serves from s final first all old m k (a ∷ answers) end now
+      → ((p q : S) → serves p (end.lines + 1) (given_of h) a q → HasReplayedLine serves from p end (given_of h) now mid (Ok e) q) → Again serves from s final first all old m (k + 1) answers e mid
+  again_next k end e now mid h a answers at l r taken =
+      left_next serves final first.lines all m k h a answers end.lines e.lines (FollowsAgain serves from s first all old k end now) (FollowsAgain serves from s first all old (k + 1) e mid) at l r (λ p q one follows.
+      let on = taken p q one in (
+        λ new result u more. follows new result u (subst (λ hs. HasReplayedLines serves from p end (map given_of hs) now new result u) (sym (dropped k all h l at)) (inl (e, mid, q, on, more))),
+        on.5,
+      ))
+
+  -- the next line was not answered again
+  pub again_stops : (k : ℕ) (end : JournalEnd) (now new : Option Bytes) (h : Held) (a : Reply) (answers : List Reply) (why : Stop) (u : S) → get_or all k h ≡ h → k < length all
+      → Again serves from s final first all old m k (a ∷ answers) end now
+      → ((p q : S) → serves p (end.lines + 1) (given_of h) a q → HasReplayedLine serves from p end (given_of h) now new (Err why) q) → HasReplayedLines serves from s first (map given_of all) old new (Err why) u
+  again_stops k end now new h a answers why u at l r taken =
+      let is = dropped k all h l at in
+      let are : AreAnswered serves r.state (end.lines + 1) (map given_of (h ∷ drop (k + 1) all)) (a ∷ answers) r.end = subst (λ hs. AreAnswered serves r.state (end.lines + 1) (map given_of hs) (a ∷ answers) r.end) is r.answered in
+      r.follows new (Err why) u (subst (λ hs. HasReplayedLines serves from r.state end (map given_of hs) now new (Err why) u) (sym is) (inr (why, refl, are.0, taken r.state are.0 are.1)))
+
+  -- there was no memory for its answer
+  pub again_lacks : (k : ℕ) (end : JournalEnd) (now : Option Bytes) (h : Held) (u : S) → get_or all k h ≡ h → k < length all → Again serves from s final first all old m k [] end now
+      → HasReplayedLines serves from s first (map given_of all) old now (Err stop.NoMemory) u
+  again_lacks k end now h u at l r =
+      r.follows now (Err stop.NoMemory) u (subst (λ hs. HasReplayedLines serves from r.state end (map given_of hs) now now (Err stop.NoMemory) u) (sym (dropped k all h l at)) (inr (stop.NoMemory, refl, r.state, tt)))
+
+-- the lines of those that were read before the first with a byte 0 were answered again: that one is next, or all were
+abbrev pub IsNext : ℕ → List Held → Option Bytes → Option Bytes → Type 0
+IsNext longest hs at now =
+    ((length (whole_of hs) ≡ length hs) × (at ≡ now))
+    ⊎ ((h : Held) × (more : Bool) × (left : Option Bytes) × (length (whole_of hs) < length hs) × IsNextLine longest at left h (Some more) × (h.hole ≡ true))
+
+abbrev pub GoesOnAgain : {S : Type 0} → Serving S → ℕ → Option ℕ → S → List Held → Option Bytes → Option Bytes → Option Bytes → Option Bytes → Result JournalEnd Stop → S → Type 0
+GoesOnAgain serves longest from s hs file now old new (Ok end) t = (at : Option Bytes) × Replays serves longest from s file at old new end t × IsNext longest hs at now
+GoesOnAgain {S} serves longest from s hs file now old new (Err why) t = (last : Option Bytes) (v : S) → HasReplayed serves longest from s file old last (Err why) v
+
+pub lines_replayed : {S : Type 0} (serves : Serving S) (longest : ℕ) (from : Option ℕ) (s : S) (file mid now old kept new : Option Bytes) (before : JournalEnd) (t u : S) (hs : List Held) (result : Result JournalEnd Stop)
+    → Replays serves longest from s file mid old kept before t → AreNextLines longest mid now hs
+    → HasReplayedLines serves from t before (map given_of (whole_of hs)) kept new result u → GoesOnAgain serves longest from s hs file now old new result u
+lines_replayed {S} serves longest from s file mid now old kept new before t u [] result r are served =
+    subst (λ x. GoesOnAgain serves longest from s [] file now old new x u) (sym served.0)
+    (mid, subst (λ (v : S). Replays serves longest from s file mid old new before v) (sym served.2) (subst (λ o. Replays serves longest from s file mid old o before t) (sym served.1) r), inl (refl, sym are))
+lines_replayed {S} serves longest from s file mid now old kept new before t u (h ∷ hs) result r are served =
+    on h.hole refl served (λ told e v rest next. lines_replayed serves longest from s file are.0 now old told new e v u hs result rest are.3 next)
+  where
+    Others : Type 0
+    Others = (told : Option Bytes) (e : JournalEnd) (v : S) → Replays serves longest from s file are.0 old told e v
+        → HasReplayedLines serves from v e (map given_of (whole_of hs)) told new result u → GoesOnAgain serves longest from s hs file now old new result u
+
+    First : Type 0
+    First = ((e : JournalEnd) × (told : Option Bytes) × (v : S) × HasReplayedLine serves from t before (given_of h) kept told (Ok e) v × HasReplayedLines serves from v e (map given_of (whole_of hs)) told new result u)
+        ⊎ ((why : Stop) × (result ≡ Err why) × (v : S) × HasReplayedLine serves from t before (given_of h) kept new (Err why) v)
+
+    goes : h.hole ≡ false → (x : Result JournalEnd Stop) → GoesOnAgain serves longest from s hs file now old new x u → GoesOnAgain serves longest from s (h ∷ hs) file now old new x u
+    goes whole (Err why) g = g
+    goes whole (Ok end) g = (g.0, g.1, next g.0 g.2)
+      where
+        is : whole_of (h ∷ hs) ≡ h ∷ whole_of hs
+        is = ap (λ b. cond b [] (h ∷ whole_of hs)) whole
+
+        next : (at : Option Bytes) → IsNext longest hs at now → IsNext longest (h ∷ hs) at now
+        next at (inl all) = inl (ap (λ (xs : List Held). length xs) is ∙ ap suc all.0, all.1)
+        next at (inr one) = let l = one.3 in inr (one.0, one.1, one.2, omega (arith, l, ap (λ (xs : List Held). length xs) is), one.4, one.5)
+
+    more : First → h.hole ≡ false → Others → GoesOnAgain serves longest from s (h ∷ hs) file now old new result u
+    more (inl one) whole others =
+        goes whole result (others one.1 one.0 one.2 (one_more serves longest from s file mid are.0 old kept one.1 before one.0 t one.2 h are.1 whole r are.2 one.3) one.4)
+    more (inr end) whole others =
+        subst (λ x. GoesOnAgain serves longest from s (h ∷ hs) file now old new x u) (sym end.1)
+        (λ last v. not_replayed serves longest from s file mid are.0 old kept new last before t end.2 v h are.1 end.0 whole r are.2 end.3)
+
+    on : (b : Bool) → h.hole ≡ b → HasReplayedLines serves from t before (map given_of (cond b [] (h ∷ whole_of hs))) kept new result u → Others → GoesOnAgain serves longest from s (h ∷ hs) file now old new result u
+    on true hole served others =
+        let none : whole_of (h ∷ hs) ≡ [] = ap (λ b. cond b [] (h ∷ whole_of hs)) hole in
+        subst (λ x. GoesOnAgain serves longest from s (h ∷ hs) file now old new x u) (sym served.0) (
+          mid,
+          subst (λ (v : S). Replays serves longest from s file mid old new before v) (sym served.2) (subst (λ o. Replays serves longest from s file mid old o before t) (sym served.1) r),
+          inr (h, are.1, are.0, omega (arith, ap (λ (xs : List Held). length xs) none), are.2, hole),
+        )
+    on false whole served others = more served whole others
+
+-- all that were read were answered again, and the input goes on
+pub reads_again : {S : Type 0} (serves : Serving S) (longest : ℕ) (from : Option ℕ) (s : S) (file at now left old new : Option Bytes) (end : JournalEnd) (t : S) (hs : List Held) (read : Result Bool ReadError)
+    → Replays serves longest from s file at old new end t → IsNext longest hs at now → length hs ≤ length (whole_of hs) → IsReadTo longest now left read → read ≡ Ok true
+    → Replays serves longest from s file left old new end t
+reads_again serves longest from s file at now left old new end t hs read r (inl all) l to is =
+    subst (λ (m : Option Bytes). Replays serves longest from s file m old new end t) (all.1 ∙ sym (subst (IsReadTo longest now left) is to)) r
+reads_again serves longest from s file at now left old new end t hs read r (inr one) l to is = let m = one.3 in absurd (omega (arith, l, m))
+
+-- one that was read has a byte 0, or the input has ended
+pub ends_again : {S : Type 0} (serves : Serving S) (longest : ℕ) (from : Option ℕ) (s : S) (file at now left old new : Option Bytes) (end : JournalEnd) (t : S) (hs : List Held) (read : Result Bool ReadError)
+    → Replays serves longest from s file at old new end t → IsNext longest hs at now → IsReadTo longest now left read → (length (whole_of hs) < length hs) ⊎ (read ≡ Ok false)
+    → HasReplayed serves longest from s file old new (Ok end) t
+ends_again serves longest from s file at now left old new end t hs read r (inr one) to why = replayed serves longest from s file at one.2 old new end t one.0 (Some one.1) r one.4 one.5
+ends_again serves longest from s file at now left old new end t hs read r (inl all) to (inl short) = let same = all.0 in absurd (omega (arith, short, same))
+ends_again serves longest from s file at now left old new end t hs read r (inl all) to (inr is) =
+    let last : IsReadTo longest now left (Ok false) = subst (IsReadTo longest now left) is to in
+    replayed serves longest from s file at left old new end t last.0 None r (subst (λ (m : Option Bytes). IsNextLine longest m left last.0 None) (sym all.1) last.1) refl
+
+-- ---- the lines before the first that has a byte 0
+
+whole_is : (hs : List Held) → whole_of hs ≡ take (position_or_len (λ (h : Held). h.hole) hs) hs
+whole_is [] = refl
+whole_is (h ∷ hs) = on h.hole (whole_is hs)
+  where
+    on : (b : Bool) → whole_of hs ≡ take (position_or_len (λ (h : Held). h.hole) hs) hs
+        → cond b [] (h ∷ whole_of hs) ≡ take (cond (not b) (1 + position_or_len (λ (h : Held). h.hole) hs) 0) (h ∷ hs)
+    on true others = refl
+    on false others =
+        let same : suc (position_or_len (λ (h : Held). h.hole) hs) ≡ 1 + position_or_len (λ (h : Held). h.hole) hs = omega arith in
+        ap (λ xs. h ∷ xs) others ∙ ap (λ (k : ℕ). take k (h ∷ hs)) same
+
+pub whole_before : (hs : List Held) (k : ℕ) → position (λ (h : Held). h.hole) hs ≡ Some k → take k hs ≡ whole_of hs
+whole_before hs k e = on (nat_lt (position_or_len (λ (h : Held). h.hole) hs) (length hs)) e ∙ sym (whole_is hs)
+  where
+    on : (b : Bool) → cond b (Some (position_or_len (λ (h : Held). h.hole) hs)) None ≡ Some k → take k hs ≡ take (position_or_len (λ (h : Held). h.hole) hs) hs
+    on true e = cc
+    on false e = cc
+
+pub all_whole : (hs : List Held) → position (λ (h : Held). h.hole) hs ≡ None → hs ≡ whole_of hs
+all_whole hs e = on (nat_lt (position_or_len (λ (h : Held). h.hole) hs) (length hs)) refl e
+  where
+    on : (b : Bool) → nat_lt (position_or_len (λ (h : Held). h.hole) hs) (length hs) ≡ b → cond b (Some (position_or_len (λ (h : Held). h.hole) hs)) None ≡ None → hs ≡ whole_of hs
+    on true is e = cc
+    on false is e = let l = ltb-false (position_or_len (λ (h : Held). h.hole) hs) (length hs) is in sym (whole_is hs ∙ take_all (position_or_len (λ (h : Held). h.hole) hs) hs (omega (arith, l)))

@@ -1,17 +1,19 @@
 -- Lines that are read, answered and served together.
-use Rattle.std.proofs.Common.{◌≡◌, ◌⊎◌, inl, inr, ◌∙◌, ℕ, zero, suc, ◌+◌, ◌^◌, ◌<◌, ◌≤◌, Bool, true, false, List, [], ◌∷◌, ◌++◌, length, map, get_or, take, drop, refl, sym, ap, subst, arith}
+use Rattle.std.proofs.Common.{◌≡◌, inl, inr, ◌∙◌, ℕ, zero, suc, ◌+◌, ◌^◌, ◌<◌, ◌≤◌, Bool, true, false, List, [], ◌∷◌, ◌++◌, length, map, get_or, take, drop, refl, sym, ap, subst, arith}
 use Rattle.std.specs.Prelude.{Option, Some, None, Result, Ok, Err}
 use Rattle.std.specs.Io.KnownBytes.{Keeps}
 use Rattle.std.proofs.lemmas.List.{drop_all, get_or-map, get_or-take, length-map, length-take}
 use Rattle.scripts.specs.Script.{Bytes}
+use Rattle.scripts.specs.declared.input.ReadError.{ReadError}
 use Rattle.feed.specs.Reading.{AreNextLines, HasGathered, Held, IsNextLine, IsReadTo, given_of, nothing_held}
 use Rattle.feed.specs.Served.{AreAnswered, Reply, Serving}
 use Rattle.feed.specs.Acts.{Act}
+use Rattle.feed.specs.Faults.{fault_of_read}
 use Rattle.feed.specs.Hosted.{HasDone, HasHostedStream, IsEndedBy}
 use Rattle.feed.specs.Steps.{HasServedLine, HasServedLines, HasTold}
 use Rattle.feed.specs.declared.fault.Fault.{Fault}
 use Rattle.feed.specs.declared.fault.Fault.TheVariants as fault
-use Rattle.feed.proofs.ServingLaws.{Going, Hosting, Laws, all_told, did_nothing, ended_by, ended_still, kept_going, line_more, not_told, told_then, unserved}
+use Rattle.feed.proofs.ServingLaws.{Going, Hosting, Laws, all_told, did_nothing, ended_by, ended_still, kept_going, line_more, not_told, told_then, unread, unserved}
 
 -- ---- reading
 pub next_lines_more : (longest : ℕ) (old mid new : Option Bytes) (hs : List Held) (h : Held) (more : Bool)
@@ -65,52 +67,103 @@ keeps_both (Some x) None q a b = absurd a
 keeps_both (Some x) (Some y) None a b = absurd b
 keeps_both (Some x) (Some y) (Some z) a b = b ∙ a
 
--- so many of these lines were served, with these answers left for others; what follows from them is what follows from all
-pub record Rest {S : Type 0} (serves : Serving S) (s : S) (c : ℕ) (all : List Held) (waits : Bytes) (acts : Option (List Act)) (m : ℕ) (final : S)
-    (k : ℕ) (answers : List Reply) (count : ℕ) (now : Bytes) (done : Option (List Act)) : Type 0 where
+-- ---- one after the other
+
+-- so many of these lines were dealt with, with these answers left for others; and what follows from the state that they left
+pub record Left {S : Type 0} (serves : Serving S) (final : S) (c : ℕ) (all : List Held) (m k : ℕ) (answers : List Reply) (count : ℕ) (Follows : S → Type 0) : Type 0 where
   pub state : S
   pub end : S
-  pub follows : (new : Option (List Act)) (result : Result (Unit {0}) Fault) (later : Bytes) (e : ℕ) (u : S)
-      → HasServedLines serves state count (map given_of (drop k all)) now done new result later e u → HasServedLines serves s c (map given_of all) waits acts new result later e u
+  pub follows : Follows state
   pub answered : AreAnswered serves state (count + 1) (map given_of (drop k all)) answers end
   pub left : length answers + k ≤ m
   pub last : length answers + k ≡ m → end ≡ final
   pub counted : count ≡ c + k
 
-pub rest_at_first : {S : Type 0} (serves : Serving S) (s t final : S) (c : ℕ) (all : List Held) (waits : Bytes) (acts : Option (List Act)) (m : ℕ) (answers : List Reply)
-    → AreAnswered serves s (c + 1) (map given_of (take m all)) answers t → m ≤ length all → (length answers ≡ m → t ≡ final) → Rest serves s c all waits acts m final 0 answers c waits acts
-rest_at_first serves s t final c all waits acts m answers are l same = record {
+pub left_at_first : {S : Type 0} (serves : Serving S) (s t final : S) (c : ℕ) (all : List Held) (m : ℕ) (answers : List Reply) (Follows : S → Type 0)
+    → AreAnswered serves s (c + 1) (map given_of (take m all)) answers t → m ≤ length all → (length answers ≡ m → t ≡ final) → Follows s → Left serves final c all m 0 answers c Follows
+left_at_first serves s t final c all m answers Follows are l same follows = record {
   state = s;
   end = t;
-  follows = λ new result later e u h. h;
+  follows = follows;
   answered = answered_first serves s t (c + 1) m all answers are;
   left = let few = few_answers serves s t (c + 1) (map given_of (take m all)) answers are in omega (arith, few, l, length-map (take m all) given_of, length-take m all);
   last = λ h. same (omega (arith, h));
   counted = omega arith;
 }
 
-dropped : (k : ℕ) (xs : List Held) (h : Held) → k < length xs → get_or xs k h ≡ h → drop k xs ≡ h ∷ drop (k + 1) xs
+pub dropped : (k : ℕ) (xs : List Held) (h : Held) → k < length xs → get_or xs k h ≡ h → drop k xs ≡ h ∷ drop (k + 1) xs
 dropped k [] h l is = absurd (omega (arith, l))
 dropped zero (x ∷ xs) h l is = ap (λ y. y ∷ xs) is
 dropped (suc k) (x ∷ xs) h l is = let same : suc k + 1 ≡ suc (k + 1) = omega arith in dropped k xs h (omega (arith, l)) is ∙ ap (λ (n : ℕ). h ∷ drop n (x ∷ xs)) (sym same)
 
--- a line of those for which there are numbers is one of all
-pub at_of_all : (all numbered : List Held) (k : ℕ) (h : Held) → numbered ≡ take (length numbered) all → k < length numbered → h ≡ get_or numbered k h → get_or all k h ≡ h
-at_of_all all numbered k h first l is = sym (get_or-take (length numbered) all k h l) ∙ ap (λ xs. get_or xs k h) (sym first) ∙ sym is
-
 pub few_of_all : (all numbered : List Held) → numbered ≡ take (length numbered) all → length numbered ≤ length all
 few_of_all all numbered first = let l : length numbered ≡ length (take (length numbered) all) = ap length first in omega (arith, l, length-take (length numbered) all)
 
-module _ {S : Type 0} (serves : Serving S) (s final : S) (c : ℕ) (all : List Held) (waits : Bytes) (acts : Option (List Act)) (m k : ℕ) (count : ℕ) (now : Bytes) (done : Option (List Act)) where
-  end_of : (answers : List Reply) → k ≡ m → Rest serves s c all waits acts m final k answers count now done → (r : Rest serves s c all waits acts m final k answers count now done) × (final ≡ r.state)
-  end_of [] q r = let zero_more : 0 + k ≡ m = omega (arith, q) in (r, sym (r.last zero_more) ∙ r.answered)
-  end_of (a ∷ answers) q r = let few = r.left in absurd (omega (arith, q, few))
+-- a line of those for which there are numbers is one of all
+pub next_of_all : (all numbered : List Held) (k : ℕ) (h : Held) → numbered ≡ take (length numbered) all → k < length numbered → h ≡ get_or numbered k h → (get_or all k h ≡ h) × (k < length all)
+next_of_all all numbered k h first l is =
+    let few = few_of_all all numbered first in
+    (sym (get_or-take (length numbered) all k h l) ∙ ap (λ xs. get_or xs k h) (sym first) ∙ sym is, omega (arith, l, few))
 
+module _ {S : Type 0} (serves : Serving S) (final : S) (c : ℕ) (all : List Held) (m k : ℕ) where
+  -- the next line was dealt with
+  pub left_next : (h : Held) (a : Reply) (answers : List Reply) (count next : ℕ) (Follows Goes : S → Type 0) → get_or all k h ≡ h → k < length all → Left serves final c all m k (a ∷ answers) count Follows
+      → ((p q : S) → serves p (count + 1) (given_of h) a q → Follows p → Goes q × (next ≡ count + 1)) → Left serves final c all m (k + 1) answers next Goes
+  left_next h a answers count next Follows Goes at l r step =
+      let are : AreAnswered serves r.state (count + 1) (map given_of (h ∷ drop (k + 1) all)) (a ∷ answers) r.end = subst (λ hs. AreAnswered serves r.state (count + 1) (map given_of hs) (a ∷ answers) r.end) (dropped k all h l at) r.answered in
+      let on = step r.state are.0 are.1 r.follows in
+      record {
+        state = are.0;
+        end = r.end;
+        follows = on.0;
+        answered = subst (λ (n : ℕ). AreAnswered serves are.0 (n + 1) (map given_of (drop (k + 1) all)) answers r.end) (sym on.1) are.2;
+        left = let few = r.left in omega (arith, few);
+        last = λ q. r.last (omega (arith, q));
+        counted = omega (arith, on.1, r.counted);
+      }
+
+  -- all lines were dealt with that were answered
+  pub left_end : (answers : List Reply) (count : ℕ) (Follows : S → Type 0) → k ≡ m → Left serves final c all m k answers count Follows → Follows final
+  left_end [] count Follows q r = let zero_more : 0 + k ≡ m = omega (arith, q) in subst Follows (sym r.answered ∙ r.last zero_more) r.follows
+  left_end (a ∷ answers) count Follows q r = let few = r.left in absurd (omega (arith, q, few))
+
+pub at_self : (xs : List Held) (k : ℕ) (d : Held) → k < length xs → get_or xs k (get_or xs k d) ≡ get_or xs k d
+at_self [] k d l = absurd (omega (arith, l))
+at_self (x ∷ xs) zero d l = refl
+at_self (x ∷ xs) (suc k) d l = at_self xs k d (omega (arith, l))
+
+-- ---- serving one after the other
+
+-- what is served behind so many of these lines is served behind all
+abbrev pub Follows : {S : Type 0} → Serving S → S → ℕ → List Held → Bytes → Option (List Act) → ℕ → ℕ → Bytes → Option (List Act) → S → Type 0
+Follows {S} serves s c all waits acts k count now done state =
+    (new : Option (List Act)) (result : Result (Unit {0}) Fault) (later : Bytes) (e : ℕ) (u : S)
+    → HasServedLines serves state count (map given_of (drop k all)) now done new result later e u → HasServedLines serves s c (map given_of all) waits acts new result later e u
+
+-- so many of these lines were served, with these answers left for others
+abbrev pub Rest : {S : Type 0} → Serving S → S → ℕ → List Held → Bytes → Option (List Act) → ℕ → S → ℕ → List Reply → ℕ → Bytes → Option (List Act) → Type 0
+Rest serves s c all waits acts m final k answers count now done = Left serves final c all m k answers count (Follows serves s c all waits acts k count now done)
+
+pub rest_at_first : {S : Type 0} (serves : Serving S) (s t final : S) (c : ℕ) (all : List Held) (waits : Bytes) (acts : Option (List Act)) (m : ℕ) (answers : List Reply)
+    → AreAnswered serves s (c + 1) (map given_of (take m all)) answers t → m ≤ length all → (length answers ≡ m → t ≡ final) → Rest serves s c all waits acts m final 0 answers c waits acts
+rest_at_first serves s t final c all waits acts m answers are l same =
+    left_at_first serves s t final c all m answers (Follows serves s c all waits acts 0 c waits acts) are l same (λ new result later e u h. h)
+
+module _ {S : Type 0} (serves : Serving S) (s final : S) (c : ℕ) (all : List Held) (waits : Bytes) (acts : Option (List Act)) (m k : ℕ) (count : ℕ) (now : Bytes) (done : Option (List Act)) where
   -- all lines were served
   pub rest_all : (answers : List Reply) → k ≡ m → Rest serves s c all waits acts m final k answers count now done → length all ≤ k → HasServedLines serves s c (map given_of all) waits acts done (Ok tt) now count final
   rest_all answers q r l =
-      let e = end_of answers q r in
-      e.0.follows done (Ok tt) now count final (subst (λ hs. HasServedLines serves e.0.state count (map given_of hs) now done done (Ok tt) now count final) (sym (drop_all k all l)) (refl, refl, refl, refl, e.1))
+      left_end serves final c all m k answers count (Follows serves s c all waits acts k count now done) q r done (Ok tt) now count final
+      (subst (λ hs. HasServedLines serves final count (map given_of hs) now done done (Ok tt) now count final) (sym (drop_all k all l)) (refl, refl, refl, refl, refl))
+
+  -- there is no number for the next line
+  pub rest_unnumbered : (answers : List Reply) → k ≡ m → Rest serves s c all waits acts m final k answers count now done → k < length all → c + m + 1 ≡ 2 ^ 64
+      → HasServedLines serves s c (map given_of all) waits acts done (Err fault.TooLong) now count final
+  rest_unnumbered answers q r l full =
+      let is = dropped k all (get_or all k nothing_held) l (at_self all k nothing_held l) in
+      left_end serves final c all m k answers count (Follows serves s c all waits acts k count now done) q r done (Err fault.TooLong) now count final
+      (subst (λ hs. HasServedLines serves final count (map given_of hs) now done done (Err fault.TooLong) now count final) (sym is)
+      (inr (fault.TooLong, refl, (refl, did_nothing done, refl, omega (arith, q, full, r.counted)))))
 
 module _ {S : Type 0} (serves : Serving S) (s final : S) (c : ℕ) (all : List Held) (waits : Bytes) (acts : Option (List Act)) (m k : ℕ) (count : ℕ) (now : Bytes) (done : Option (List Act)) (h : Held) (at : get_or all k h ≡ h) where
   -- the next line was served
@@ -118,19 +171,11 @@ module _ {S : Type 0} (serves : Serving S) (s final : S) (c : ℕ) (all : List H
       → k < length all → ((p q : S) → serves p (count + 1) (given_of h) a q → HasServedLine serves p count (given_of h) now done mid (Ok tt) later e q)
       → Rest serves s c all waits acts m final (k + 1) answers e later mid
   rest_next a answers mid later e r l settled =
-      let is = dropped k all h l at in
-      let are : AreAnswered serves r.state (count + 1) (map given_of (h ∷ drop (k + 1) all)) (a ∷ answers) r.end = subst (λ hs. AreAnswered serves r.state (count + 1) (map given_of hs) (a ∷ answers) r.end) is r.answered in
-      let one = settled r.state are.0 are.1 in
-      let e_is : e ≡ count + 1 = one.3 in
-      record {
-        state = are.0;
-        end = r.end;
-        follows = λ new result after n u more. r.follows new result after n u (subst (λ hs. HasServedLines serves r.state count (map given_of hs) now done new result after n u) (sym is) (inl (later, e, mid, are.0, one, more)));
-        answered = subst (λ (n : ℕ). AreAnswered serves are.0 (n + 1) (map given_of (drop (k + 1) all)) answers r.end) (sym e_is) are.2;
-        left = let few = r.left in omega (arith, few);
-        last = λ q. r.last (omega (arith, q));
-        counted = omega (arith, e_is, r.counted);
-      }
+      left_next serves final c all m k h a answers count e (Follows serves s c all waits acts k count now done) (Follows serves s c all waits acts (k + 1) e later mid) at l r (λ p q one follows.
+      let on = settled p q one in (
+        λ new result after n u more. follows new result after n u (subst (λ hs. HasServedLines serves p count (map given_of hs) now done new result after n u) (sym (dropped k all h l at)) (inl (later, e, mid, q, on, more))),
+        on.3,
+      ))
 
   -- the next line was not served
   pub rest_stops : (answers : List Reply) (new : Option (List Act)) (why : Fault) (later : Bytes) (e : ℕ) (u : S) → (r : Rest serves s c all waits acts m final k answers count now done)
@@ -141,19 +186,6 @@ module _ {S : Type 0} (serves : Serving S) (s final : S) (c : ℕ) (all : List H
   -- there was no memory for its answer
   pub rest_lacks : Rest serves s c all waits acts m final k [] count now done → k < length all → (u : S) → HasServedLines serves s c (map given_of all) waits acts done (Err fault.NoMemory) now count u
   rest_lacks r l u = rest_stops [] done fault.NoMemory now count u r l (refl, did_nothing done)
-
-at_self : (xs : List Held) (k : ℕ) (d : Held) → k < length xs → get_or xs k (get_or xs k d) ≡ get_or xs k d
-at_self [] k d l = absurd (omega (arith, l))
-at_self (x ∷ xs) zero d l = refl
-at_self (x ∷ xs) (suc k) d l = at_self xs k d (omega (arith, l))
-
--- there is no number for the next line
-pub rest_unnumbered : {S : Type 0} (serves : Serving S) (s final : S) (c : ℕ) (all : List Held) (waits : Bytes) (acts : Option (List Act)) (m k : ℕ) (answers : List Reply) (count : ℕ) (now : Bytes) (done : Option (List Act)) → k ≡ m
-    → Rest serves s c all waits acts m final k answers count now done → k < length all → c + m + 1 ≡ 2 ^ 64 → HasServedLines serves s c (map given_of all) waits acts done (Err fault.TooLong) now count final
-rest_unnumbered serves s final c all waits acts m k answers count now done q r l full =
-    let e = end_of serves s final c all waits acts m k count now done answers q r in
-    rest_stops serves s final c all waits acts m k count now done (get_or all k nothing_held) (at_self all k nothing_held l) answers done fault.TooLong now count final e.0 l
-    (refl, did_nothing done, e.1, omega (arith, q, full, e.0.counted))
 
 -- what becomes of a stream by lines that are served, until one is not
 pub record Ended {S : Type 0} (serves : Serving S) (longest : ℕ) (s : S) (n : ℕ) (input : Option Bytes)
@@ -190,7 +222,7 @@ lines_served {S} serves longest s n input mid now oa ma na ot nt waits after t u
 
 -- what is read at a time was served
 pub served_on : {S : Type 0} (serves : Serving S) (longest : ℕ) (s : S) (n : ℕ) (input mid new : Option Bytes) (oa ma na : Option (List Act)) (ot mt nt : Option Bytes)
-    (waits after : Bytes) (t u : S) (count d : ℕ) (hs : List Held) (read : Result Bool Fault) (result : Result (Unit {0}) Fault)
+    (waits after : Bytes) (t u : S) (count d : ℕ) (hs : List Held) (read : Result Bool ReadError) (result : Result (Unit {0}) Fault)
     → Going serves longest s n input mid oa ma ot mt waits t count → HasGathered longest mid new hs read → HasServedLines serves t count (map given_of hs) waits ma na result after d u → Keeps mt nt
     → (now : Option Bytes) × IsReadTo longest now new read × GoesOn serves longest s n input now oa na ot nt result after u d
 served_on serves longest s n input mid new oa ma na ot mt nt waits after t u count d hs read result g gathered served keeps = (
@@ -216,24 +248,15 @@ not_served serves longest laws s n input now left oa ma na ot mt nt waits after 
     ended_by serves longest laws s n input left oa ma na ot mt nt g.part waits after g.state v g.count why g.hosting (ended_still why (g.count + 1) g.part [] g.state u v same g.ended) told
 
 pub not_read : {S : Type 0} (serves : Serving S) (longest : ℕ) → Laws serves → (s : S) (n : ℕ) (input now left : Option Bytes) (oa ma na : Option (List Act)) (ot mt nt : Option Bytes)
-    (waits after : Bytes) (u v : S) (d : ℕ) (result : Result (Unit {0}) Fault) (read : Result Bool Fault) (why : Fault) → v ≡ u → GoesOn serves longest s n input now oa ma ot mt result waits u d → result ≡ Ok tt → IsReadTo longest now left read → read ≡ Err why
-    → HasTold waits ma na mt nt (Ok tt) after → HasHostedStream serves longest s n input left (HasDone oa na ot nt) (Err why) v
-not_read {S} serves longest laws s n input now left oa ma na ot mt nt waits after u v d result read why same on is to read_is told =
+    (waits after : Bytes) (u v : S) (d : ℕ) (result : Result (Unit {0}) Fault) (read : Result Bool ReadError) (error : ReadError) → v ≡ u → GoesOn serves longest s n input now oa ma ot mt result waits u d → result ≡ Ok tt → IsReadTo longest now left read → read ≡ Err error
+    → HasTold waits ma na mt nt (Ok tt) after → HasHostedStream serves longest s n input left (HasDone oa na ot nt) (Err (fault_of_read error)) v
+not_read {S} serves longest laws s n input now left oa ma na ot mt nt waits after u v d result read error same on is to read_is told =
     let g : Going serves longest s n input now oa ma ot mt waits u d = subst (λ r. GoesOn serves longest s n input now oa ma ot mt r waits u d) is on in
-    ended_by serves longest laws s n input left oa ma na ot mt nt [] waits after u v d why g.hosting (ended_still why (d + 1) [] [] u u v same (ended why (subst (IsReadTo longest now left) read_is to))) told
-  where
-    by_read : (why : Fault) → why ≡ fault.CannotRead → IsEndedBy why (d + 1) [] [] u u
-    by_read why e = subst (λ w. IsEndedBy w (d + 1) [] [] u u) (sym e) (refl, refl, refl)
-
-    by_memory : (why : Fault) → why ≡ fault.NoMemory → IsEndedBy why (d + 1) [] [] u u
-    by_memory why e = subst (λ w. IsEndedBy w (d + 1) [] [] u u) (sym e) (refl, refl)
-
-    ended : (why : Fault) → (why ≡ fault.CannotRead) ⊎ (why ≡ fault.NoMemory) → IsEndedBy why (d + 1) [] [] u u
-    ended why (inl e) = by_read why e
-    ended why (inr e) = by_memory why e
+    ended_by serves longest laws s n input left oa ma na ot mt nt [] waits after u v d (fault_of_read error) g.hosting
+    (ended_still (fault_of_read error) (d + 1) [] [] u u v same (unread error (d + 1) u (subst (IsReadTo longest now left) read_is to))) told
 
 pub reads_on : {S : Type 0} (serves : Serving S) (longest : ℕ) (s : S) (n : ℕ) (input now left : Option Bytes) (oa ma na : Option (List Act)) (ot mt nt : Option Bytes)
-    (waits after : Bytes) (u v : S) (d e : ℕ) (result : Result (Unit {0}) Fault) (read : Result Bool Fault) → v ≡ u → e ≡ d → GoesOn serves longest s n input now oa ma ot mt result waits u d → result ≡ Ok tt → IsReadTo longest now left read → read ≡ Ok true
+    (waits after : Bytes) (u v : S) (d e : ℕ) (result : Result (Unit {0}) Fault) (read : Result Bool ReadError) → v ≡ u → e ≡ d → GoesOn serves longest s n input now oa ma ot mt result waits u d → result ≡ Ok tt → IsReadTo longest now left read → read ≡ Ok true
     → HasTold waits ma na mt nt (Ok tt) after → Going serves longest s n input left oa na ot nt after v e
 reads_on {S} serves longest s n input now left oa ma na ot mt nt waits after u v d e result read same counted on is to read_is told =
     let g : Going serves longest s n input now oa ma ot mt waits u d = subst (λ r. GoesOn serves longest s n input now oa ma ot mt r waits u d) is on in
@@ -243,7 +266,7 @@ reads_on {S} serves longest s n input now left oa ma na ot mt nt waits after u v
     (told_then serves longest s n input now oa ma na ot mt nt waits after u d g told)))
 
 pub read_all : {S : Type 0} (serves : Serving S) (longest : ℕ) → Laws serves → (s : S) (n : ℕ) (input now left : Option Bytes) (oa ma na : Option (List Act)) (ot mt nt : Option Bytes)
-    (waits after : Bytes) (u v : S) (d : ℕ) (result : Result (Unit {0}) Fault) (read : Result Bool Fault) → v ≡ u → GoesOn serves longest s n input now oa ma ot mt result waits u d → result ≡ Ok tt → IsReadTo longest now left read → read ≡ Ok false
+    (waits after : Bytes) (u v : S) (d : ℕ) (result : Result (Unit {0}) Fault) (read : Result Bool ReadError) → v ≡ u → GoesOn serves longest s n input now oa ma ot mt result waits u d → result ≡ Ok tt → IsReadTo longest now left read → read ≡ Ok false
     → HasTold waits ma na mt nt (Ok tt) after → HasHostedStream serves longest s n input left (HasDone oa na ot nt) (Ok tt) v
 read_all {S} serves longest laws s n input now left oa ma na ot mt nt waits after u v d result read same on is to read_is told =
     let g : Going serves longest s n input now oa ma ot mt waits u d = subst (λ r. GoesOn serves longest s n input now oa ma ot mt r waits u d) is on in

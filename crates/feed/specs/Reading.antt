@@ -1,10 +1,10 @@
 -- What one read of a live host takes from its reader.
-use Rattle.std.specs.Prelude.{◌≡◌, ◌⊎◌, ◌++◌, ◌||◌, ℕ, Bool, true, false, List, [], ◌∷◌, Option, Some, None, Result, Ok, Err, IfSome, IsTrue}
+use Rattle.std.specs.Prelude.{◌≡◌, ◌≢◌, ◌++◌, cond, ◌||◌, ℕ, Bool, true, false, List, [], ◌∷◌, Option, Some, None, Result, Ok, Err, IfSome, IsTrue}
 use Rattle.std.specs.Io.KnownBytes.{Consumes, IsAtEnd}
 use Rattle.scripts.specs.Script.{Bytes, has_no_feed}
 use Rattle.feed.specs.WholeLines.{given, has_hole}
-use Rattle.feed.specs.declared.fault.Fault.{Fault}
-use Rattle.feed.specs.declared.fault.Fault.TheVariants as fault
+use Rattle.scripts.specs.declared.input.ReadError.{ReadError}
+use Rattle.scripts.specs.declared.input.ReadError.TheVariants as read
 use Rattle.feed.specs.declared.reading.Piece.{Piece}
 use Rattle.feed.specs.declared.reading.Piece.TheVariants as piece
 
@@ -61,11 +61,16 @@ AreNextLines longest old new (h ∷ hs) =
     (now : Option Bytes) × (more : Bool) × IsNextLine longest old now h (Some more) × AreNextLines longest now new hs
 
 -- what was read of a further line behind these: nothing, or that there is none any more; or it could not be read
-abbrev pub IsReadTo : ℕ → Option Bytes → Option Bytes → Result Bool Fault → Type 0
+abbrev pub IsReadTo : ℕ → Option Bytes → Option Bytes → Result Bool ReadError → Type 0
 IsReadTo longest old new (Ok true) = new ≡ old
 IsReadTo longest old new (Ok false) = (h : Held) × IsNextLine longest old new h None
-IsReadTo longest old new (Err why) = (why ≡ fault.CannotRead) ⊎ (why ≡ fault.NoMemory)
+IsReadTo longest old new (Err why) = why ≢ read.TooLong
 
 -- lines were read one after the other, and then this
-abbrev pub HasGathered : ℕ → Option Bytes → Option Bytes → List Held → Result Bool Fault → Type 0
+abbrev pub HasGathered : ℕ → Option Bytes → Option Bytes → List Held → Result Bool ReadError → Type 0
 HasGathered longest old new hs read = (mid : Option Bytes) × AreNextLines longest old mid hs × IsReadTo longest mid new read
+
+-- the lines before the first that has a byte 0
+abbrev pub whole_of : List Held → List Held
+whole_of [] = []
+whole_of (h ∷ hs) = cond h.hole [] (h ∷ whole_of hs)

@@ -46,6 +46,15 @@ HasReplayedLine serves from s end given old new (Err stop.TooLong) t = Unit {0}
 HasReplayedLine serves from s end given old new (Err stop.NoMemory) t = Unit {0}
 HasReplayedLine serves from s end given old new (Err stop.CannotWrite) t = Unit {0}
 
+-- lines were answered again one after the other, and the journal ends behind them; or one was not
+abbrev pub HasReplayedLines : {S : Type 0} → Serving S → Option ℕ → S → JournalEnd → List (Option Bytes) → Option Bytes
+    → Option Bytes → Result JournalEnd Stop → S → Type 0
+HasReplayedLines serves from s end [] old new result t = (result ≡ Ok end) × (new ≡ old) × (t ≡ s)
+HasReplayedLines {S} serves from s end (given ∷ lines) old new result t =
+    ((now : JournalEnd) × (mid : Option Bytes) × (u : S) × HasReplayedLine serves from s end given old mid (Ok now) u
+    × HasReplayedLines serves from u now lines mid new result t)
+    ⊎ ((why : Stop) × (result ≡ Err why) × (u : S) × HasReplayedLine serves from s end given old new (Err why) u)
+
 -- these are the lines that a start runs of a file
 abbrev pub AreRun : Option Bytes → List Bytes → Type 0
 AreRun file lines = IfSome file (λ bytes. BeginsWithLines bytes lines × (lines_run bytes ≡ lines))

@@ -32,13 +32,14 @@ impl From<AllocError> for Fault {
     }
 }
 
-/// What a read that failed ends.
-pub(crate) fn fault_of_read(error: ReadError) -> Fault
-    ensures { result ≡ fault_of_read error }
-{
-    match error {
-        ReadError::CannotRead => Fault::CannotRead,
-        ReadError::TooLong => Fault::TooLong,
-        ReadError::NoMemory => Fault::NoMemory,
+impl From<ReadError> for Fault {
+    ghost from_gives = { λ error fault. fault ≡ fault_of_read error };
+
+    fn from(error: ReadError) -> Fault {
+        match error {
+            ReadError::CannotRead => Fault::CannotRead,
+            ReadError::TooLong => Fault::TooLong,
+            ReadError::NoMemory => Fault::NoMemory,
+        }
     }
 }

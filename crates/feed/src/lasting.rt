@@ -13,15 +13,18 @@ ghost use Rattle.scripts.specs.Words.{split_once};
 ghost use Rattle.feed.specs.Compacting.{HasCompacted};
 ghost use Rattle.feed.specs.Lasting.{both_drawn, compacted, declaration_text, drawn_at, events_but, first_line, lasting_after, lines_behind, lost_at, lowered, lowered_word, lowered_words, naming_text, network_after, new_network, no_lines, slots_with, value_at, with_network, without, without_all, without_network, without_slots};
 
-use crate::answering::{Answer, Deed, Done, Drawn, LineServer, write_and_flush};
-use crate::reading::{LONGEST_LINE, first_place};
+use crate::answering::{
+    Answer, BatchServer, Deed, Done, Drawn, LineServer, serve_in_turn, write_and_flush,
+};
+use crate::reading::{KeptLine, LONGEST_LINE, first_place};
 use crate::replaying::replay;
 use scripts::{Stop, number_of};
 use std::alloc::{AllocError, Global};
-use std::collections::BTreeMap;
+use std::collections::{BTreeMap, VecDeque};
 use std::io::{BufRead, Write, sink};
 use std::marker::Model;
 use std::sync::Wait;
+use std::thread::Threads;
 
 /// Has the lines of a journal answered again, up to its end, and writes a shorter journal with what lasts of them: the lines
 /// that declared networks, with what is left of their budgets, for each network that has been named and has no open slot a
@@ -29,7 +32,7 @@ use std::sync::Wait;
 ///
 /// It stops early, and writes nothing, where [`replay`] does; and where a write fails.
 #[tactic(auto, using(crate::proofs::LastingLines::not_compacted))]
-pub fn compact<X: Wait + AllocGlobal, S: LineServer + Drop, R: BufRead, W: Write>(
+pub fn compact<X: Threads + Wait + AllocGlobal + Sync, S: LineServer + Drop, R: BufRead, W: Write>(
     rt: &X,
     server: S,
     journal: &mut R,
@@ -128,6 +131,19 @@ impl<S: LineServer> LineServer for Lasting<S> {
         let answer = self.server.serve(alloc, number, line)?;
         self.lines.note(alloc, number, line, done_by(&answer))?;
         Ok(answer)
+    }
+}
+
+impl<S: LineServer> BatchServer for Lasting<S> {
+    /// Answers lines in turn.
+    fn serve_batch<X: Threads + Sync>(
+        &mut self,
+        _rt: &X,
+        alloc: Global,
+        count: u64,
+        lines: &[KeptLine],
+    ) -> VecDeque<Option<Answer>> {
+        serve_in_turn(self, alloc, count, lines)
     }
 }
 

@@ -9,6 +9,7 @@
 
 mod answering;
 mod fault;
+mod gathering;
 mod lasting;
 mod reading;
 mod replaying;
@@ -19,6 +20,6 @@ pub use answering::{
 };
 pub use fault::Fault;
 pub use lasting::{Lasting, compact};
-pub use reading::{KeptLine, LONGEST_LINE};
+pub use reading::{KeptLine, LONGEST_LINE, READ_SIZE};
 pub use replaying::{JournalEnd, replay};
 pub use serving::Feed;

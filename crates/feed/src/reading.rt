@@ -13,6 +13,9 @@ use std::sync::Wait;
 /// The longest line of a live host, in bytes, without its line feed (this host's profile).
 pub const LONGEST_LINE: usize = 262_144;
 
+/// How many bytes of lines are read at a time (this host's profile).
+pub const READ_SIZE: usize = 65_536;
+
 /// A line as far as it has come. Once it has more than `LONGEST_LINE` bytes nothing is kept of it but whether a byte of it
 /// is 0.
 #[derive(Drop)]

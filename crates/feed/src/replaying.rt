@@ -1,16 +1,18 @@
 //! Running the lines of a journal again, up to its end.
 
-ghost use Rattle.std.specs.Prelude.{◌≡◌, ◌+◌, ◌||◌, false, is_none, length, Err, IfErr, IfOk, IsOkUnless, OnOk};
+ghost use Rattle.std.specs.Prelude.{◌≡◌, ◌+◌, ◌<◌, ◌^◌, false, length, map, Err, IfErr, IfOk, IsOkUnless, OnOk};
 ghost use Rattle.std.specs.Io.KnownBytes.{Appends};
+ghost use Rattle.feed.specs.Reading.{given_of};
 ghost use Rattle.feed.specs.Served.{is_kept, reply_of};
-ghost use Rattle.feed.specs.Replayed.{HasReplayed, HasReplayedLine, IsTaken, is_told, told_if};
+ghost use Rattle.feed.specs.Replayed.{HasReplayed, HasReplayedLine, HasReplayedLines, IsTaken, is_told, told_if};
 
-use crate::answering::{Answer, LineServer};
-use crate::reading::{KeptLine, LONGEST_LINE, next_line};
+use crate::answering::{Answer, BatchServer, LineServer};
+use crate::gathering::{MOST_LINES, gather, numbered, whole_lines};
+use crate::reading::{KeptLine, LONGEST_LINE};
 use scripts::Stop;
-use std::alloc::Global;
 use std::io::{BufRead, Write};
 use std::sync::Wait;
+use std::thread::Threads;
 
 /// Where a journal ends.
 #[derive(Clone, Copy, Debug, PartialEq, Eq)]
@@ -23,12 +25,12 @@ pub struct JournalEnd {
 
 /// Has the lines of a journal answered again, up to its end, which is before the first line that has a byte 0 in it or
 /// lacks its line feed. What lines from a number on are answered is written; of the others, and without a number,
-/// nothing is. No more than a line is kept.
+/// nothing is. No more is kept than the lines that come in one read, some hundreds at most, which are answered together.
 ///
 /// It stops early where a line is no line of a journal ([`Stop::BadLine`], with its number), because it is too long, or
 /// because its answer says that a journal does not keep it; where a read fails, memory is short, a write fails, or no
 /// number below 2^64 is left ([`Stop::TooLong`]).
-pub fn replay<X: Wait + AllocGlobal, S: LineServer, R: BufRead, W: Write>(
+pub fn replay<X: Threads + Wait + AllocGlobal + Sync, S: BatchServer, R: BufRead, W: Write>(
     rt: &X,
     server: &mut S,
     journal: &mut R,
@@ -38,23 +40,17 @@ pub fn replay<X: Wait + AllocGlobal, S: LineServer, R: BufRead, W: Write>(
     ensures { HasReplayed S.serves LONGEST_LINE from server.old (R.remaining journal.old) (W.contents out.old) (W.contents out.new) result server.new }
 {
     let alloc = rt.alloc();
-    let mut line = KeptLine::new(alloc);
+    let mut lines = Vec::new(alloc);
     let mut end = JournalEnd { lines: 0, bytes: 0 };
     for _ in rt.forever() {
-        let read = next_line(rt, journal, &mut line)?;
-        if is_end(read, &line) {
+        let read = gather(rt, alloc, MOST_LINES, journal, &mut lines);
+        let whole = whole_lines(lines.as_slice());
+        end = replay_lines(rt, server, whole, Place { from, end }, out)?;
+        if whole.len() < lines.len() || !read? {
             return Ok(end);
         }
-        end = replay_line(alloc, server, &line, Place { from, end }, out)?;
     }
     unreachable!()
-}
-
-/// Whether a journal ends before what was read: it was no line, or one with a byte 0 in it.
-fn is_end(read: Option<bool>, line: &KeptLine) -> bool
-    ensures { result ≡ (is_none read || line.now.hole) }
-{
-    read.is_none() || line.has_hole()
 }
 
 /// Where a line stands: behind so much of a journal; and from which line on answers are told.
@@ -64,22 +60,46 @@ struct Place {
     end: JournalEnd,
 }
 
-/// Has a line answered again, and tells that if it is asked for. It answers where the journal ends behind the line.
-fn replay_line<S: LineServer, W: Write>(
-    alloc: Global,
+/// Has lines answered again, and tells that if it is asked for. It answers where the journal ends behind them.
+fn replay_lines<X: Threads + AllocGlobal + Sync, S: BatchServer, W: Write>(
+    rt: &X,
     server: &mut S,
-    line: &KeptLine,
+    lines: &[KeptLine],
     place: Place,
     out: &mut W,
 ) -> Result<JournalEnd, Stop>
-    ensures { HasReplayedLine S.serves place.from server.old place.end line.now.given (W.contents out.old) (W.contents out.new) result server.new }
+    ensures { HasReplayedLines S.serves place.from server.old place.end (map given_of lines.now) (W.contents out.old) (W.contents out.new) result server.new }
 {
-    let number = number_behind(place.end)?;
+    let Place { from, mut end } = place;
+    let numbered = numbered(end.lines, lines);
+    let mut answers = server.serve_batch(rt, rt.alloc(), end.lines, numbered);
+    for line in numbered {
+        match answers.pop_front() {
+            Some(answer) => end = take_line::<S, W>(line, answer, Place { from, end }, out)?,
+            // Memory: an answer is wanting, so there was none for it.
+            None => return Err(Stop::NoMemory),
+        }
+    }
+    if numbered.len() < lines.len() {
+        return Err(Stop::TooLong);
+    }
+    Ok(end)
+}
+
+/// Takes a line that was answered again, and tells that if it is asked for. It answers where the journal ends behind it.
+fn take_line<S: LineServer, W: Write>(
+    line: &KeptLine,
+    answer: Option<Answer>,
+    place: Place,
+    out: &mut W,
+) -> Result<JournalEnd, Stop>
+    requires { place.end.lines + 1 < 2 ^ 64 }
+    ensures { (s t : S) → S.serves s (place.end.lines + 1) line.now.given (reply_of answer) t → HasReplayedLine S.serves place.from s place.end line.now.given (W.contents out.old) (W.contents out.new) result t }
+{
+    let number = place.end.lines + 1;
     let Some(bytes) = line.given() else {
+        drop(answer);
         return Err(Stop::BadLine(number as usize));
-    };
-    let Ok(answer) = server.serve(alloc, number, Some(bytes)) else {
-        return Err(Stop::NoMemory);
     };
     tell_again(answer, number, place.from, out)?;
     end_behind(place.end, number, bytes)
@@ -107,17 +127,6 @@ fn tell_again<W: Write>(
     };
     drop(block);
     told
-}
-
-/// The number of the line behind the end. The error says that there is none.
-fn number_behind(end: JournalEnd) -> Result<u64, Stop>
-    ensures number { IfOk result (λ number. number ≡ end.lines + 1) }
-    ensures none { IfErr result (λ why. why ≡ Stop.TooLong) }
-{
-    match end.lines.checked_add(1) {
-        Some(number) => Ok(number),
-        None => Err(Stop::TooLong),
-    }
 }
 
 /// The end behind a line with this number. The error says that there are too many bytes.

@@ -1,25 +1,23 @@
 //! Serving the lines of a live host as they come.
 
-ghost use Rattle.std.specs.Prelude.{◌≡◌, ◌+◌, ◌++◌, ◌<◌, ◌^◌, ◌∷◌, [], IfErr, IfOk, OnErr, OnOk, length, map, take};
+ghost use Rattle.std.specs.Prelude.{◌≡◌, ◌+◌, ◌++◌, ◌<◌, ◌^◌, [], IfErr, IfOk, OnErr, OnOk, map};
 ghost use Rattle.std.specs.Io.KnownBytes.{Keeps};
 ghost use Rattle.feed.specs.Hosted.{HasDone, HasHostedStream};
-ghost use Rattle.feed.specs.Reading.{HasGathered, given_of};
+ghost use Rattle.feed.specs.Reading.{given_of};
 ghost use Rattle.feed.specs.Served.{is_kept, kept_as, reply_of};
 ghost use Rattle.feed.specs.Steps.{HasServedLine, HasServedLines, HasTold};
 
 use crate::answering::{Answer, BatchServer, Desk};
-use crate::fault::{Fault, fault_of_read};
-use crate::reading::{KeptLine, LONGEST_LINE, next_line};
+use crate::fault::Fault;
+use crate::gathering::{MOST_LINES, gather, numbered};
+use crate::reading::{KeptLine, LONGEST_LINE};
 use std::alloc::{AllocError, Global};
 use std::io::BufRead;
 use std::sync::Wait;
 use std::thread::Threads;
 
-/// How many lines are served at a time at most (this host's profile).
-const MOST_LINES: usize = 256;
-
 /// If lines that were served together are answered by more bytes, fewer of them are taken the next time.
-const MANY_BYTES: usize = 65_536;
+const MANY_BYTES: usize = 262_144;
 
 /// A live host at work: what answers its lines, and how many there were.
 #[derive(Drop)]
@@ -154,60 +152,6 @@ impl<S: BatchServer> Feed<S> {
         };
         self.waiting.clear();
         Ok(())
-    }
-}
-
-/// Reads the next line, and those at hand behind it, as many as asked for at most. It answers whether the input may go on.
-fn gather<X: Wait, R: BufRead>(
-    rt: &X,
-    alloc: Global,
-    most: usize,
-    input: &mut R,
-    lines: &mut Vec<KeptLine>,
-) -> Result<bool, Fault>
-    ensures { HasGathered LONGEST_LINE (R.remaining input.old) (R.remaining input.new) lines.new.items result }
-{
-    lines.clear();
-    for _ in 0..most {
-        let mut line = KeptLine::new(alloc);
-        match next_line(rt, input, &mut line) {
-            Ok(Some(more)) => {
-                if let Err(fault) = keep(lines, line) {
-                    return Err(fault);
-                }
-                if !more {
-                    return Ok(true);
-                }
-            }
-            Ok(None) => return Ok(false),
-            Err(error) => return Err(fault_of_read(error)),
-        }
-    }
-    Ok(true)
-}
-
-/// Puts a line behind others. The error says that memory is short.
-fn keep(lines: &mut Vec<KeptLine>, line: KeptLine) -> Result<(), Fault>
-    ensures kept { OnOk result (lines.new.items ≡ lines.old.items ++ line ∷ []) }
-    ensures none { IfErr result (λ why. (why ≡ Fault.NoMemory) × (lines.new.items ≡ lines.old.items)) }
-{
-    match lines.push(line) {
-        Ok(()) => Ok(()),
-        Err(_) => Err(Fault::NoMemory),
-    }
-}
-
-/// The lines behind so many for which there are numbers.
-fn numbered(count: u64, lines: &[KeptLine]) -> &[KeptLine]
-    ensures first { result.now ≡ take (length result.now) lines.now }
-    ensures numbers { count + length result.now < 2 ^ 64 }
-    ensures none { length result.now < length lines.now → count + length result.now + 1 ≡ 2 ^ 64 }
-{
-    let left = u64::MAX - count;
-    if (lines.len() as u64) <= left {
-        lines
-    } else {
-        &lines[..left as usize]
     }
 }
 

@@ -5,10 +5,11 @@ ghost use Rattle.std.specs.Io.KnownBytes.{Appends};
 ghost use Rattle.journal.specs.Resuming.{HasFirst, HasReplayedFile, HasResumed, resumed_line};
 
 use crate::fault::JournalFault;
-use feed::{JournalEnd, LONGEST_LINE, Lasting, LineServer, replay};
+use feed::{BatchServer, JournalEnd, LONGEST_LINE, Lasting, LineServer, READ_SIZE, replay};
 use std::fs::File;
 use std::io::{BufReader, Seek, SeekFrom, Write, sink};
 use std::sync::Wait;
+use std::thread::Threads;
 
 /// Has the lines of a journal answered, up to its end, cuts the file there, brings it to the disk, and writes
 /// `resumed L`, L being how many lines the file has, which is answered too. What the lines from a number on are answered
@@ -16,7 +17,7 @@ use std::sync::Wait;
 ///
 /// After an error the file has the lines that it had; behind their end it may have been cut ([`JournalFault::CannotWrite`],
 /// [`JournalFault::CannotTell`]).
-pub fn resume<X: Wait + AllocGlobal, S: LineServer, W: Write>(
+pub fn resume<X: Threads + Wait + AllocGlobal + Sync, S: BatchServer, W: Write>(
     rt: &X,
     file: &File,
     server: &mut S,
@@ -34,7 +35,7 @@ pub fn resume<X: Wait + AllocGlobal, S: LineServer, W: Write>(
 
 /// The first line of a journal that concerns a slot which is still open at its end, as a server with no networks answers the
 /// lines; `None` where no slot is open. The file is as it was.
-pub fn first_open_line<X: Wait + AllocGlobal, S: LineServer + Drop>(
+pub fn first_open_line<X: Threads + Wait + AllocGlobal + Sync, S: LineServer + Drop>(
     rt: &X,
     file: &File,
     server: S,
@@ -52,7 +53,7 @@ pub fn first_open_line<X: Wait + AllocGlobal, S: LineServer + Drop>(
 }
 
 /// Has the lines of a file answered, from its beginning up to its end.
-fn replay_file<X: Wait + AllocGlobal, S: LineServer, W: Write>(
+fn replay_file<X: Threads + Wait + AllocGlobal + Sync, S: BatchServer, W: Write>(
     rt: &X,
     file: &File,
     server: &mut S,
@@ -65,7 +66,7 @@ fn replay_file<X: Wait + AllocGlobal, S: LineServer, W: Write>(
     if start.seek(SeekFrom::Start(0)).is_err() {
         return Err(JournalFault::CannotRead);
     }
-    let Ok(mut reader) = BufReader::new(rt.alloc(), file) else {
+    let Ok(mut reader) = BufReader::with_capacity(rt.alloc(), READ_SIZE, file) else {
         return Err(JournalFault::NoMemory);
     };
     let replayed = replay(rt, server, &mut reader, from, out);

@@ -10,6 +10,7 @@ use Rattle.scripts.specs.Script.{Bytes}
 use Rattle.feed.specs.Reading.{Held, given_of}
 use Rattle.feed.specs.Served.{AreAnswered, Reply, reply_of}
 use Rattle.feed.specs.declared.answering.Answer.{Answer}
+use Rattle.feed.proofs.TogetherLaws.{few_answers}
 use Rattle.serving.specs.Blocks.{TellsOfNoWant, want_of_memory}
 use Rattle.serving.specs.Hosts.{Live, Remembers, Serves}
 use Rattle.scphost.specs.Remembering.{AllTellOfNoWant}
@@ -58,18 +59,13 @@ told_more (suc k) (a ∷ answers) d tell l one =
     (All-cons (λ (b : Reply). TellsOfNoWant b.text) a (take (k + 1) answers) (All-head (λ (b : Reply). TellsOfNoWant b.text) a (take k answers) tell)
     (told_more k answers d (All-tail (λ (b : Reply). TellsOfNoWant b.text) a (take k answers) tell) (omega (arith, l)) one))
 
-few-answered : (s t : Live) (n : ℕ) (lines : List (Option Bytes)) (answers : List Reply) → AreAnswered Serves s n lines answers t → length answers ≤ length lines
-few-answered s t n lines [] are = omega arith
-few-answered s t n [] (a ∷ answers) are = absurd are
-few-answered s t n (x ∷ lines) (a ∷ answers) are = let few = few-answered are.0 t (n + 1) lines answers are.2 in omega (arith, few)
-
 pub remembered_batch : (s new : Live) (n k : ℕ) (lines : List Held) (answers left : List (Option Answer)) → left ≡ take k answers
     → (t : Live) × AreAnswered Serves s n (map given_of lines) (map reply_of answers) t × (length answers ≡ length lines → t ≡ new) → AllTellOfNoWant (take k (map reply_of answers))
     → (u : Live) × AreAnswered Remembers s n (map given_of lines) (map reply_of left) u × (length left ≡ length lines → u ≡ new)
 remembered_batch s new n k lines answers left is (t, are, last) tell =
     let first = remembered_first s t n k (map given_of lines) (map reply_of answers) are tell in
     let told : map reply_of left ≡ take k (map reply_of answers) = ap (map reply_of) is ∙ sym (take-map reply_of k answers) in
-    let few = few-answered s t n (map given_of lines) (map reply_of answers) are in
+    let few = few_answers Serves s t n (map given_of lines) (map reply_of answers) are in
     let many = length-map answers reply_of in
     let lines_many = length-map lines given_of in
     let left_many : length left ≡ min k (length answers) = ap length is ∙ length-take k answers in (

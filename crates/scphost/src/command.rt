@@ -7,6 +7,7 @@ ghost use Rattle.scphost.specs.Printing.{names_files};
 use crate::outputs::Outputs;
 use crate::perform::{exit_status, perform, perform_stream, print_stop, print_usage};
 use command_line::{Call, read_call};
+use feed::READ_SIZE;
 use scripts::Stop;
 use std::convert::AsStr;
 use std::fs::{File, Files};
@@ -56,7 +57,7 @@ fn open_and_perform<
             perform_two(rt, call, first.as_str(), second.as_str(), outputs)
         }
         // The reader of a pipe asks it for each byte.
-        Call::Serve { .. } => match BufReader::new(rt.alloc(), rt.reader()) {
+        Call::Serve { .. } => match BufReader::with_capacity(rt.alloc(), READ_SIZE, rt.reader()) {
             Ok(mut input) => perform_stream(rt, call, &mut input, outputs),
             Err(_) => print_stop(Stop::NoMemory, "", &mut outputs.err),
         },

@@ -9,7 +9,7 @@ use crate::outputs::Outputs;
 use crate::perform::print_stop;
 use crate::remembering::RememberedHost;
 use command_line::ReplayFrom;
-use feed::{Fault, Feed, compact};
+use feed::{Fault, Feed, READ_SIZE, compact};
 use journal::{JournalFault, first_open_line, open_journal, resume};
 use scripts::Stop;
 use shards::ShardedHost;
@@ -129,7 +129,7 @@ fn go_on<
 }
 
 /// Opens the journal of a host and goes on from it. It answers the file, and how many lines it has.
-fn start<A: AllocGlobal + Wait + Files<File = File>, W: Write>(
+fn start<A: AllocGlobal + Threads + Wait + Sync + Files<File = File>, W: Write>(
     rt: &A,
     journal: JournalUse<'_>,
     bytes: bool,
@@ -146,7 +146,7 @@ fn start<A: AllocGlobal + Wait + Files<File = File>, W: Write>(
 }
 
 /// From which line of a journal on answers are told.
-fn first_told<A: AllocGlobal + Wait>(
+fn first_told<A: AllocGlobal + Threads + Wait + Sync>(
     rt: &A,
     file: &File,
     bytes: bool,
@@ -168,7 +168,7 @@ fn first_told<A: AllocGlobal + Wait>(
 
 /// Writes a shorter journal with the same future to `outputs.out`, and answers how that ended. What is wrong with the
 /// journal, which has this name, is said on `outputs.err`.
-pub fn make_shorter<A: AllocGlobal + Wait, R: BufRead, W: Write, E: Write>(
+pub fn make_shorter<A: AllocGlobal + Threads + Wait + Sync, R: BufRead, W: Write, E: Write>(
     rt: &A,
     name: &str,
     journal: &mut R,
@@ -183,7 +183,7 @@ pub fn make_shorter<A: AllocGlobal + Wait, R: BufRead, W: Write, E: Write>(
 }
 
 /// The same by this host.
-fn make_shorter_by<A: AllocGlobal + Wait, R: BufRead, W: Write, E: Write>(
+fn make_shorter_by<A: AllocGlobal + Threads + Wait + Sync, R: BufRead, W: Write, E: Write>(
     rt: &A,
     name: &str,
     host: RememberedHost,
@@ -200,7 +200,7 @@ fn make_shorter_by<A: AllocGlobal + Wait, R: BufRead, W: Write, E: Write>(
 }
 
 /// The same of a reader that has no lines at hand.
-pub fn make_file_shorter<A: AllocGlobal + Wait, R: Read, W: Write, E: Write>(
+pub fn make_file_shorter<A: AllocGlobal + Threads + Wait + Sync, R: Read, W: Write, E: Write>(
     rt: &A,
     name: &str,
     journal: &mut R,
@@ -208,7 +208,7 @@ pub fn make_file_shorter<A: AllocGlobal + Wait, R: Read, W: Write, E: Write>(
 ) -> Result<bool, Stop>
     ensures { HasMadeShorter (R.remaining journal.old) (W.contents outputs.old.out) (W.contents outputs.new.out) result }
 {
-    let Ok(mut reader) = BufReader::new(rt.alloc(), journal) else {
+    let Ok(mut reader) = BufReader::with_capacity(rt.alloc(), READ_SIZE, journal) else {
         return print_stop(Stop::NoMemory, "", &mut outputs.err);
     };
     let ended = make_shorter(rt, name, &mut reader, outputs);

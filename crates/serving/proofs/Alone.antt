@@ -11,6 +11,7 @@ use Rattle.requests.specs.Outlines.{Waiting, waiting_at}
 use Rattle.network.specs.Standing.{Machine}
 use Rattle.serving.specs.Apart.{AreFrom, OthersStay, alone, only}
 use Rattle.serving.specs.Hosts.{Live, live_at}
+use Rattle.serving.specs.Keeping.{inserted-is-found}
 
 -- ---- numbers
 -- what the order of two numbers says of them
@@ -56,19 +57,6 @@ inserted-only : {X : Type 0} (g : ℕ) (o : Option X) (x : X) → insert_entry n
 inserted-only g None x = refl
 inserted-only g (Some y) x =
     ap (λ o. match_ordering o ((g, x) ∷ (g, y) ∷ []) ((g, x) ∷ []) ((g, y) ∷ (g, x) ∷ [])) (at-itself g)
-
-inserted-is-found : {X : Type 0} (es : List (ℕ × X)) (g : ℕ) (x : X)
-    → lookup (is_at (nat_cmp g)) (insert_entry nat_cmp es g x) ≡ Some x
-inserted-is-found [] g x = ap (λ o. cond (is_eq o) (Some x) None) (at-itself g)
-inserted-is-found {X} (e ∷ es) g x = step (nat_cmp g e.0) refl (inserted-is-found es g x)
-  where
-    step : (o : Ordering) → nat_cmp g e.0 ≡ o → lookup (is_at (nat_cmp g)) (insert_entry nat_cmp es g x) ≡ Some x
-        → lookup (is_at (nat_cmp g)) (match_ordering o ((g, x) ∷ e ∷ es) ((e.0, x) ∷ es) (e ∷ insert_entry nat_cmp es g x))
-        ≡ Some x
-    step Less is others = ap (λ o. cond (is_eq o) (Some x) (lookup (is_at (nat_cmp g)) (e ∷ es))) (at-itself g)
-    step Equal is others = ap (λ o. cond (is_eq o) (Some x) (lookup (is_at (nat_cmp g)) es)) is
-    step Greater is others =
-        ap (λ o. cond (is_eq o) (Some e.1) (lookup (is_at (nat_cmp g)) (insert_entry nat_cmp es g x))) is ∙ others
 
 pub inserted-alone : {X : Type 0} (g : ℕ) (es : List (ℕ × X)) (x : X)
     → only_at g (insert_entry nat_cmp es g x) ≡ insert_entry nat_cmp (only_at g es) g x

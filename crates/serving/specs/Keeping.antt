@@ -32,7 +32,7 @@ not-both is other = absurd (true≢false (sym is ∙ other))
 at-itself : (g : ℕ) → is_at (nat_cmp g) g ≡ true
 at-itself g = ap is_eq (tied_itself nat_cmp_total g)
 
-inserted-is-found : {X : Type 0} (es : List (ℕ × X)) (g : ℕ) (x : X) → lookup (is_at (nat_cmp g)) (insert_entry nat_cmp es g x) ≡ Some x
+pub inserted-is-found : {X : Type 0} (es : List (ℕ × X)) (g : ℕ) (x : X) → lookup (is_at (nat_cmp g)) (insert_entry nat_cmp es g x) ≡ Some x
 inserted-is-found [] g x = ap (λ b. cond b (Some x) None) (at-itself g)
 inserted-is-found {X} (e ∷ es) g x = step (nat_cmp g e.0) refl (inserted-is-found es g x)
   where

@@ -7,6 +7,7 @@ use Rattle.std.specs.Map.{lookup}
 use Rattle.std.proofs.Common.{◌∙◌, Less, Equal, Greater, refl, sym, ap, subst, inl, inr, arith, true≢false}
 use Rattle.std.proofs.lemmas.Bool.Decides.{Decides-eqb}
 use Rattle.serving.specs.Apart.{AreFrom}
+use Rattle.serving.specs.Keeping.{inserted-is-found}
 use Rattle.serving.proofs.Alone.{at-itself, inserted-apart, inserted-ascend, none-below, skipped}
 use Rattle.shards.specs.Parts.{both_of}
 
@@ -15,19 +16,6 @@ use Rattle.shards.specs.Parts.{both_of}
 abbrev pub or_else : {X : Type 0} → Option X → Option X → Option X
 or_else None o = o
 or_else (Some x) o = Some x
-
-inserted-is-found : {X : Type 0} (es : List (ℕ × X)) (g : ℕ) (x : X)
-    → lookup (is_at (nat_cmp g)) (insert_entry nat_cmp es g x) ≡ Some x
-inserted-is-found [] g x = ap (λ o. cond (is_eq o) (Some x) None) (at-itself g)
-inserted-is-found {X} (e ∷ es) g x = step (nat_cmp g e.0) refl (inserted-is-found es g x)
-  where
-    step : (o : Ordering) → nat_cmp g e.0 ≡ o → lookup (is_at (nat_cmp g)) (insert_entry nat_cmp es g x) ≡ Some x
-        → lookup (is_at (nat_cmp g)) (match_ordering o ((g, x) ∷ e ∷ es) ((e.0, x) ∷ es) (e ∷ insert_entry nat_cmp es g x))
-        ≡ Some x
-    step Less is others = ap (λ o. cond (is_eq o) (Some x) (lookup (is_at (nat_cmp g)) (e ∷ es))) (at-itself g)
-    step Equal is others = ap (λ o. cond (is_eq o) (Some x) (lookup (is_at (nat_cmp g)) es)) is
-    step Greater is others =
-        ap (λ o. cond (is_eq o) (Some e.1) (lookup (is_at (nat_cmp g)) (insert_entry nat_cmp es g x))) is ∙ others
 
 first-found : {X : Type 0} (d : ℕ × X) (ds : List (ℕ × X)) → lookup (is_at (nat_cmp d.0)) (d ∷ ds) ≡ Some d.1
 first-found d ds = ap (λ o. cond (is_eq o) (Some d.1) (lookup (is_at (nat_cmp d.0)) ds)) (at-itself d.0)

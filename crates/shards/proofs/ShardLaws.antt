@@ -10,6 +10,7 @@ use Rattle.scripts.specs.Script.{Bytes}
 use Rattle.feed.specs.Reading.{Held, given_of}
 use Rattle.feed.specs.Served.{AreAnswered, Reply, reply_of}
 use Rattle.feed.specs.declared.answering.Answer.{Answer}
+use Rattle.feed.proofs.TogetherLaws.{few_answers}
 use Rattle.requests.specs.declared.ask.Ask.{Ask}
 use Rattle.requests.specs.declared.ask.Ask.TheVariants as ask
 use Rattle.requests.specs.declared.request.Declaration.TheVariants as declaration
@@ -338,11 +339,6 @@ batch_then old worked gathered rested n lines places answers are long placed own
     subst (λ hs. (t : Live) × AreAnswered Serves (joined (hosts_of old)) n lines answers t × (length answers ≡ length lines → (t ≡ joined hs) × AreParts (joined (hosts_of old)).bytes hs)) (sym (two ∙ one))
     (batch_answered old worked n lines places answers are long placed own gathers)
 
-few-answered : (s t : Live) (n : ℕ) (lines : List (Option Bytes)) (answers : List Reply) → AreAnswered Serves s n lines answers t → length answers ≤ length lines
-few-answered s t n lines [] are = omega arith
-few-answered s t n [] (a ∷ answers) are = absurd are
-few-answered s t n (x ∷ lines) (a ∷ answers) are = let few = few-answered are.0 t (n + 1) lines answers are.2 in omega (arith, few)
-
 -- what was written to the places of a list that is as long is the list
 pub written : (xs ys : List Shard) (n : ℕ) → n ≡ length ys → length xs ≡ length ys → take n (xs ++ drop (length xs) ys) ≡ xs
 written xs ys n long same =
@@ -354,7 +350,7 @@ batch_shards old new n lines answers lost some long idle answered is = record {
   some = omega (arith, some, long);
   idle = idle;
   parts = λ kept.
-      let few = few-answered (joined (hosts_of old)) answered.0 n lines answers answered.1 in
+      let few = few_answers Serves (joined (hosts_of old)) answered.0 n lines answers answered.1 in
       let all : length answers ≡ length lines = omega (arith, few, ltb-false (length answers) (length lines) (sym is ∙ kept)) in
       let are = (answered.2 all).1 in
       subst (λ b. AreParts b (hosts_of new)) (sym (same-bytes (joined (hosts_of old)).bytes (hosts_of new) are)) are;

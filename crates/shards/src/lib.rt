@@ -12,4 +12,4 @@ mod shard;
 mod sharded_host;
 
 pub use laws::{lines_name_their_networks, parts_answer_for_the_whole};
-pub use sharded_host::{MOST_SHARDS, ShardedHost};
+pub use sharded_host::ShardedHost;

@@ -19,9 +19,6 @@ use std::marker::Model;
 use std::thread;
 use std::thread::Threads;
 
-/// How many shards a host may have (this host's profile).
-pub const MOST_SHARDS: usize = 64;
-
 /// Fewer lines than this are answered one after the other, since to start threads for them would take longer.
 const FEW_LINES: usize = 16;
 
@@ -51,8 +48,8 @@ impl Model for ShardedHost {
 }
 
 impl ShardedHost {
-    /// A host without networks in so many shards, at most 64, which prints envelopes as bytes if that is asked for. An error
-    /// says that memory is short.
+    /// A host without networks in so many shards, which prints envelopes as bytes if that is asked for. An error says that
+    /// memory is short.
     pub fn new(alloc: Global, bytes: bool, count: usize) -> Result<ShardedHost, AllocError>
         requires { 0 < count }
         ensures { IfOk result (λ host. host ≡ new_live bytes) }

@@ -118,7 +118,11 @@ struct Again {
 }
 
 /// Runs a journal again, and tells what lines from a number on are answered.
-fn run_again<R: Wait + AllocGlobal>(rt: &R, file: &[u8], from: Option<u64>) -> Again {
+fn run_again<R: Threads + Wait + AllocGlobal + Sync>(
+    rt: &R,
+    file: &[u8],
+    from: Option<u64>,
+) -> Again {
     let mut journal = file;
     let mut told = Vec::new(rt.alloc());
     let ended = replay(rt, &mut Counter::new(), &mut journal, from, &mut told);
@@ -127,7 +131,11 @@ fn run_again<R: Wait + AllocGlobal>(rt: &R, file: &[u8], from: Option<u64>) -> A
 
 /// Runs a file that a stop left at a moment, and answers whether the lines that it runs are the first of the journal, all
 /// of which something had been told are among them, and what is told of them again is what was told.
-fn survives<R: Wait + AllocGlobal>(rt: &R, now: &Moment, file: &[u8]) -> Result<bool, AllocError> {
+fn survives<R: Threads + Wait + AllocGlobal + Sync>(
+    rt: &R,
+    now: &Moment,
+    file: &[u8],
+) -> Result<bool, AllocError> {
     let told = without_bad(rt.alloc(), now.told.as_slice())?;
     let whole = without_bad(rt.alloc(), TOLD)?;
     let again = run_again(rt, file, Some(1));
@@ -149,7 +157,10 @@ fn survives<R: Wait + AllocGlobal>(rt: &R, now: &Moment, file: &[u8]) -> Result<
 
 /// Runs each file that a stop may leave at a moment, and answers how many there are: each length of the tail, and each
 /// choice of its bytes that are 0.
-fn survive_each<R: Wait + Abort + AllocGlobal>(rt: &R, now: &Moment) -> Result<u32, Fail> {
+fn survive_each<R: Threads + Wait + Abort + AllocGlobal + Sync>(
+    rt: &R,
+    now: &Moment,
+) -> Result<u32, Fail> {
     let mut files = 0u32;
     let mut choices = 1u32;
     for length in 0..=now.tail.len() {

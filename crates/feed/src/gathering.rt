@@ -1,0 +1,81 @@
+//! Lines that come together.
+
+ghost use Rattle.std.specs.Prelude.{◌≡◌, ◌+◌, ◌++◌, ◌<◌, ◌^◌, ◌∷◌, [], IfErr, OnOk, length, position, take};
+ghost use Rattle.feed.specs.Reading.{HasGathered, whole_of};
+
+use crate::reading::{KeptLine, LONGEST_LINE, next_line};
+use scripts::ReadError;
+use std::alloc::Global;
+use std::io::BufRead;
+use std::sync::Wait;
+
+/// How many lines are answered together at most (this host's profile).
+pub(crate) const MOST_LINES: usize = 1024;
+
+/// Reads the next line, and those at hand behind it, as many as asked for at most. It answers whether the input may go on.
+pub(crate) fn gather<X: Wait, R: BufRead>(
+    rt: &X,
+    alloc: Global,
+    most: usize,
+    input: &mut R,
+    lines: &mut Vec<KeptLine>,
+) -> Result<bool, ReadError>
+    ensures { HasGathered LONGEST_LINE (R.remaining input.old) (R.remaining input.new) lines.new.items result }
+{
+    lines.clear();
+    for _ in 0..most {
+        let mut line = KeptLine::new(alloc);
+        match next_line(rt, input, &mut line)? {
+            Some(more) => {
+                keep(lines, line)?;
+                if !more {
+                    return Ok(true);
+                }
+            }
+            None => return Ok(false),
+        }
+    }
+    Ok(true)
+}
+
+/// Puts a line behind others. The error says that memory is short.
+fn keep(lines: &mut Vec<KeptLine>, line: KeptLine) -> Result<(), ReadError>
+    ensures kept { OnOk result (lines.new.items ≡ lines.old.items ++ line ∷ []) }
+    ensures none { IfErr result (λ why. (why ≡ ReadError.NoMemory) × (lines.new.items ≡ lines.old.items)) }
+{
+    match lines.push(line) {
+        Ok(()) => Ok(()),
+        Err(_) => Err(ReadError::NoMemory),
+    }
+}
+
+/// The lines before the first that has a byte 0.
+pub(crate) fn whole_lines(lines: &[KeptLine]) -> &[KeptLine]
+    ensures { result.now ≡ whole_of lines.now }
+{
+    match first_hole(lines) {
+        Some(place) => &lines[..place],
+        None => lines,
+    }
+}
+
+/// The place of the first line that has a byte 0.
+fn first_hole(lines: &[KeptLine]) -> Option<usize>
+    ensures { result ≡ position (λ h. h.hole) lines.now }
+{
+    lines.iter().position(|line| line.has_hole())
+}
+
+/// The lines behind so many for which there are numbers.
+pub(crate) fn numbered(count: u64, lines: &[KeptLine]) -> &[KeptLine]
+    ensures first { result.now ≡ take (length result.now) lines.now }
+    ensures numbers { count + length result.now < 2 ^ 64 }
+    ensures none { length result.now < length lines.now → count + length result.now + 1 ≡ 2 ^ 64 }
+{
+    let left = u64::MAX - count;
+    if (lines.len() as u64) <= left {
+        lines
+    } else {
+        &lines[..left as usize]
+    }
+}
