@@ -1,0 +1,4 @@
+pub mod SayLaws
+pub mod DigitLaws
+pub mod FieldLaws
+pub mod BackLaws

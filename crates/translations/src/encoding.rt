@@ -1,0 +1,72 @@
+//! Envelopes in words, as bytes.
+
+ghost use Rattle.std.specs.Prelude.{◌≡◌, IfOk, IfSome, option_map, string_bytes};
+ghost use Rattle.hex.specs.Hex.{IsBytes};
+ghost use Rattle.requests.specs.Lines.{AreSaid, IsRead};
+ghost use Rattle.translations.specs.Lines.{line_of_bytes};
+ghost use Rattle.translations.specs.Saying.{delivered_by};
+ghost use Rattle.translations.specs.Translations.{DecodesBack, IsEncoded};
+
+use requests::{Request, asked_by};
+use std::alloc::{AllocError, Global};
+use types::{Bytes, Event};
+
+/// The line of the bytes of the envelope that four words spell, in lower-case hexadecimal: its sender, its slot, its slices
+/// and its statement, as a line `say` of scripts has them, which delivers these bytes. `None` where they spell none. An
+/// error says that memory is short.
+pub fn encode_words(
+    alloc: Global,
+    from: &[u8],
+    slot: &[u8],
+    slices: &[u8],
+    statement: &[u8],
+) -> Result<Option<String>, AllocError>
+    ensures encoded { IfOk result (λ o. IsRead (IsEncoded from.now slot.now slices.now statement.now) (option_map string_bytes o)) }
+    ensures back { IfOk result (λ o. IfSome o (λ line. DecodesBack from.now slot.now slices.now statement.now (string_bytes line))) }
+{
+    match bytes_said(alloc, from, slot, slices, statement)? {
+        Some(bytes) => {
+            let line = line_of_bytes(alloc, bytes.as_slice());
+            drop(bytes);
+            Ok(Some(line?))
+        }
+        None => Ok(None),
+    }
+}
+
+/// The line of bytes.
+fn line_of_bytes(alloc: Global, bytes: &[u8]) -> Result<String, AllocError>
+    ensures line { IfOk result (λ line. string_bytes line ≡ line_of_bytes bytes.now) }
+    ensures bytes { IsBytes bytes.now }
+{
+    let mut line = hex::encode(alloc, bytes)?;
+    line.push('\n')?;
+    Ok(line)
+}
+
+/// The bytes that a line `say` with these words delivers, to a node of whatever name.
+fn bytes_said(
+    alloc: Global,
+    from: &[u8],
+    slot: &[u8],
+    slices: &[u8],
+    statement: &[u8],
+) -> Result<Option<Bytes>, AllocError>
+    ensures { IfOk result (IsRead (λ bytes. AreSaid bytes from.now slot.now slices.now statement.now)) }
+{
+    let fields: [&[u8]; 7] = [b"say", b"0", b"A", from, slot, slices, statement];
+    match asked_by(alloc, &fields)? {
+        Some((_, request)) => Ok(delivered_by(request)),
+        None => Ok(None),
+    }
+}
+
+/// The bytes of a delivery.
+fn delivered_by(request: Request) -> Option<Bytes>
+    ensures { result ≡ delivered_by request }
+{
+    match request {
+        Request::Apply(Event::Deliver { node: _, bytes }) => Some(bytes),
+        _ => None,
+    }
+}
