@@ -83,6 +83,8 @@ ended_plain command.Crowd asked word rest e = refl
 ended_plain command.Serve asked word rest e =
     rw (plain_workers word e, plain_replay asked word rest e, no_option word (codes "bytes") e, no_option word (codes "explain") e) refl
 ended_plain command.Compact asked word rest e = refl
+ended_plain command.Encode asked word rest e = refl
+ended_plain command.Decode asked word rest e = refl
 
 ended_dashes : (c : Command) (asked : Options) (rest : List Text) → option_in c asked (codes "--" ∷ rest) ≡ None
 ended_dashes command.Table asked rest = refl
@@ -92,6 +94,8 @@ ended_dashes command.Compare asked rest = refl
 ended_dashes command.Crowd asked rest = refl
 ended_dashes command.Serve asked rest = refl
 ended_dashes command.Compact asked rest = refl
+ended_dashes command.Encode asked rest = refl
+ended_dashes command.Decode asked rest = refl
 
 ended_empty : (c : Command) (asked : Options) → option_in c asked [] ≡ None
 ended_empty command.Table asked = refl
@@ -101,6 +105,8 @@ ended_empty command.Compare asked = refl
 ended_empty command.Crowd asked = refl
 ended_empty command.Serve asked = refl
 ended_empty command.Compact asked = refl
+ended_empty command.Encode asked = refl
+ended_empty command.Decode asked = refl
 
 ended_operands : (c : Command) (asked : Options) (words operands : List Text) → AreOperands words operands → option_in c asked words ≡ None
 ended_operands c asked words [] (inl p) = subst (λ ws. option_in c asked ws ≡ None) (sym p.0) (ended_empty c asked)

@@ -13,6 +13,13 @@ module _ {X : Type 0} (text : X → Text) (asked : Options) where
   closure_short (a ∷ b ∷ d ∷ []) lt = refl
   closure_short (a ∷ b ∷ d ∷ e ∷ more) lt = absurd (omega arith)
 
+  pub encode_short : (xs : List X) → length xs < 4 → None ≡ call_of command.Encode asked (map text xs)
+  encode_short [] lt = refl
+  encode_short (a ∷ []) lt = refl
+  encode_short (a ∷ b ∷ []) lt = refl
+  encode_short (a ∷ b ∷ d ∷ []) lt = refl
+  encode_short (a ∷ b ∷ d ∷ e ∷ more) lt = absurd (omega arith)
+
   pub compare_short : (xs : List X) → length xs < 5 → None ≡ call_of command.Compare asked (map text xs)
   compare_short [] lt = refl
   compare_short (a ∷ []) lt = refl

@@ -5,7 +5,7 @@ use Rattle.command_line.specs.Commands.{command_in}
 use Rattle.command_line.specs.Options.{HasForm, lack_journal}
 use Rattle.command_line.specs.Subjects.{format_or_text, subject_in}
 use Rattle.command_line.specs.declared.call.Call.{Call}
-use Rattle.command_line.specs.declared.call.Call.TheVariants.{Table, Run, Closure, Compare, Crowd, Serve, Compact}
+use Rattle.command_line.specs.declared.call.Call.TheVariants.{Table, Run, Closure, Compare, Crowd, Serve, Compact, Encode, Decode}
 use Rattle.command_line.specs.declared.command.Command.{Command}
 use Rattle.command_line.specs.declared.command.Command.TheVariants as command
 use Rattle.command_line.specs.declared.options.Options.{Options}
@@ -23,6 +23,8 @@ call_of command.Crowd asked (one ∷ other ∷ net ∷ slot ∷ node ∷ []) =
 call_of command.Serve asked [] = if lack_journal asked then None
     else Some (Serve asked.workers asked.bytes asked.explain asked.journal asked.from)
 call_of command.Compact asked (file ∷ []) = Some (Compact file)
+call_of command.Encode asked (from ∷ slot ∷ slices ∷ statement ∷ []) = Some (Encode from slot slices statement)
+call_of command.Decode asked (digits ∷ []) = Some (Decode digits)
 call_of c asked operands = None
 
 -- the words are this call: the name of a command, and behind it options and operands of which it makes the call

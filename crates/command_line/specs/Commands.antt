@@ -14,4 +14,6 @@ command_in name =
     else (if bytes_eq name (codes "compare") then Some command.Compare
     else (if bytes_eq name (codes "crowd") then Some command.Crowd
     else (if bytes_eq name (codes "serve") then Some command.Serve
-    else (if bytes_eq name (codes "compact") then Some command.Compact else None))))))
+    else (if bytes_eq name (codes "compact") then Some command.Compact
+    else (if bytes_eq name (codes "encode") then Some command.Encode
+    else (if bytes_eq name (codes "decode") then Some command.Decode else None))))))))

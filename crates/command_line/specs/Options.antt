@@ -102,6 +102,8 @@ option_in command.Compare asked words = with_explanation asked words
 option_in command.Crowd asked words = None
 option_in command.Serve asked words = serving_in asked words
 option_in command.Compact asked words = None
+option_in command.Encode asked words = None
+option_in command.Decode asked words = None
 
 -- ---- all of them
 

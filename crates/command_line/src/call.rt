@@ -84,6 +84,22 @@ pub enum Call {
         /// The name of the journal; `-` is the standard input.
         file: Word,
     },
+    /// `encode FROM SLOT SLICES STATEMENT`: print the bytes of the envelope that these words are.
+    Encode {
+        /// The sender.
+        from: Word,
+        /// The slot.
+        slot: Word,
+        /// The sender's slices.
+        slices: Word,
+        /// The statement.
+        statement: Word,
+    },
+    /// `decode HEX`: print the words of the envelope that bytes are, or their fault.
+    Decode {
+        /// The bytes in lower-case hexadecimal; `-` is none.
+        digits: Word,
+    },
 }
 
 /// What is answered to words that are no call.
@@ -191,6 +207,8 @@ fn made_call<S: AsStr>(
         Command::Crowd => crowd_call(alloc, asked, operands),
         Command::Serve => serve_call(alloc, asked, operands),
         Command::Compact => compact_call(alloc, asked, operands),
+        Command::Encode => encode_call(alloc, asked, operands),
+        Command::Decode => decode_call(alloc, asked, operands),
     }
 }
 
@@ -345,6 +363,49 @@ fn compact_call<S: AsStr>(
         [file] => {
             let file = Word::new(alloc, file.as_str())?;
             Ok(Some(Call::Compact { file }))
+        }
+        _ => Ok(None),
+    }
+}
+
+/// The call of `encode` with these operands, if they are four words.
+fn encode_call<S: AsStr>(
+    alloc: Global,
+    asked: &Options<'_>,
+    operands: &[S],
+) -> Result<Option<Call>, AllocError>
+    ensures { IfOk result (λ call. call ≡ call_of Command.Encode asked.now (map S.text operands.now)) }
+{
+    match operands {
+        [from, slot, slices, statement] => {
+            let from = Word::new(alloc, from.as_str())?;
+            let slot = Word::new(alloc, slot.as_str())?;
+            let slices = Word::new(alloc, slices.as_str())?;
+            let statement = Word::new(alloc, statement.as_str())?;
+            Ok(Some(Call::Encode {
+                from,
+                slot,
+                slices,
+                statement,
+            }))
+        }
+        [_, _, _, _, _, ..] => Ok(None),
+        _ => Ok(None),
+    }
+}
+
+/// The call of `decode` with these operands, if they are one word.
+fn decode_call<S: AsStr>(
+    alloc: Global,
+    asked: &Options<'_>,
+    operands: &[S],
+) -> Result<Option<Call>, AllocError>
+    ensures { IfOk result (λ call. call ≡ call_of Command.Decode asked.now (map S.text operands.now)) }
+{
+    match operands {
+        [digits] => {
+            let digits = Word::new(alloc, digits.as_str())?;
+            Ok(Some(Call::Decode { digits }))
         }
         _ => Ok(None),
     }

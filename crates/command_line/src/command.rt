@@ -20,6 +20,10 @@ pub enum Command {
     Serve,
     /// `compact`: prints a shorter journal with the same future.
     Compact,
+    /// `encode`: prints the bytes of an envelope in words.
+    Encode,
+    /// `decode`: prints the words of an envelope's bytes.
+    Decode,
 }
 
 impl Command {
@@ -35,6 +39,8 @@ impl Command {
             "crowd" => Some(Command::Crowd),
             "serve" => Some(Command::Serve),
             "compact" => Some(Command::Compact),
+            "encode" => Some(Command::Encode),
+            "decode" => Some(Command::Decode),
             _ => None,
         }
     }

@@ -4,7 +4,7 @@ use crate::command::Command;
 use crate::options::Options;
 
 /// The commands in the order in which they are told.
-pub const COMMANDS: [Command; 7] = [
+pub const COMMANDS: [Command; 9] = [
     Command::Table,
     Command::Run,
     Command::Closure,
@@ -12,6 +12,8 @@ pub const COMMANDS: [Command; 7] = [
     Command::Crowd,
     Command::Serve,
     Command::Compact,
+    Command::Encode,
+    Command::Decode,
 ];
 
 /// A command, an operand or an option as it is spelled, and what is said of it.
@@ -74,6 +76,26 @@ const FILE: Part<'static> = Part {
 const JOURNAL_FILE: Part<'static> = Part {
     name: "<FILE>",
     about: "The journal, or - for the standard input",
+};
+
+const FROM_NODE: Part<'static> = Part {
+    name: "<FROM>",
+    about: "The name of the sender",
+};
+
+const SLICES: Part<'static> = Part {
+    name: "<SLICES>",
+    about: "The slices of the sender",
+};
+
+const STATEMENT: Part<'static> = Part {
+    name: "<STATEMENT>",
+    about: "The statement",
+};
+
+const HEX: Part<'static> = Part {
+    name: "<HEX>",
+    about: "The bytes in lower-case hexadecimal, or - for none",
 };
 
 const WORKERS: Part<'static> = Part {
@@ -263,6 +285,35 @@ all further lines alike, but for their numbers. FILE is not changed. For example
   scphost compact - < host.txt > shorter.txt",
 };
 
+/// `encode FROM SLOT SLICES STATEMENT`.
+const ENCODE: Form<'static> = Form {
+    command: Part {
+        name: "encode",
+        about: "Prints the bytes of an envelope in words",
+    },
+    operands: &[FROM_NODE, SLOT, SLICES, STATEMENT],
+    options: &[],
+    more: "The words are those of a line `say`, and the bytes those that it delivers, in hexadecimal.
+`decode` prints the words again. For example:
+  scphost encode A 1 '1[A]' 'nom(x+y|x)'
+  scphost encode B 1 '2[A,1[B,C]]' 'prep(9:m,9:m,6,0,0)'",
+};
+
+/// `decode HEX`.
+const DECODE: Form<'static> = Form {
+    command: Part {
+        name: "decode",
+        about: "Prints the words of an envelope in bytes, or the fault of the bytes",
+    },
+    operands: &[HEX],
+    options: &[],
+    more: "The words are FROM, SLOT, SLICES and STATEMENT, of which `encode` prints the bytes again. Of bytes
+that are no envelope it prints `bad`, the number of their fault and its name, and the status is 1.
+For example:
+  scphost decode 0101
+  scphost decode $(scphost encode A 1 '1[A]' 'nom(x|)')",
+};
+
 /// The form of a command.
 pub fn form_of(command: Command) -> Form<'static> {
     match command {
@@ -273,5 +324,7 @@ pub fn form_of(command: Command) -> Form<'static> {
         Command::Crowd => CROWD,
         Command::Serve => SERVE,
         Command::Compact => COMPACT,
+        Command::Encode => ENCODE,
+        Command::Decode => DECODE,
     }
 }

@@ -164,6 +164,8 @@ fn option_before<'a, S: AsStr>(
         Command::Crowd => None,
         Command::Serve => serving_before(asked, words),
         Command::Compact => None,
+        Command::Encode => None,
+        Command::Decode => None,
     }
 }
 

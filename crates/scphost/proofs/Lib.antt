@@ -2,3 +2,4 @@ mod PrintingLaws
 mod CommandLaws
 pub mod HostingLaws
 mod RememberingLaws
+mod TranslatingLaws

@@ -4,3 +4,4 @@ pub mod Commands
 pub mod Printing
 pub mod Remembering
 pub mod Reporting
+pub mod Translating

@@ -1,5 +1,5 @@
 -- What the commands print, and how they end.
-use Rattle.std.specs.Prelude.{◌≡◌, ◌⊎◌, ℕ, Bool, false, true, [], Option, Some, None, Result, Ok, Err, string_bytes}
+use Rattle.std.specs.Prelude.{◌≡◌, ◌⊎◌, ℕ, Bool, false, true, not, [], Option, Some, None, Result, Ok, Err, string_bytes}
 use Rattle.std.specs.Io.KnownBytes.{Appends, Keeps}
 use Rattle.scripts.specs.Script.{Bytes}
 use Rattle.scripts.specs.Runs.{HasRunScript, Refusing, Telling}
@@ -16,12 +16,13 @@ use Rattle.answers.specs.Comparisons.{IsComparison}
 use Rattle.answers.specs.Crowding.{TellsCrowd}
 use Rattle.scphost.specs.Hosting.{HasMadeShorter, HasServed}
 use Rattle.scphost.specs.Reporting.{IsReport}
+use Rattle.scphost.specs.Translating.{IsDecoding, IsEncoding, StopsDecoding, StopsEncoding}
 use Rattle.answers.specs.Scripts.{IsPlannedBy, IsSubmittedBy, IsStoryOf, Story, longest_script}
 use Rattle.answers.specs.Scripts.{StopsPlan, StopsStories, StopsStory, StopsSubmissions}
 use Rattle.scphost.specs.Stops.{End, IsEndOf}
 use Rattle.answers.specs.declared.answer.Answer.{Answer}
 use Rattle.command_line.specs.declared.call.Call.{Call}
-use Rattle.command_line.specs.declared.call.Call.TheVariants.{Table, Run, Closure, Compare, Crowd, Serve, Compact}
+use Rattle.command_line.specs.declared.call.Call.TheVariants.{Table, Run, Closure, Compare, Crowd, Serve, Compact, Encode, Decode}
 use Rattle.command_line.specs.declared.call.Usage.{Usage}
 use Rattle.command_line.specs.declared.call.Usage.TheVariants.{Help, Bad, NoMemory}
 use Rattle.command_line.specs.declared.subject.Format.{Format}
@@ -71,13 +72,19 @@ HasRunLines {S = S} tells refuses start script old new end =
     (ran : Result (Unit {0}) Stop) × (last : S) × IsEndOf ran end
     × HasRunScript longest_script tells refuses start script old new ran last
 
+-- whether a call is about one envelope, in words or as bytes
+abbrev pub is_translation : Call → Bool
+is_translation (Encode from slot slices statement) = true
+is_translation (Decode digits) = true
+is_translation _ = false
+
 -- whether a call names the files that it reads
 abbrev pub names_files : Call → Bool
 names_files (Serve workers bytes explain journal from) = false
-names_files _ = true
+names_files call = not (is_translation call)
 
--- what a call does with its files: it runs the lines of one, prints the answer, or makes one shorter; a call that names none
--- is not performed so
+-- what a call does with its files: it runs the lines of one, prints the answer, or makes one shorter; what is about one
+-- envelope has none, and `serve` is not performed so
 abbrev pub IsPerformed : Call → Option Bytes → Option Bytes → Option Bytes → Option Bytes → End → Type 0
 IsPerformed (Table file) first second old new end =
     HasRunLines TableLines.Tells TableLines.Refuses None first old new end
@@ -93,6 +100,10 @@ IsPerformed (Crowd one other subject) first second old new end =
     HasAnswered (IsCrowd subject first second) (StopsSubmissions first second) old new end
 IsPerformed (Serve workers bytes explain journal from) first second old new end = ⊥
 IsPerformed (Compact file) first second old new end = HasMadeShorter first old new end
+IsPerformed (Encode from slot slices statement) first second old new end =
+    HasAnswered (IsEncoding from slot slices statement) (StopsEncoding from slot slices statement) old new end
+IsPerformed (Decode digits) first second old new end =
+    HasAnswered (IsDecoding digits) (StopsDecoding digits) old new end
 
 -- the same of lines each of which is answered before the next one is read
 abbrev pub HasRunAsTheyCome : {S : Type 0} → Telling S → Refusing S → S → Option Bytes → Option Bytes → Option Bytes
@@ -118,6 +129,9 @@ IsPerformedAsItComes (Crowd one other subject) input old new end =
 IsPerformedAsItComes (Serve workers bytes explain journal from) input old new end =
     HasServed bytes journal from input old new end
 IsPerformedAsItComes (Compact file) input old new end = HasMadeShorter input old new end
+IsPerformedAsItComes (Encode from slot slices statement) input old new end =
+    IsPerformed (Encode from slot slices statement) input (Some []) old new end
+IsPerformedAsItComes (Decode digits) input old new end = IsPerformed (Decode digits) input (Some []) old new end
 
 -- what answers words that are no call: help is printed whole, or a write failed (4); else nothing is printed, and the
 -- words are at fault (2), or there was no memory (3)

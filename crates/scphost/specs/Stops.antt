@@ -8,7 +8,7 @@ use Rattle.journal.specs.Faults.{fault_of_stop}
 use Rattle.journal.specs.declared.fault.JournalFault.{JournalFault}
 use Rattle.journal.specs.declared.fault.JournalFault.TheVariants as journal
 
--- the exit status: 2 for a script at fault, 3 for want of memory, 4 for a write that failed
+-- the exit status: 2 for a script or words at fault, 3 for want of memory, 4 for a write that failed
 abbrev pub status_of : Stop → ℕ
 status_of stop.CannotRead = 2
 status_of stop.TooLong = 2
@@ -16,11 +16,11 @@ status_of (stop.BadLine number) = 2
 status_of stop.NoMemory = 3
 status_of stop.CannotWrite = 4
 
--- how a call ended: whether what it compared differs, or what stopped it
+-- how a call ended: whether what it compared differs, or the bytes that it read have a fault; or what stopped it
 abbrev pub End : Type 0
 End = Result Bool Stop
 
--- the exit status of a call: 1 for a difference, else 0 or that of the stop
+-- the exit status of a call: 1 for a difference or a fault, else 0 or that of the stop
 abbrev pub status_of_end : End → ℕ
 status_of_end (Ok differs) = if differs then 1 else 0
 status_of_end (Err stop) = status_of stop

@@ -6,6 +6,7 @@ ghost use Rattle.scphost.specs.Printing.{names_files};
 
 use crate::outputs::Outputs;
 use crate::perform::{exit_status, perform, perform_stream, print_stop, print_usage};
+use crate::translating::translate;
 use command_line::{Call, read_call};
 use feed::READ_SIZE;
 use scripts::Stop;
@@ -40,7 +41,7 @@ pub fn answer_words<
 
 /// Opens the files of a call in order and carries it out. The file `-` is the standard input, and a live host reads its
 /// lines there.
-#[tactic(auto, using(crate::proofs::CommandLaws::performed_as_it_comes, crate::proofs::CommandLaws::no_room))]
+#[tactic(auto, using(crate::proofs::CommandLaws::performed_on, crate::proofs::CommandLaws::performed_as_it_comes, crate::proofs::CommandLaws::no_room))]
 fn open_and_perform<
     R: Files<File = File> + Input + AllocGlobal + Threads + Wait + Sync + Send + Copy + Drop,
     W: Write,
@@ -56,6 +57,7 @@ fn open_and_perform<
         Call::Compare { first, second, .. } | Call::Crowd { first, second, .. } => {
             perform_two(rt, call, first.as_str(), second.as_str(), outputs)
         }
+        Call::Encode { .. } | Call::Decode { .. } => translate(rt.alloc(), call, outputs),
         // The reader of a pipe asks it for each byte.
         Call::Serve { .. } => match BufReader::with_capacity(rt.alloc(), READ_SIZE, rt.reader()) {
             Ok(mut input) => perform_stream(rt, call, &mut input, outputs),

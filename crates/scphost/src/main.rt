@@ -10,6 +10,7 @@ mod pooling;
 mod printing;
 mod remembering;
 mod reporting;
+mod translating;
 
 use command::answer_words;
 use command_line::Usage;

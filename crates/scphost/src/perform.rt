@@ -14,6 +14,7 @@ use crate::outputs::Outputs;
 use crate::pooling::answer_pool;
 use crate::printing::{print_answer, write_text};
 use crate::reporting::answer_closure;
+use crate::translating::translate;
 use answers::{FinishedScript, Side, Sides, answer_compare, answer_crowd, read_submission};
 use command_line::{Call, Format, PoolSize, Usage, Word};
 use runs::HostRun;
@@ -30,7 +31,7 @@ use types::Subject;
 /// The status of a call that was carried out.
 pub const DONE: u8 = 0;
 
-/// The status of a comparison that finds a difference.
+/// The status of a comparison that finds a difference, and of bytes that are no envelope.
 pub const DIFFERS: u8 = 1;
 
 /// The status of bad usage and of a script at fault.
@@ -44,7 +45,7 @@ pub const NO_WRITE: u8 = 4;
 
 /// Carries out a call on the files that it names, in their order, of which the second is empty
 /// where it names one, and answers how it ended: whether what it compared differs, or what stopped it. A call that names
-/// none is for [`perform_stream`].
+/// none is for [`perform_stream`], or for [`translate`].
 ///
 /// What the call prints goes to `outputs.out`, and one line on what ended it early to `outputs.err`. Of `table` and
 /// `run` what lines before a bad one printed is written by then; `closure`, `compare`, `crowd` and `compact`
@@ -112,7 +113,7 @@ pub fn perform<
             };
             perform_crowd(rt.alloc(), &request, first, second, outputs)
         }
-        Call::Serve { .. } => unreachable!(),
+        Call::Serve { .. } | Call::Encode { .. } | Call::Decode { .. } => unreachable!(),
         Call::Compact { file } => make_file_shorter(rt, file.as_str(), first, outputs),
     }
 }
@@ -307,11 +308,10 @@ pub fn perform_stream<
 >(rt: &A, call: &Call, input: &mut R, outputs: &mut Outputs<W, E>) -> Result<bool, Stop>
     ensures { IsPerformedAsItComes call.now (R.remaining input.old) (W.contents outputs.old.out) (W.contents outputs.new.out) result }
 {
-    let alloc = rt.alloc();
     match call {
         Call::Table { file } => {
             let mut run = TableRun::new();
-            let ran = run_stream(alloc, &mut run, input, &mut outputs.out);
+            let ran = run_stream(rt.alloc(), &mut run, input, &mut outputs.out);
             drop(run);
             print_end(ran, file.as_str(), &mut outputs.err)
         }
@@ -319,8 +319,8 @@ pub fn perform_stream<
             script,
             workers: None,
         } => {
-            let mut run = HostRun::new(alloc);
-            let ran = run_stream(alloc, &mut run, input, &mut outputs.out);
+            let mut run = HostRun::new(rt.alloc());
+            let ran = run_stream(rt.alloc(), &mut run, input, &mut outputs.out);
             drop(run);
             print_end(ran, script.as_str(), &mut outputs.err)
         }
@@ -355,6 +355,7 @@ pub fn perform_stream<
             }
         }
         Call::Compact { file } => make_shorter(rt, file.as_str(), input, outputs),
+        Call::Encode { .. } | Call::Decode { .. } => translate(rt.alloc(), call, outputs),
     }
 }
 
@@ -411,8 +412,9 @@ pub fn print_stop<E: Write>(stop: Stop, file: &str, err: &mut E) -> Result<bool,
     Err(stop)
 }
 
-/// The exit status of a call that ended so: 2 for a file that cannot be read, is too long or has a bad line, 3 for want
-/// of memory, 4 for a write that failed; 1 for a comparison that finds a difference.
+/// The exit status of a call that ended so: 2 for words or a file that cannot be read, and for a file that is too long or
+/// has a bad line, 3 for want of memory, 4 for a write that failed; 1 for a comparison that finds a difference, and for
+/// bytes that are no envelope.
 pub fn exit_status(end: Result<bool, Stop>) -> u8
     ensures { result ≡ status_of_end end }
 {

@@ -1,0 +1,35 @@
+-- What is printed of envelopes in words and as bytes.
+use Rattle.std.specs.Prelude.{◌≡◌, Bool, false, string_bytes}
+use Rattle.scripts.specs.Script.{Bytes}
+use Rattle.scripts.specs.declared.run.Stop.{Stop}
+use Rattle.scripts.specs.declared.run.Stop.TheVariants as stop
+use Rattle.translations.specs.Translations.{DecodesBack, EncodesBack, IsDecoded, IsEncoded}
+use Rattle.answers.specs.declared.answer.Answer.{Answer}
+
+-- the answer is the line of the bytes of the envelope that four words spell, from which it is read back
+pub record IsEncoding (from slot slices statement : Bytes) (a : Answer) : Type 0 where
+  pub differs : a.differs ≡ false
+  pub encoded : IsEncoded from slot slices statement (string_bytes a.text)
+  pub back : DecodesBack from slot slices statement (string_bytes a.text)
+
+-- the answer is the line of the fault of bytes, as a difference, or that of their envelope, of which these bytes are
+-- printed again
+pub record IsDecoding (digits : Bytes) (a : Answer) : Type 0 where
+  pub decoded : IsDecoded digits a.differs (string_bytes a.text)
+  pub back : a.differs ≡ false → EncodesBack digits (string_bytes a.text)
+
+-- why nothing is printed of words: they cannot be read, or memory is short
+abbrev pub StopsReading : Type 0 → Stop → Type 0
+StopsReading Unread stop.CannotRead = Unread
+StopsReading Unread stop.TooLong = ⊥
+StopsReading Unread (stop.BadLine number) = ⊥
+StopsReading Unread stop.NoMemory = Unit {0}
+StopsReading Unread stop.CannotWrite = ⊥
+
+-- the same of four words, which spell no envelope
+abbrev pub StopsEncoding : Bytes → Bytes → Bytes → Bytes → Stop → Type 0
+StopsEncoding from slot slices statement = StopsReading ((line : Bytes) → ¬ IsEncoded from slot slices statement line)
+
+-- the same of a word that spells no bytes
+abbrev pub StopsDecoding : Bytes → Stop → Type 0
+StopsDecoding digits = StopsReading ((d : Bool × Bytes) → ¬ IsDecoded digits d.0 d.1)

@@ -1,0 +1,159 @@
+//! Envelopes in words and as bytes.
+
+ghost use Rattle.std.specs.Prelude.{◌≡◌, Err, IsTrue, None};
+ghost use Rattle.scphost.specs.Printing.{HasAnswered, IsPerformed, is_translation};
+ghost use Rattle.scphost.specs.Translating.{IsDecoding, IsEncoding, StopsDecoding, StopsEncoding};
+
+use crate::outputs::Outputs;
+use crate::perform::print_stop;
+use crate::printing::print_answer;
+use answers::Answer;
+use command_line::{Call, Word};
+use scripts::{Stop, name_of, number_of, slices_of};
+use std::alloc::{AllocError, Global};
+use std::io::Write;
+use translations::{Decoded, decode_digits, encode_words};
+
+/// Carries out `encode` or `decode`, and answers how it ended: whether bytes have a fault, or what stopped it.
+pub fn translate<W: Write, E: Write>(
+    alloc: Global,
+    call: &Call,
+    outputs: &mut Outputs<W, E>,
+) -> Result<bool, Stop>
+    requires { IsTrue (is_translation call.now) }
+    ensures { IsPerformed call.now None None (W.contents outputs.old.out) (W.contents outputs.new.out) result }
+{
+    match call {
+        Call::Encode {
+            from,
+            slot,
+            slices,
+            statement,
+        } => {
+            let words = EnvelopeWords {
+                from,
+                slot,
+                slices,
+                statement,
+            };
+            print_encoded(alloc, &words, outputs)
+        }
+        Call::Decode { digits } => print_decoded(alloc, digits, outputs),
+        Call::Table { .. }
+        | Call::Run { .. }
+        | Call::Closure { .. }
+        | Call::Compare { .. }
+        | Call::Crowd { .. }
+        | Call::Serve { .. }
+        | Call::Compact { .. } => unreachable!(),
+    }
+}
+
+/// The four words of an envelope.
+#[derive(Clone, Copy)]
+struct EnvelopeWords<'a> {
+    /// The sender.
+    from: &'a Word,
+    /// The slot.
+    slot: &'a Word,
+    /// The sender's slices.
+    slices: &'a Word,
+    /// The statement.
+    statement: &'a Word,
+}
+
+/// Prints the bytes of the envelope that four words spell. Words that spell none cannot be read: it is said on
+/// `outputs.err` which of them is wrong.
+fn print_encoded<W: Write, E: Write>(
+    alloc: Global,
+    words: &EnvelopeWords<'_>,
+    outputs: &mut Outputs<W, E>,
+) -> Result<bool, Stop>
+    ensures { HasAnswered (IsEncoding words.now.from.now words.now.slot.now words.now.slices.now words.now.statement.now)
+        (StopsEncoding words.now.from.now words.now.slot.now words.now.slices.now words.now.statement.now)
+        (W.contents outputs.old.out) (W.contents outputs.new.out) result }
+{
+    let from = bytes_of(words.from);
+    let slot = bytes_of(words.slot);
+    let slices = bytes_of(words.slices);
+    let statement = bytes_of(words.statement);
+    match encode_words(alloc, from, slot, slices, statement) {
+        Ok(Some(text)) => {
+            let answer = Answer {
+                differs: false,
+                text,
+            };
+            print_answer(&answer, outputs)
+        }
+        Ok(None) => {
+            let (operand, word) = wrong_word(alloc, words);
+            print_wrong_word(operand, word, &mut outputs.err)
+        }
+        Err(_) => print_stop(Stop::NoMemory, "", &mut outputs.err),
+    }
+}
+
+/// Prints the words of the envelope that bytes in hexadecimal spell, or the fault of the bytes, and says whether they have
+/// one. A word that is no such bytes cannot be read, which is said on `outputs.err`.
+fn print_decoded<W: Write, E: Write>(
+    alloc: Global,
+    digits: &Word,
+    outputs: &mut Outputs<W, E>,
+) -> Result<bool, Stop>
+    ensures { HasAnswered (IsDecoding digits.now) (StopsDecoding digits.now) (W.contents outputs.old.out) (W.contents outputs.new.out) result }
+{
+    match decode_digits(alloc, bytes_of(digits)) {
+        Ok(Some(decoded)) => {
+            let answer = answer_of(decoded);
+            print_answer(&answer, outputs)
+        }
+        Ok(None) => print_wrong_word("<HEX>", digits.as_str(), &mut outputs.err),
+        Err(_) => print_stop(Stop::NoMemory, "", &mut outputs.err),
+    }
+}
+
+/// The answer that says what bytes are; a fault is told as a difference is.
+fn answer_of(decoded: Decoded) -> Answer
+    ensures { result ≡ record { differs = decoded.is_fault; text = decoded.line } }
+{
+    Answer {
+        differs: decoded.is_fault,
+        text: decoded.line,
+    }
+}
+
+/// The bytes of a word.
+fn bytes_of(word: &Word) -> &[u8]
+    ensures { result.now ≡ word.now }
+{
+    word.as_str().as_bytes()
+}
+
+/// Which of four words that spell no envelope is wrong, with the name of its operand: the first that does not have its form,
+/// else the statement, which breaks a rule.
+fn wrong_word<'a>(alloc: Global, words: &EnvelopeWords<'a>) -> (&'static str, &'a str) {
+    let from = words.from;
+    let slot = words.slot;
+    let slices = words.slices;
+    if name_of(bytes_of(from)).is_none() {
+        return ("<FROM>", from.as_str());
+    }
+    if number_of(bytes_of(slot)).is_none() {
+        return ("<SLOT>", slot.as_str());
+    }
+    match slices_of(alloc, bytes_of(slices)) {
+        Ok(None) => ("<SLICES>", slices.as_str()),
+        _ => ("<STATEMENT>", words.statement.as_str()),
+    }
+}
+
+/// Says on `err` that a word is no such operand, and answers that it cannot be read.
+fn print_wrong_word<E: Write>(operand: &str, word: &str, err: &mut E) -> Result<bool, Stop>
+    ensures { result ≡ Err Stop.CannotRead }
+{
+    let _ = write!(
+        err,
+        "error: invalid value '{word}' for '{operand}'\n\nFor more information, try '--help'.\n"
+    );
+    Err(Stop::CannotRead)
+}
