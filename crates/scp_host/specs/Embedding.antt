@@ -1,0 +1,64 @@
+-- A live host in a program of another language: what is kept of it between two calls, and what a call makes of that.
+use Rattle.std.specs.Prelude.{◌≡◌, ◌+◌, ◌^◌, ◌++◌, ℕ, Bool, true, false, [], length, drop, nat_le, Option, Some, None, if◌then◌else◌}
+use Rattle.scripts.specs.Script.{Bytes}
+use Rattle.feed.specs.WholeLines.{given}
+use Rattle.feed.specs.Served.{Reply, is_kept}
+use Rattle.feed.specs.declared.reading.TheConstants.{LONGEST_LINE}
+use Rattle.serving.specs.Hosts.{Live, Serves, new_live}
+use Rattle.scp_host.specs.declared.status.Status.{Status}
+use Rattle.scp_host.specs.declared.status.Status.TheVariants.{Done, Kept, NoMemory, NoHost, NoNumber}
+
+-- a live host between two calls: its networks, how many lines it was given, and the block of the last of them
+pub record Host : Type 0 where
+  pub live : Live
+  pub count : ℕ
+  pub block : Bytes
+
+-- a host without networks that was given no line
+abbrev pub just_made : Bool → Host
+just_made bytes = record { live = new_live bytes; count = 0; block = [] }
+
+-- the number that stands for what became of a call
+abbrev pub code_of : Status → ℕ
+code_of Done = 0
+code_of Kept = 1
+code_of NoMemory = 2
+code_of NoHost = 3
+code_of NoNumber = 4
+
+-- the host answered its next line as a live host answers the line with that number, and has its block; and whether a
+-- journal keeps the line
+abbrev pub IsAnswered : Bool → Bytes → Host → Host → Type 0
+IsAnswered kept line old new =
+    (a : Reply) × Serves old.live new.count (given LONGEST_LINE line) a new.live
+    × (new.count ≡ old.count + 1) × (new.block ≡ a.text) × (kept ≡ is_kept a)
+
+-- what a host makes of a line. Where memory is short, what is left of the host is not said.
+abbrev pub HasAnswered : Status → Bytes → Host → Host → Type 0
+HasAnswered Done line old new = IsAnswered false line old new
+HasAnswered Kept line old new = IsAnswered true line old new
+HasAnswered NoMemory line old new = Unit {0}
+HasAnswered NoHost line old new = ⊥
+HasAnswered NoNumber line old new = (old.count + 1 ≡ 2 ^ 64) × (new ≡ old)
+
+-- a line is handed to what a handle holds. A host of which memory was short is held no more.
+abbrev pub HasLine : Status → Bytes → Option Host → Option Host → Type 0
+HasLine status line None new = (status ≡ NoHost) × (new ≡ None)
+HasLine NoMemory line (Some old) new = new ≡ None
+HasLine status line (Some old) None = ⊥
+HasLine status line (Some old) (Some new) = HasAnswered status line old new
+
+-- a handle holds a new host, unless memory is short: then it holds what it held
+abbrev pub HasMade : Status → Bool → Option Host → Option Host → Type 0
+HasMade Done bytes old new = new ≡ Some (just_made bytes)
+HasMade NoMemory bytes old new = new ≡ old
+HasMade _ bytes old new = ⊥
+
+-- the block of the last line that the host was given
+abbrev pub block_of : Option Host → Bytes
+block_of None = []
+block_of (Some host) = host.block
+
+-- room with a block at its front, if it fits
+abbrev pub filled : Bytes → Bytes → Bytes
+filled block room = if nat_le (length block) (length room) then block ++ drop (length block) room else room

@@ -1,0 +1,2 @@
+pub mod Embedding
+pub mod Owned
