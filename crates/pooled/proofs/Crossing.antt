@@ -23,6 +23,7 @@ use Rattle.workers.proofs.Crossing.{host_send}
 use Rattle.workers.proofs.Handles.{handle_send}
 use Rattle.hoststep.proofs.Crossing.{config_send}
 use Rattle.pooled.specs.contracts.hosting.OpenNetwork as OpenNetwork
+use Rattle.pooled.specs.contracts.hosting.UnopenedNetwork as UnopenedNetwork
 use Rattle.pooled.specs.contracts.joining.UnopenedNetworks as UnopenedNetworks
 
 -- where an envelope was put
@@ -45,5 +46,8 @@ opened_send R w s y =
 pub answer_send : (T : RattleType) → IsSend T → IsSend (Result.the_row (Vec.the_row T Global.the_row frees.ghosts) AllocError.the_row)
 answer_send T s = search (sendable, crosses) depth 20
 
+network_send : IsSend UnopenedNetwork.the_row
+network_send = search (sendable, crosses, config_send) depth 40
+
 pub unopened_send : (R : RattleType) → IsSend R → IsSync R → IsSend (UnopenedNetworks.the_row R)
-unopened_send R s y = let handle = handle_send R s y in search (sendable, crosses, config_send) depth 40
+unopened_send R s y = let handle = handle_send R s y in search (sendable, crosses, network_send) depth 40

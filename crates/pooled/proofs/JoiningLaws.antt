@@ -1,52 +1,56 @@
 -- Slots that a seat asks for, and networks that are opened and join, one after the other.
-use Rattle.std.proofs.Common.{◌≡◌, ◌∙◌, ◌<◌, ◌≤◌, ◌+◌, ℕ, List, [], ◌∷◌, ◌++◌, drop, get_or, length, map, refl, sym, ap, subst, arith}
+use Rattle.std.proofs.Common.{◌≡◌, ◌∙◌, ◌<◌, ◌≤◌, ◌+◌, ℕ, List, [], ◌∷◌, ◌++◌, drop, get_or, length, refl, sym, ap, subst, arith}
+use Rattle.std.specs.List.{AllZip}
 use Rattle.std.proofs.lemmas.List.{append-nil, append_assoc, drop_all, drop_more}
 use Rattle.protocol.specs.Hosts.{Config}
 use Rattle.cells.specs.Sights.{CellSight, SeatSight}
 use Rattle.workers.specs.NetSights.{Net}
 use Rattle.workers.specs.Nets.{NoNet, nets_with}
 use Rattle.workers.proofs.Pairs.{zip-append}
-use Rattle.pooled.specs.Opening.{AreHosted, AreReady, HasAsked, HaveAsked, JoinInTurn, IsReady, slots_of}
+use Rattle.pooled.specs.Opening.{AreGiven, AreHosted, AreReady, HasAsked, HaveAsked, JoinInTurn, IsReady, slots_of}
+use Rattle.pooled.specs.declared.hosting.UnopenedNetwork.{UnopenedNetwork}
 use Rattle.pooled.specs.Opening.HaveAsked.{none as asked_none, more as asked_more}
 use Rattle.pooled.specs.Opening.AreHosted.{none as hosted_none, more as hosted_more}
 
 -- one slot more
-pub asked_on : (c : CellSight) (opens : List (ℕ × ℕ)) (i : ℕ) (d : ℕ × ℕ) (old seat next : SeatSight) → i < length opens → HasAsked c (get_or opens i d).1 seat next
-    → ((u : SeatSight) → HaveAsked c (map (λ o. o.1) (drop i opens)) seat u → HaveAsked c (map (λ o. o.1) opens) old u)
-    → (u : SeatSight) → HaveAsked c (map (λ o. o.1) (drop (i + 1) opens)) next u → HaveAsked c (map (λ o. o.1) opens) old u
-asked_on c opens i d old seat next l one rest u later =
-    rest u (subst (λ os. HaveAsked c (map (λ o. o.1) os) seat u) (sym (drop_more opens i d l)) (asked_more one later))
+pub asked_on : (c : CellSight) (slots : List ℕ) (i d : ℕ) (old seat next : SeatSight) → i < length slots → HasAsked c (get_or slots i d) seat next
+    → ((u : SeatSight) → HaveAsked c (drop i slots) seat u → HaveAsked c slots old u)
+    → (u : SeatSight) → HaveAsked c (drop (i + 1) slots) next u → HaveAsked c slots old u
+asked_on c slots i d old seat next l one rest u later = rest u (subst (λ ss. HaveAsked c ss seat u) (sym (drop_more slots i d l)) (asked_more one later))
 
 -- no slot is left
-pub asked_all : (c : CellSight) (opens : List (ℕ × ℕ)) (i : ℕ) (old seat : SeatSight) → length opens ≤ i
-    → ((u : SeatSight) → HaveAsked c (map (λ o. o.1) (drop i opens)) seat u → HaveAsked c (map (λ o. o.1) opens) old u) → HaveAsked c (map (λ o. o.1) opens) old seat
-asked_all c opens i old seat l rest = rest seat (subst (λ os. HaveAsked c (map (λ o. o.1) os) seat seat) (sym (drop_all i opens l)) asked_none)
+pub asked_all : (c : CellSight) (slots : List ℕ) (i : ℕ) (old seat : SeatSight) → length slots ≤ i
+    → ((u : SeatSight) → HaveAsked c (drop i slots) seat u → HaveAsked c slots old u) → HaveAsked c slots old seat
+asked_all c slots i old seat l rest = rest seat (subst (λ ss. HaveAsked c ss seat seat) (sym (drop_all i slots l)) asked_none)
 
--- ---- networks that are opened, one after the other
+-- ---- what is made of each of a list, one after the other
 
--- of one half of the configurations, and of the other
-pub ready_halves : (many : ℕ) (opens : List (ℕ × ℕ)) (all low high : List Config) (ns ms nets : List Net) → all ≡ low ++ high → nets ≡ ns ++ ms
-    → AreReady many opens low ns → AreReady many opens high ms → AreReady many opens all nets
-ready_halves many opens all low high ns ms nets all_is nets_is one other =
-    subst (λ (z : List Config × List Net). AreReady many opens z.0 z.1) (λ i. (sym all_is i, sym nets_is i)) (zip-append _ low high ns ms one other)
+module _ {A B : Type 0} (R : A → B → Type 0) where
+  -- whatever those that are left will be made to, behind what was made it is that of all
+  abbrev pub Makes : List A → List A → List B → Type 0
+  Makes all left made = (ys : List B) → AllZip R left ys → AllZip R all (made ++ ys)
 
--- whatever networks those that are left will be, behind these they are the networks of all
-abbrev pub Opens : ℕ → List (ℕ × ℕ) → List Config → List Config → List Net → Type 0
-Opens many opens all left nets = (ns : List Net) → AreReady many opens left ns → AreReady many opens all (nets ++ ns)
+  pub makes_none : (all left : List A) (made : List B) → left ≡ all → made ≡ [] → Makes all left made
+  makes_none all left made whole empty ys h = subst (λ zs. AllZip R all (zs ++ ys)) (sym empty) (subst (λ xs. AllZip R xs ys) whole h)
 
-pub opens_none : (many : ℕ) (opens : List (ℕ × ℕ)) (all left : List Config) (nets : List Net) → left ≡ all → nets ≡ [] → Opens many opens all left nets
-opens_none many opens all left nets whole empty ns h =
-    subst (λ ms. AreReady many opens all (ms ++ ns)) (sym empty) (subst (λ cs. AreReady many opens cs ns) whole h)
+  pub makes_more : (all left rest : List A) (x : A) (made now : List B) (y : B) → left ≡ x ∷ rest → R x y → now ≡ made ++ y ∷ [] → Makes all left made → Makes all rest now
+  makes_more all left rest x made now y is one grown whole ys h =
+      let longer : AllZip R all (made ++ y ∷ ys) = whole (y ∷ ys) (subst (λ xs. AllZip R xs (y ∷ ys)) (sym is) (one, h)) in
+      subst (AllZip R all) (sym (ap (λ zs. zs ++ ys) grown ∙ append_assoc made (y ∷ []) ys)) longer
 
-pub opens_more : (many : ℕ) (opens : List (ℕ × ℕ)) (all left rest : List Config) (c : Config) (nets now : List Net) (n : Net) → left ≡ c ∷ rest
-    → IsReady c many (slots_of c.number opens) n → now ≡ nets ++ n ∷ [] → Opens many opens all left nets → Opens many opens all rest now
-opens_more many opens all left rest c nets now n is one grown whole ns h =
-    let longer : AreReady many opens all (nets ++ n ∷ ns) = whole (n ∷ ns) (subst (λ cs. AreReady many opens cs (n ∷ ns)) (sym is) (one, h)) in
-    subst (AreReady many opens all) (sym (ap (λ ms. ms ++ ns) grown ∙ append_assoc nets (n ∷ []) ns)) longer
+  pub makes_all : (all left : List A) (made : List B) → length left ≡ 0 → Makes all left made → AllZip R all made
+  makes_all all [] made few whole = subst (AllZip R all) (append-nil made) (whole [] tt)
+  makes_all all (x ∷ xs) made few whole = absurd (omega (arith, few))
 
-pub all_opened : (many : ℕ) (opens : List (ℕ × ℕ)) (all left : List Config) (nets : List Net) → length left ≡ 0 → Opens many opens all left nets → AreReady many opens all nets
-all_opened many opens all [] nets few whole = subst (AreReady many opens all) (append-nil nets) (whole [] tt)
-all_opened many opens all (c ∷ cs) nets few whole = absurd (omega (arith, few))
+-- of one half of the networks, and of the other
+pub ready_halves : (many : ℕ) (all low high : List UnopenedNetwork) (ns ms nets : List Net) → all ≡ low ++ high → nets ≡ ns ++ ms
+    → AreReady many low ns → AreReady many high ms → AreReady many all nets
+ready_halves many all low high ns ms nets all_is nets_is one other =
+    subst (λ (z : List UnopenedNetwork × List Net). AreReady many z.0 z.1) (λ i. (sym all_is i, sym nets_is i)) (zip-append _ low high ns ms one other)
+
+-- with as many seats they are ready likewise
+pub ready_likewise : (m n : ℕ) (us : List UnopenedNetwork) (nets : List Net) → m ≡ n → AreReady m us nets → AreReady n us nets
+ready_likewise m n us nets seats h = subst (λ k. AreReady k us nets) seats h
 
 -- ---- networks that join, one after the other
 
@@ -63,15 +67,15 @@ all_joined all [] host few whole = whole host refl
 all_joined all (n ∷ ns) host few whole = absurd (omega (arith, few))
 
 -- networks that are ready have joined, with the slots in another order of all
-pub hosted : (many : ℕ) (opens sorted : List (ℕ × ℕ)) (cs : List Config) (ns old new : List Net) → ((g : ℕ) → slots_of g sorted ≡ slots_of g opens)
-    → AreReady many sorted cs ns → JoinInTurn ns old new → AreHosted many opens old cs new
-hosted many opens sorted [] [] old new kept ready joined = subst (AreHosted many opens old []) (sym joined) hosted_none
-hosted many opens sorted [] (n ∷ ns) old new kept ready joined = absurd ready
-hosted many opens sorted (c ∷ cs) [] old new kept ready joined = absurd ready
-hosted many opens sorted (c ∷ cs) (n ∷ ns) old new kept ready joined =
-    hosted_more n (subst (λ ss. IsReady c many ss n) (kept c.number) ready.0) (subst (NoNet old) (ap (λ (k : Config). k.number) ready.0.config) joined.0)
-    (hosted many opens sorted cs ns (nets_with n old) new kept ready.1 joined.1)
-
--- with the same seats and slots they are ready likewise
-pub ready_likewise : (m n : ℕ) (o p : List (ℕ × ℕ)) (configs : List Config) (nets : List Net) → m ≡ n → o ≡ p → AreReady m o configs nets → AreReady n p configs nets
-ready_likewise m n o p configs nets seats opens h = subst (λ k. AreReady k p configs nets) seats (subst (λ l. AreReady m l configs nets) opens h)
+pub hosted : (many : ℕ) (opens sorted : List (ℕ × ℕ)) (cs : List Config) (us : List UnopenedNetwork) (ns old new : List Net) → ((g : ℕ) → slots_of g sorted ≡ slots_of g opens)
+    → AreGiven sorted cs us → AreReady many us ns → JoinInTurn ns old new → AreHosted many opens old cs new
+hosted many opens sorted [] [] [] old new kept given ready joined = subst (AreHosted many opens old []) (sym joined) hosted_none
+hosted many opens sorted [] [] (n ∷ ns) old new kept given ready joined = absurd ready
+hosted many opens sorted [] (u ∷ us) ns old new kept given ready joined = absurd given
+hosted many opens sorted (c ∷ cs) [] ns old new kept given ready joined = absurd given
+hosted many opens sorted (c ∷ cs) (u ∷ us) [] old new kept given ready joined = absurd ready
+hosted many opens sorted (c ∷ cs) (u ∷ us) (n ∷ ns) old new kept given ready joined =
+    let slots : u.slots.items ≡ slots_of c.number opens = given.0.1 ∙ kept c.number in
+    let one : IsReady c many (slots_of c.number opens) n = subst (λ (z : Config × List ℕ). IsReady z.0 many z.1 n) (λ i. (given.0.0 i, slots i)) ready.0 in
+    hosted_more n one (subst (NoNet old) (ap (λ (k : Config). k.number) one.config) joined.0)
+    (hosted many opens sorted cs us ns (nets_with n old) new kept given.1 ready.1 joined.1)

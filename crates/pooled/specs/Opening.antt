@@ -9,6 +9,7 @@ use Rattle.cells.specs.Sights.{CellSight, SeatSight}
 use Rattle.cells.specs.Sounds.{IsWhy}
 use Rattle.workers.specs.NetSights.{Net}
 use Rattle.workers.specs.Nets.{NoNet, nets_with}
+use Rattle.pooled.specs.declared.hosting.UnopenedNetwork.{UnopenedNetwork}
 
 -- the slots of one network among those that are opened first, in order
 abbrev pub slots_of : ℕ → List (ℕ × ℕ) → List ℕ
@@ -45,9 +46,14 @@ pub data AreHosted (many : ℕ) (opens : List (ℕ × ℕ)) : List Net → List 
       → NoNet ns c.number
       → AreHosted many opens (nets_with n ns) cs ms → AreHosted many opens ns (c ∷ cs) ms
 
--- networks of these configurations, in their order, each ready with its first slots
-abbrev pub AreReady : ℕ → List (ℕ × ℕ) → List Config → List Net → Type 0
-AreReady many opens cs ns = AllZip (λ (c : Config) n. IsReady c many (slots_of c.number opens) n) cs ns
+-- networks of these configurations, in their order, each with its first slots, are to be opened
+abbrev pub AreGiven : List (ℕ × ℕ) → List Config → List UnopenedNetwork → Type 0
+AreGiven opens cs us =
+    AllZip (λ (c : Config) (u : UnopenedNetwork). (u.config ≡ c) × (u.slots.items ≡ slots_of c.number opens)) cs us
+
+-- networks that were to be opened, in their order, each ready with its first slots
+abbrev pub AreReady : ℕ → List UnopenedNetwork → List Net → Type 0
+AreReady many us ns = AllZip (λ (u : UnopenedNetwork) n. IsReady u.config many u.slots.items n) us ns
 
 -- networks have joined those that are hosted, one after the other
 abbrev pub JoinInTurn : List Net → List Net → List Net → Type 0

@@ -1,9 +1,9 @@
 //! A network that is opened, with its first slots, and joins a host.
 
-ghost use Rattle.std.specs.Prelude.{◌≡◌, ◌==◌, ◌<◌, ◌≤◌, IfOk, OnOk, filter, map, nat_le, nat_lt};
+ghost use Rattle.std.specs.Prelude.{◌≡◌, ◌==◌, ◌<◌, ◌≤◌, IfOk, OnOk, filter, nat_le, nat_lt};
 ghost use Rattle.std.specs.List.Sorted.{IsNonDecreasingBy};
 ghost use Rattle.cells.specs.Cells.{IsSeatOf};
-ghost use Rattle.pooled.specs.Opening.{HaveAsked, HasAsked, IsReady, slots_of};
+ghost use Rattle.pooled.specs.Opening.{AreGiven, HaveAsked, HasAsked, IsReady, slots_of};
 ghost use Rattle.workers.specs.Nets.{NoNet, nets_with};
 
 use cells::{Cell, Seat};
@@ -14,6 +14,13 @@ use std::marker::Model;
 use std::sync::Wait;
 use types::Event;
 use workers::Host;
+
+/// A network that is to be opened: its configuration, and the slots that are opened first, in order.
+#[derive(Drop)]
+pub struct UnopenedNetwork {
+    pub config: NetConfig,
+    pub slots: Vec<u64>,
+}
 
 /// A network that is opened and has not joined a host: its cell, and all seats of it.
 ///
@@ -59,27 +66,51 @@ impl<R: Wait + Drop> OpenNetwork<R> {
     }
 }
 
-/// Opens a network with so many seats, over a copy of a handle on the store of all; its slots among those that
-/// are opened first, which stand ascending by network, are opened in order, refused or not. An error says that
-/// memory is short.
+/// Opens a network with so many seats, over a copy of a handle on the store of all; its first slots are opened in
+/// order, refused or not. An error says that memory is short.
 pub fn open_network<R: Wait + Drop + Copy>(
     rt: &R,
     alloc: Global,
     handle: &SharedHandle<R>,
-    network: (NetConfig, u64),
-    opens: &[(u32, u64)],
+    network: UnopenedNetwork,
+    seats: u64,
 ) -> Result<OpenNetwork<R>, AllocError>
-    requires some { 0 < network.1 }
-    requires few { network.1 ≤ 64 }
-    requires rising { IsNonDecreasingBy (λ o. o.0) opens.now }
-    ensures { IfOk result (IsReady network.0 network.1 (slots_of network.0.number opens.now)) }
+    requires some { 0 < seats }
+    requires few { seats ≤ 64 }
+    ensures { IfOk result (IsReady network.config seats network.slots.items) }
 {
-    let (config, seats) = network;
-    let own = own_opens(config.number(), opens);
+    let UnopenedNetwork { config, slots } = network;
     let shelf = handle.try_copy()?;
     let (cell, mut seats) = Cell::open_on(rt, alloc, config, seats, shelf)?;
-    open_slots(rt, &cell, &mut seats[0], own);
+    open_slots(rt, &cell, &mut seats[0], &slots);
     Ok(OpenNetwork { cell, seats })
+}
+
+/// Networks that are to be opened, each with its slots among the openings, which stand ascending by network. An error
+/// says that memory is short.
+pub fn with_slots(
+    alloc: Global,
+    configs: Vec<NetConfig>,
+    opens: &[(u32, u64)],
+) -> Result<Vec<UnopenedNetwork>, AllocError>
+    requires { IsNonDecreasingBy (λ o. o.0) opens.now }
+    ensures { IfOk result (λ networks. AreGiven opens.now configs.items networks.items) }
+{
+    let mut networks = Vec::with_capacity(alloc, configs.len())?;
+    for config in configs {
+        let slots = own_slots(alloc, config.number(), opens)?;
+        networks.push(UnopenedNetwork { config, slots })?;
+    }
+    Ok(networks)
+}
+
+/// The slots of the network of a number among openings that stand ascending by network, in order.
+fn own_slots(alloc: Global, number: u32, opens: &[(u32, u64)]) -> Result<Vec<u64>, AllocError>
+    requires { IsNonDecreasingBy (λ o. o.0) opens.now }
+    ensures { IfOk result (λ slots. slots.items ≡ slots_of number opens.now) }
+{
+    let own = own_opens(number, opens);
+    own.iter().map(|open| open.1).collect(alloc)
 }
 
 /// Those that are of the network of a number, of openings that stand ascending by network.
@@ -106,15 +137,15 @@ fn open_slots<R: Wait + Drop>(
     rt: &R,
     cell: &Cell<SharedHandle<R>, R>,
     seat: &mut Seat<SharedHandle<R>, R>,
-    opens: &[(u32, u64)],
+    slots: &[u64],
 )
     requires { IsSeatOf cell.now seat.old }
     ensures seat { IsSeatOf cell.now seat.new }
     ensures number { seat.new.me.number ≡ seat.old.me.number }
-    ensures asked { HaveAsked cell.now (map (λ o. o.1) opens.now) seat.old seat.new }
+    ensures asked { HaveAsked cell.now slots.now seat.old seat.new }
 {
-    for open in opens {
-        open_slot(rt, cell, seat, open.1);
+    for slot in slots {
+        open_slot(rt, cell, seat, *slot);
     }
 }
 

@@ -3,12 +3,10 @@
 //! Where a function here answers an error, memory is short.
 
 ghost use Rattle.std.specs.Prelude.{◌≡◌, ◌<◌, ◌≤◌, ◌++◌, IfOk, []};
-ghost use Rattle.std.specs.List.Sorted.{IsNonDecreasingBy};
 ghost use Rattle.std.specs.Thread.{IsSend, IsSync};
 ghost use Rattle.pooled.specs.Opening.{AreReady, JoinInTurn};
 
-use crate::hosting::{OpenNetwork, open_network};
-use configuration::NetConfig;
+use crate::hosting::{OpenNetwork, UnopenedNetwork, open_network};
 use envstore::SharedHandle;
 use std::alloc::{AllocError, Global};
 use std::sync::Wait;
@@ -16,32 +14,27 @@ use std::thread;
 use std::thread::Threads;
 use workers::Host;
 
-/// Networks that are to be opened: their configurations, in order, a handle on the store of all, how many seats
-/// each has, and the slots that are opened first, each with the number of its network, ascending by network.
+/// Networks that are to be opened, in order, a handle on the store of all, and how many seats each has.
 #[derive(Drop)]
 pub struct UnopenedNetworks<R: Wait + Drop> {
-    pub configs: Vec<NetConfig>,
+    pub networks: Vec<UnopenedNetwork>,
     pub handle: SharedHandle<R>,
     pub seats: u64,
-    pub opens: Vec<(u32, u64)>,
 }
 
 impl<R: Wait + Copy + Drop> UnopenedNetworks<R> {
     /// The networks of the second half, which these lose.
     fn split_half(&mut self) -> Result<UnopenedNetworks<R>, AllocError>
-        ensures networks { IfOk result (λ r. self.old.configs.items ≡ self.new.configs.items ++ r.configs.items) }
+        ensures networks { IfOk result (λ r. self.old.networks.items ≡ self.new.networks.items ++ r.networks.items) }
         ensures seats { IfOk result (λ r. (self.new.seats ≡ self.old.seats) × (r.seats ≡ self.old.seats)) }
-        ensures opens { IfOk result (λ r. (self.new.opens.items ≡ self.old.opens.items) × (r.opens.items ≡ self.old.opens.items)) }
     {
-        let opens = self.opens.clone()?;
         let handle = self.handle.try_copy()?;
-        let count = self.configs.len() / 2;
-        let configs = self.configs.split_off(count)?;
+        let count = self.networks.len() / 2;
+        let networks = self.networks.split_off(count)?;
         Ok(UnopenedNetworks {
-            configs,
+            networks,
             handle,
             seats: self.seats,
-            opens,
         })
     }
 }
@@ -58,8 +51,7 @@ pub fn open_by<R: Threads + Wait + Sync + Send + Copy + Drop>(
 ) -> Result<Vec<OpenNetwork<R>>, AllocError>
     requires some { 0 < nets.seats }
     requires few { nets.seats ≤ 64 }
-    requires rising { IsNonDecreasingBy (λ o. o.0) nets.opens.items }
-    ensures { IfOk result (λ opened. AreReady nets.seats nets.opens.items nets.configs.items opened.items) }
+    ensures { IfOk result (λ opened. AreReady nets.seats nets.networks.items opened.items) }
 {
     if threads < 2 {
         return open_alone(rt, alloc, nets);
@@ -69,12 +61,12 @@ pub fn open_by<R: Threads + Wait + Sync + Send + Copy + Drop>(
     let fewer = threads / 2;
     let more = threads - fewer;
     let open_low = move || -> Result<Vec<OpenNetwork<R>>, AllocError>
-        requires { IsSync R.row × IsSend R.row × (0 < low.seats) × (low.seats ≤ 64) × IsNonDecreasingBy (λ o. o.0) low.opens.items }
-        ensures { IfOk result (λ opened. AreReady low.seats low.opens.items low.configs.items opened.items) }
+        requires { IsSync R.row × IsSend R.row × (0 < low.seats) × (low.seats ≤ 64) }
+        ensures { IfOk result (λ opened. AreReady low.seats low.networks.items opened.items) }
     { open_by(rt, alloc, low, fewer) };
     let open_high = move || -> Result<Vec<OpenNetwork<R>>, AllocError>
-        requires { IsSync R.row × IsSend R.row × (0 < high.seats) × (high.seats ≤ 64) × IsNonDecreasingBy (λ o. o.0) high.opens.items }
-        ensures { IfOk result (λ opened. AreReady high.seats high.opens.items high.configs.items opened.items) }
+        requires { IsSync R.row × IsSend R.row × (0 < high.seats) × (high.seats ≤ 64) }
+        ensures { IfOk result (λ opened. AreReady high.seats high.networks.items opened.items) }
     { open_by(rt, alloc, high, more) };
     let (first, others) = thread::join(rt, open_low, open_high);
     let all = concat(first?, others?)?;
@@ -100,18 +92,16 @@ fn open_alone<R: Wait + Copy + Drop>(
 ) -> Result<Vec<OpenNetwork<R>>, AllocError>
     requires some { 0 < nets.seats }
     requires few { nets.seats ≤ 64 }
-    requires rising { IsNonDecreasingBy (λ o. o.0) nets.opens.items }
-    ensures { IfOk result (λ opened. AreReady nets.seats nets.opens.items nets.configs.items opened.items) }
+    ensures { IfOk result (λ opened. AreReady nets.seats nets.networks.items opened.items) }
 {
     let UnopenedNetworks {
-        configs,
+        networks,
         handle,
         seats,
-        opens,
     } = nets;
-    let mut opened = Vec::with_capacity(alloc, configs.len())?;
-    for config in configs {
-        let net = open_network(rt, alloc, &handle, (config, seats), &opens)?;
+    let mut opened = Vec::with_capacity(alloc, networks.len())?;
+    for network in networks {
+        let net = open_network(rt, alloc, &handle, network, seats)?;
         opened.push(net)?;
     }
     Ok(opened)

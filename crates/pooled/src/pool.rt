@@ -7,6 +7,7 @@ ghost use Rattle.pooled.specs.Opening.{AreHosted, slots_of};
 ghost use Rattle.pooled.specs.Pooling.{AreDone, AreJournalLines, IsPoolText, AddsJournalLines, IsTextOfNets, IsTurn, jobs_of};
 
 use crate::gate::Open;
+use crate::hosting::with_slots;
 use crate::joining::{UnopenedNetworks, join_all, open_by};
 use crate::lines::{push_decided, push_length, push_report};
 use configuration::NetConfig;
@@ -81,12 +82,13 @@ fn host_networks<R: Threads + Wait + Sync + Send + Copy + Drop>(
     ensures { IfOk result (λ host. AreHosted seats opens.items [] configs.items host) }
 {
     let opens = by_network(opens)?;
+    let networks = with_slots(alloc, configs, &opens)?;
+    drop(opens);
     let handle = SharedHandle::new(alloc, *rt)?;
     let unopened = UnopenedNetworks {
-        configs,
+        networks,
         handle,
         seats,
-        opens,
     };
     let nets = open_by(rt, alloc, unopened, seats as usize)?;
     let host = join_all(alloc, nets)?;

@@ -12,6 +12,5 @@ invariant_of-result g c =
 
 pub returns : goal.returns
 returns g c =
-    ready c.args.network.0 c.args.network.1 c.number.result c.in_ok-cell.cell c.in_ok-cell.seats.items c.index_mut.result.now c.open_slots.new.seat c.args.opens.now
-    c.own_opens-own.result.now c.in_ok-cell.ensures.cell.0 c.in_ok-cell.ensures.cell.1 c.in_ok-cell.ensures.seats c.in_ok-cell.ensures.fresh c.index_mut.ensures.value
-    c.open_slots.ensures.asked c.own_opens-own.ensures c.number.ensures
+    ready c.args.network.config c.args.seats c.in_ok-cell.cell c.in_ok-cell.seats.items c.index_mut.result.now c.open_slots.new.seat _ c.args.network.slots.items
+    c.in_ok-cell.ensures.cell.0 c.in_ok-cell.ensures.cell.1 c.in_ok-cell.ensures.seats c.in_ok-cell.ensures.fresh c.index_mut.ensures.value c.open_slots.ensures.asked c.deref.ensures.value

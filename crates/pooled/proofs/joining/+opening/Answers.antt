@@ -25,12 +25,11 @@ join-first-requires-send-A g t c κs within =
 
 pub returns : goal.returns
 returns g t c =
-    let seats = c.args.nets.seats in
-    let opens = c.args.nets.opens.items in
     let same = c.in_ok-high.ensures in
-    let low = IfOk-at_ok (λ nets. AreReady c.split_half.new.self.seats c.split_half.new.self.opens.items c.split_half.new.self.configs.items nets.items) c.in_ok-first.was c.join-first.ensures.first in
-    let high = IfOk-at_ok (λ nets. AreReady c.in_ok-high.high.seats c.in_ok-high.high.opens.items c.in_ok-high.high.configs.items nets.items) c.in_ok-others.was c.join-first.ensures.second in
-    ready_halves seats opens c.args.nets.configs.items c.split_half.new.self.configs.items c.in_ok-high.high.configs.items _ _ c.in_ok-all.all.items
+    let some = c.split_half.new.self in
+    let others = c.in_ok-high.high in
+    let low = IfOk-at_ok (λ nets. AreReady some.seats some.networks.items nets.items) c.in_ok-first.was c.join-first.ensures.first in
+    let high = IfOk-at_ok (λ nets. AreReady others.seats others.networks.items nets.items) c.in_ok-others.was c.join-first.ensures.second in
+    ready_halves c.args.nets.seats c.args.nets.networks.items some.networks.items others.networks.items _ _ c.in_ok-all.all.items
     same.networks c.in_ok-all.ensures
-    (ready_likewise _ _ _ _ c.split_half.new.self.configs.items _ same.seats.0 same.opens.0 low)
-    (ready_likewise _ _ _ _ c.in_ok-high.high.configs.items _ same.seats.1 same.opens.1 high)
+    (ready_likewise _ _ some.networks.items _ same.seats.0 low) (ready_likewise _ _ others.networks.items _ same.seats.1 high)
