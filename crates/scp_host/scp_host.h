@@ -19,8 +19,8 @@
  *   process with threads that was forked and has started no other program.
  * - malloc, realloc and free come from one allocator. malloc and realloc align a block to each power of two up to 16 that
  *   divides its size.
- * - The program is linked with libscp_host.a and with the toolchain's functions over malloc; `rt lib` in this folder makes the
- *   one, in out/, and the other is c/liblibc_c.a of the toolchain.
+ * - The program is linked with libscp_host.a and with the toolchain's functions over malloc; `tools/library` makes the one, and
+ *   names both.
  */
 #ifndef SCP_HOST_H
 #define SCP_HOST_H
