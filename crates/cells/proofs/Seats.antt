@@ -1,5 +1,5 @@
 -- What each seat knows stays right.
-use Rattle.std.proofs.Common.{◌≡◌, ℕ, zero, suc, ◌<◌, ◌≤◌, Bool, true, false, List, [], ◌∷◌, ◌++◌, length, take, Some, refl, sym, ap, ◌∙◌, subst, inl, inr, ⊎_elim, arith, length-append, append_assoc, slice_get}
+use Rattle.std.proofs.Common.{◌≡◌, ℕ, zero, suc, ◌<◌, ◌≤◌, ◌-◌, Bool, true, false, List, [], ◌∷◌, ◌++◌, length, take, Some, refl, sym, ap, ◌∙◌, subst, inl, inr, ⊎_elim, arith, length-append, append-nil, append_assoc, slice_get}
 use mathlib.Core.List.{IsPrefix}
 use Rattle.std.proofs.lemmas.List.{take-append-le}
 use Rattle.std.proofs.Math.Seq.{take-append_seam, take-length}
@@ -110,8 +110,8 @@ abbrev IsBack : Knowledge → Knowledge → Type 0
 IsBack w u = (u.number ≡ w.number) × (u.known ≡ w.known) × (u.live ≡ w.live) × (u.claims ≡ w.claims) × (u.opens ≡ w.opens) × (u.holding ≡ false)
 
 seat_back : (p q r : Pass CellStateSight Knowledge) (n : ℕ) (rs now : List AppliedEvent) (x : CellStateSight) (u : Knowledge) → IsSeat p n rs → IsTaken (view p) x (view q) → q.me.1 ≡ p.me.1 → r.me.1 ≡ q.me.1
-    → view r ≡ u → IsBack (view q) u → u.receipts ≡ now → IsSound u → IsSeat r n now
-seat_back p q r n rs now x u s t one two is same receipts sound =
+    → view r ≡ u → IsBack (view q) u → (gone : List AppliedEvent) → u.receipts ≡ gone ++ now → IsSound u → IsSeat r n now
+seat_back p q r n rs now x u s t one two is same gone receipts sound =
     let f = s.free in
     let free : IsFree u = record {
       known = same.1 ∙ ap (λ (y : Knowledge). y.known) t.now ∙ f.known;
@@ -123,26 +123,27 @@ seat_back p q r n rs now x u s t one two is same receipts sound =
     record {
       no_slot = two ∙ one ∙ s.no_slot;
       number = ap (λ (y : Knowledge). y.number) is ∙ same.0 ∙ ap (λ (y : Knowledge). y.number) t.now ∙ s.number;
+      gone = gone;
       receipts = ap (λ (y : Knowledge). y.receipts) is ∙ receipts;
       free = subst IsFree (sym is) free;
       sound = subst IsSound (sym is) sound;
     }
 
 -- the receipts of one that took the cell state
-receipts_there : (p q : Pass CellStateSight Knowledge) (n : ℕ) (rs : List AppliedEvent) (x : CellStateSight) → IsSeat p n rs → IsTaken (view p) x (view q) → (view q).receipts ≡ rs
+receipts_there : (p q : Pass CellStateSight Knowledge) (n : ℕ) (rs : List AppliedEvent) (x : CellStateSight) → (s : IsSeat p n rs) → IsTaken (view p) x (view q) → (view q).receipts ≡ s.gone ++ rs
 receipts_there p q n rs x s t = ap (λ (y : Knowledge). y.receipts) t.now ∙ s.receipts
 
 pub seat_denied : (p q r : Pass CellStateSight Knowledge) (n : ℕ) (rs now : List AppliedEvent) (x : CellStateSight) (event : Event) (refusal : CellRefusal) → IsSeat p n rs → IsTaken (view p) x (view q) → q.me.1 ≡ p.me.1 → r.me.1 ≡ q.me.1
     → view r ≡ after_denial (view q) event refusal → now ≡ rs → IsWhy x.log.config x.log.entries x.stopped event refusal → IsSeat r n now
 seat_denied p q r n rs now x event refusal s t one two is same why =
-    seat_back p q r n rs now x (after_denial (view q) event refusal) s t one two is (refl, refl, refl, refl, refl, refl) (receipts_there p q n rs x s t ∙ sym same)
+    seat_back p q r n rs now x (after_denial (view q) event refusal) s t one two is (refl, refl, refl, refl, refl, refl) s.gone (receipts_there p q n rs x s t ∙ ap (λ (l : List AppliedEvent). s.gone ++ l) (sym same))
     (sound_denied (view p) x (view q) event refusal s.free s.sound t why)
 
 pub seat_added : (p q r : Pass CellStateSight Knowledge) (n : ℕ) (rs now : List AppliedEvent) (x : CellStateSight) (a : AppliedEvent) → IsSeat p n rs → IsTaken (view p) x (view q) → q.me.1 ≡ p.me.1 → r.me.1 ≡ q.me.1
     → view r ≡ after_application (view q) a → now ≡ rs ++ a ∷ [] → extract_of a ≡ extract (view q).config (view q).all (entry_of a) → IsSeat r n now
 seat_added p q r n rs now x a s t one two is same made =
-    seat_back p q r n rs now x (after_application (view q) a) s t one two is (refl, refl, refl, refl, refl, refl)
-    (ap (λ (l : List AppliedEvent). l ++ a ∷ []) (receipts_there p q n rs x s t) ∙ sym same) (sound_added (view p) x (view q) a s.free s.sound t made)
+    seat_back p q r n rs now x (after_application (view q) a) s t one two is (refl, refl, refl, refl, refl, refl) s.gone
+    (ap (λ (l : List AppliedEvent). l ++ a ∷ []) (receipts_there p q n rs x s t) ∙ append_assoc s.gone rs (a ∷ []) ∙ ap (λ (l : List AppliedEvent). s.gone ++ l) (sym same)) (sound_added (view p) x (view q) a s.free s.sound t made)
 
 -- a receipt that was made at the cell state
 pub made_at : (v : Knowledge) (x : CellStateSight) (w : Knowledge) (event : Event) (outs : List Out) (a : AppliedEvent) → IsTaken v x w → a ≡ receipt x.log.config x.log.entries event outs → extract_of a ≡ extract w.config w.all (entry_of a)
@@ -159,14 +160,14 @@ seen_added v x w u r f t is = let p = t.seen f.live in
 pub seat_stopped : (p q r : Pass CellStateSight Knowledge) (n : ℕ) (rs : List AppliedEvent) (x : CellStateSight) → IsSeat p n rs → IsTaken (view p) x (view q) → q.me.1 ≡ p.me.1 → r.me.1 ≡ q.me.1
     → view r ≡ after_stop (view q) → IsSeat r n rs
 seat_stopped p q r n rs x s t one two is =
-    seat_back p q r n rs rs x (after_stop (view q)) s t one two is (refl, refl, refl, refl, refl, refl) (receipts_there p q n rs x s t)
+    seat_back p q r n rs rs x (after_stop (view q)) s t one two is (refl, refl, refl, refl, refl, refl) s.gone (receipts_there p q n rs x s t)
     (sound_seen (view p) x (view q) true (suc (view q).stops) s.free s.sound t (λ _. refl))
 
 -- one that looked
 pub seat_looked : (p q r : Pass CellStateSight Knowledge) (n : ℕ) (rs : List AppliedEvent) (x : CellStateSight) → IsSeat p n rs → IsTaken (view p) x (view q) → q.me.1 ≡ p.me.1 → r.me.1 ≡ q.me.1
     → view r ≡ after_look (view q) → IsSeat r n rs
 seat_looked p q r n rs x s t one two is =
-    seat_back p q r n rs rs x (after_look (view q)) s t one two is (refl, refl, refl, refl, refl, refl) (receipts_there p q n rs x s t)
+    seat_back p q r n rs rs x (after_look (view q)) s t one two is (refl, refl, refl, refl, refl, refl) s.gone (receipts_there p q n rs x s t)
     (sound_seen (view p) x (view q) (view q).over (view q).stops s.free s.sound t (t.stopped s.free.live))
 
 -- what a seat took goes back, with this mark
@@ -196,6 +197,7 @@ pub seat_fresh : (p : Pass CellStateSight Knowledge) (config : Config) (seats n 
 seat_fresh p config seats n slot is = record {
   no_slot = slot;
   number = ap (λ (y : Knowledge). y.number) is;
+  gone = [];
   receipts = ap (λ (y : Knowledge). y.receipts) is;
   free = subst IsFree (sym is) (record { known = refl; live = refl; claims = refl; opens = refl; holding = refl });
   sound = subst IsSound (sym is) (record { stand = tt; rising = tt; right = tt });
@@ -205,10 +207,52 @@ pub seat_same : (p q : Pass CellStateSight Knowledge) (n : ℕ) (rs : List Appli
 seat_same p q n rs s slot is = record {
   no_slot = slot ∙ s.no_slot;
   number = ap (λ (y : Knowledge). y.number) is ∙ s.number;
+  gone = s.gone;
   receipts = ap (λ (y : Knowledge). y.receipts) is ∙ s.receipts;
   free = subst IsFree (sym is) s.free;
   sound = subst IsSound (sym is) s.sound;
 }
+
+-- ---- receipts that are let go
+
+-- how many they are
+many_gone : (all gone kept : List AppliedEvent) → all ≡ gone ++ kept → length gone ≡ length all - length kept
+many_gone all gone kept is = let l = ap (λ (x : List AppliedEvent). length x) is in omega (arith, l, length-append gone kept)
+
+get_behind : (xs ys : List AppliedEvent) (r : AppliedEvent) → slice_get (xs ++ r ∷ ys) (length xs) ≡ Some r
+get_behind [] ys r = refl
+get_behind (x ∷ xs) ys r = get_behind xs ys r
+
+-- the first of those that are kept
+pub first_kept : (all gone kept left : List AppliedEvent) (r : AppliedEvent) → all ≡ gone ++ kept → kept ≡ r ∷ left → slice_get all (length all - length kept) ≡ Some r
+first_kept all gone kept left r is first =
+    let n = many_gone all gone kept is in
+    let there : all ≡ gone ++ r ∷ left = is ∙ ap (λ (l : List AppliedEvent). gone ++ l) first in
+    (λ i. slice_get (there i) (sym n i)) ∙ get_behind gone left r
+
+-- the seat without it
+pub seat_without : (p : Pass CellStateSight Knowledge) (n : ℕ) (rs left : List AppliedEvent) (r : AppliedEvent) → IsSeat p n rs → rs ≡ r ∷ left → IsSeat p n left
+seat_without p n rs left r s first = record {
+  no_slot = s.no_slot;
+  number = s.number;
+  gone = s.gone ++ r ∷ [];
+  receipts = s.receipts ∙ ap (λ (l : List AppliedEvent). s.gone ++ l) first ∙ sym (append_assoc s.gone (r ∷ []) left);
+  free = s.free;
+  sound = s.sound;
+}
+
+-- all are let go
+pub seat_bare : (p : Pass CellStateSight Knowledge) (n : ℕ) (rs left : List AppliedEvent) → IsSeat p n rs → left ≡ [] → IsSeat p n left
+seat_bare p n rs left s none = record {
+  no_slot = s.no_slot;
+  number = s.number;
+  gone = (view p).receipts;
+  receipts = sym (append-nil _) ∙ ap (λ (l : List AppliedEvent). (view p).receipts ++ l) (sym none);
+  free = s.free;
+  sound = s.sound;
+}
+
+-- ---- seats that were made just now
 
 -- one seat more
 pub seats_more : (cell : TableId) (config : Config) (seats : ℕ) (all : List SeatSight) (n : ℕ) (new : SeatSight) → length all ≡ n → new.cell ≡ cell → new.me ≡ fresh config seats n

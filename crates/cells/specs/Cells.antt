@@ -51,12 +51,14 @@ pub record IsApplied (c : CellSight) (event : Event) (old new : SeatSight) : Typ
   pub seen : new.me.seen ≡ before ++ entry_of (receipt c.config before event given) ∷ []
   pub denials : new.me.denials ≡ old.me.denials
   pub stops : new.me.stops ≡ old.me.stops
+  pub let_go : new.let_go ≡ old.let_go
 
 -- A seat gained one denial, and nothing else but what it saw.
 pub record IsDenial (event : Event) (r : CellRefusal) (old new : SeatSight) : Type 0 where
   pub receipts : new.me.receipts ≡ old.me.receipts
   pub denials : new.me.denials ≡ old.me.denials ++ denial event r (length new.me.seen) ∷ []
   pub stops : new.me.stops ≡ old.me.stops
+  pub let_go : new.let_go ≡ old.let_go
 
 -- A seat set the stop mark once more, and gained nothing but what it saw.
 pub record IsStopped (old new : SeatSight) : Type 0 where
@@ -64,9 +66,11 @@ pub record IsStopped (old new : SeatSight) : Type 0 where
   pub stops : new.me.stops ≡ old.me.stops + 1
   pub receipts : new.me.receipts ≡ old.me.receipts
   pub denials : new.me.denials ≡ old.me.denials
+  pub let_go : new.let_go ≡ old.let_go
 
 -- A seat gained nothing but what it saw.
 pub record IsSameButSeen (old new : SeatSight) : Type 0 where
   pub receipts : new.me.receipts ≡ old.me.receipts
   pub denials : new.me.denials ≡ old.me.denials
   pub stops : new.me.stops ≡ old.me.stops
+  pub let_go : new.let_go ≡ old.let_go

@@ -1,5 +1,5 @@
 -- What each seat knows is right.
-use Rattle.std.specs.Prelude.{◌≡◌, ◌⊎◌, ℕ, suc, ◌≤◌, Bool, true, false, List, [], ◌∷◌, length, option_map, take, Option, Some, slice_get}
+use Rattle.std.specs.Prelude.{◌≡◌, ◌⊎◌, ℕ, suc, ◌≤◌, Bool, true, false, List, [], ◌∷◌, ◌++◌, length, option_map, take, Option, Some, slice_get}
 use Rattle.std.specs.List.{AllByRecursion}
 use Rattle.types.specs.declared.event.Event.{Event}
 use Rattle.types.specs.declared.event.Refusal.TheVariants.{NoMemory}
@@ -59,10 +59,11 @@ pub record IsFree (v : Knowledge) : Type 0 where
   pub opens : v.opens ≡ false
   pub holding : v.holding ≡ false
 
--- a pass, a number and receipts that make a seat
+-- a pass, a number and receipts that make a seat: these are the last of those that the pass knows
 pub record IsSeat (p : Pass CellStateSight Knowledge) (n : ℕ) (rs : List AppliedEvent) : Type 0 where
   pub no_slot : p.me.1 ≡ []
   pub number : (view p).number ≡ n
-  pub receipts : (view p).receipts ≡ rs
+  pub gone : List AppliedEvent
+  pub receipts : (view p).receipts ≡ gone ++ rs
   pub free : IsFree (view p)
   pub sound : IsSound (view p)

@@ -15,6 +15,7 @@ use decisions::{Board, Publisher, Watch};
 use envstore::Shelf;
 use hoststep::{Journal, Recorded};
 use std::alloc::Global;
+use std::collections::VecDeque;
 use std::marker::Model;
 use std::snapshot::Snapshot;
 use std::sync::Wait;
@@ -156,7 +157,7 @@ impl<S: Shelf, H: Wait + Drop> CellState<S, H> {
     /// leaves all as it was.
     pub(crate) fn enter(
         &mut self,
-        receipts: &mut Vec<Receipt>,
+        receipts: &mut VecDeque<Receipt>,
         event: Event,
     ) -> Result<Snapshot<Receipt>, CellRefusal>
         ensures ok { IfOk result (λ m. IsEnteredAt self.old event m.value self.new) }
@@ -190,7 +191,7 @@ impl<S: Shelf, H: Wait + Drop> CellState<S, H> {
                     marks,
                 };
                 let made = Snapshot::of(&receipt);
-                receipts.push_reserved(receipt);
+                receipts.push_back_reserved(receipt);
                 Ok(made)
             }
             Err(refusal) => Err(CellRefusal::Network(refusal)),

@@ -5,10 +5,10 @@ use Rattle.work.specs.declared.rule.Job.{Job}
 use Rattle.work.specs.Hands.{weigh}
 use Rattle.work.proofs.Balances.{weigh-append}
 use Rattle.cells.specs.Sights.{CellSight, SeatSight}
+use Rattle.cells.specs.Views.{Knowledge}
 use Rattle.workers.specs.NetSights.{Net}
 use Rattle.workers.specs.Nets.{AllElsewhere, AllGrownNets, IsDone, NoNet, denials_gained, done_since, heard_since, over_nets, receipts_gained}
-use Rattle.workers.specs.Spares.{AllGrown}
-use Rattle.workers.specs.Sums.{IsLater, seat_applied, seat_done, seat_heard, seat_refused}
+use Rattle.workers.specs.Sums.{AllGrown, IsLater, seat_applied, seat_done, seat_heard, seat_refused}
 use Rattle.workers.specs.declared.running.Report.{Report}
 use Rattle.workers.proofs.Nets.{gains_seats, nets_same, one_applied, one_done, one_heard, one_refused}
 use Rattle.workers.proofs.Pairs.{zip-then}
@@ -25,8 +25,8 @@ grown_both xs ys zs p q =
     xs ys zs p q
 
 -- what a weight of the seats has gained is added up
-module _ (f : SeatSight → ℕ) (g : SeatSight → SeatSight → ℕ) (one : (a b : SeatSight) → IsLater a b → f b ≡ f a + g a b) where
-  gains_nets : (xs ys : List Net) → AllGrownNets xs ys → weigh (λ (n : Net). weigh f n.seats) ys ≡ weigh (λ (n : Net). weigh f n.seats) xs + over_nets g xs ys
+module _ (f : Knowledge → ℕ) (g : SeatSight → SeatSight → ℕ) (one : (a b : SeatSight) → IsLater a b → f b.me ≡ f a.me + g a b) where
+  gains_nets : (xs ys : List Net) → AllGrownNets xs ys → weigh (λ (n : Net). weigh (λ (s : SeatSight). f s.me) n.seats) ys ≡ weigh (λ (n : Net). weigh (λ (s : SeatSight). f s.me) n.seats) xs + over_nets g xs ys
   gains_nets [] [] all = refl
   gains_nets [] (y ∷ ys) all = absurd all
   gains_nets (x ∷ xs) [] all = absurd all

@@ -206,7 +206,8 @@ fn four_workers_leave_journals_of_one_thread(rt: HostRuntime) -> Result<(), Fail
     // Each journal is applied once more by one thread, which gives out the same.
     assert_eq!(rt; tally.unlike, 0);
     let entered = proposed.applied.saturating_add(64);
-    assert_eq!(rt; (tally.entries, tally.receipts), (entered, entered));
+    // Each receipt was let go once the others had heard of it.
+    assert_eq!(rt; (tally.entries, tally.receipts), (entered, 0));
     assert_eq!(rt; tally.decisions, 192);
     // For each emission a job for each of the two other nodes.
     let served = proposed.applied.saturating_add(proposed.refused);

@@ -13,7 +13,6 @@ use Rattle.work.specs.contracts.line.Queue as Queue
 use Rattle.cells.proofs.Crossing.{cell_send, cell_sync, seat_send}
 use Rattle.workers.specs.contracts.host.Host as Host
 use Rattle.workers.specs.contracts.shared.Shared as Shared
-use Rattle.workers.specs.contracts.walk.Walk as Walk
 use Rattle.workers.specs.contracts.worker.Worker as Worker
 
 job_send : IsSend (Job.the_row)
@@ -30,11 +29,8 @@ queue_sync = search (sendable, crosses, slotted.the_field_sync, job_send, job_sy
 
 -- S is a shelf, P its places, and H the handle by which what was decided is published
 module _ (S H P : RattleType) (g : Ghosts S.Denot P.Denot) where
-  walk_send : IsSend S → IsSend H → IsSend P → IsSend (Walk.the_row S H P g)
-  walk_send s h p = let a = seat_send S H P g s h p in search (sendable, crosses) depth 40
-
   pub worker_send : IsSend S → IsSend H → IsSend P → IsSend (Worker.the_row S H P g)
-  worker_send s h p = let a = walk_send s h p in search (sendable, crosses, pass.the_send, job_send) depth 40
+  worker_send s h p = let a = seat_send S H P g s h p in search (sendable, crosses, pass.the_send, job_send) depth 40
 
   pub shared_sync : (k : ShelfGhosts S.Denot P.Denot) (w : WaitGhosts H.Denot) → IsSend S → IsSend H → IsSend P → IsSync (Shared.the_row S H P k g w)
   shared_sync k w s h p = let a = cell_sync S H P g k w s h p in search (sendable, crosses, queue_sync) depth 40

@@ -10,8 +10,8 @@ use Rattle.work.specs.Hands.{weigh}
 use Rattle.work.specs.Queues.{put_by, taken_by, parts_by, parts}
 use Rattle.work.proofs.Balances.{weigh-append}
 use Rattle.cells.specs.Sights.{SeatSight}
+use Rattle.cells.specs.Views.{Knowledge}
 use Rattle.workers.specs.declared.deal.SpareSeats.{SpareSeats}
-use Rattle.workers.specs.declared.walk.Walk.{Walk}
 use Rattle.workers.specs.declared.worker.Worker.{Worker}
 use Rattle.workers.specs.Sums.{AllPassing, IsPassing, parts_of, weight_put, weight_taken}
 use Rattle.workers.specs.Spares.{AllHave, AllRoomy, IsDealt, IsDealtAll, IsDealtSeat, IsGiven, IsGivenSeat, IsSplit, at_work, on_spares}
@@ -24,44 +24,44 @@ have_at n bs k b all lt at = subst (λ (s : SpareSeats _ _ _). n ≤ length s.se
 -- dealing a spare seat of each cell
 
 -- of the first k cells a seat was dealt
-abbrev pub IsDealtTo : {S H P : Type 0} → ℕ → List (SpareSeats S H P) → List (Walk S H P) → List (SpareSeats S H P) → Type 0
+abbrev pub IsDealtTo : {S H P : Type 0} → ℕ → List (SpareSeats S H P) → List SeatSight → List (SpareSeats S H P) → Type 0
 IsDealtTo zero xs ws ys = (ws ≡ []) × (ys ≡ xs)
 IsDealtTo (suc k) [] ws ys = ⊥
 IsDealtTo (suc k) (a ∷ xs) [] ys = ⊥
 IsDealtTo (suc k) (a ∷ xs) (w ∷ ws) [] = ⊥
 IsDealtTo (suc k) (a ∷ xs) (w ∷ ws) (b ∷ ys) = IsDealtSeat a w b × IsDealtTo k xs ws ys
 
-dealt_to_suc : {S H P : Type 0} → (k : ℕ) (xs : List (SpareSeats S H P)) (ws : List (Walk S H P)) (ys : List (SpareSeats S H P)) (a b : (SpareSeats S H P)) (w : (Walk S H P)) → IsDealtTo k xs ws ys → k < length ys → a ≡ get_or ys k a → IsDealtSeat a w b → IsDealtTo (suc k) xs (ws ++ w ∷ []) (slice_set ys k b)
+dealt_to_suc : {S H P : Type 0} → (k : ℕ) (xs : List (SpareSeats S H P)) (ws : List SeatSight) (ys : List (SpareSeats S H P)) (a b : (SpareSeats S H P)) (w : SeatSight) → IsDealtTo k xs ws ys → k < length ys → a ≡ get_or ys k a → IsDealtSeat a w b → IsDealtTo (suc k) xs (ws ++ w ∷ []) (slice_set ys k b)
 dealt_to_suc zero xs ws [] a b w all lt at one = absurd (omega arith)
 dealt_to_suc zero xs ws (y ∷ ys) a b w all lt at one =
-    subst (λ (z : List (Walk _ _ _) × List (SpareSeats _ _ _)). IsDealtTo 1 z.1 (z.0 ++ w ∷ []) (b ∷ ys)) (λ i. (sym all.0 i, all.1 i))
+    subst (λ (z : List SeatSight × List (SpareSeats _ _ _)). IsDealtTo 1 z.1 (z.0 ++ w ∷ []) (b ∷ ys)) (λ i. (sym all.0 i, all.1 i))
     (subst (λ (z : (SpareSeats _ _ _)). IsDealtSeat z w b) at one, (refl, refl))
 dealt_to_suc (suc k) [] ws ys a b w all lt at one = absurd all
 dealt_to_suc (suc k) (x ∷ xs) [] ys a b w all lt at one = absurd all
 dealt_to_suc (suc k) (x ∷ xs) (v ∷ ws) [] a b w all lt at one = absurd all
 dealt_to_suc (suc k) (x ∷ xs) (v ∷ ws) (y ∷ ys) a b w all lt at one = (all.0, dealt_to_suc k xs ws ys a b w all.1 (omega arith) at one)
 
-pub dealt_to_more : {S H P : Type 0} → (k : ℕ) (xs : List (SpareSeats S H P)) (ws : List (Walk S H P)) (ys : List (SpareSeats S H P)) (a b : (SpareSeats S H P)) (w : (Walk S H P)) (vs : List (Walk S H P)) → IsDealtTo k xs ws ys → k < length ys → a ≡ get_or ys k a → vs ≡ ws ++ w ∷ [] → IsDealtSeat a w b → IsDealtTo (k + 1) xs vs (slice_set ys k b)
+pub dealt_to_more : {S H P : Type 0} → (k : ℕ) (xs : List (SpareSeats S H P)) (ws : List SeatSight) (ys : List (SpareSeats S H P)) (a b : (SpareSeats S H P)) (w : SeatSight) (vs : List SeatSight) → IsDealtTo k xs ws ys → k < length ys → a ≡ get_or ys k a → vs ≡ ws ++ w ∷ [] → IsDealtSeat a w b → IsDealtTo (k + 1) xs vs (slice_set ys k b)
 dealt_to_more k xs ws ys a b w vs all lt at is one =
     let more : suc k ≡ k + 1 = omega arith in
-    subst (λ (z : ℕ × List (Walk _ _ _)). IsDealtTo z.0 xs z.1 (slice_set ys k b)) (λ i. (more i, sym is i)) (dealt_to_suc k xs ws ys a b w all lt at one)
+    subst (λ (z : ℕ × List SeatSight). IsDealtTo z.0 xs z.1 (slice_set ys k b)) (λ i. (more i, sym is i)) (dealt_to_suc k xs ws ys a b w all lt at one)
 
-pub dealt_to_end : {S H P : Type 0} → (k : ℕ) (xs : List (SpareSeats S H P)) (ws : List (Walk S H P)) (ys : List (SpareSeats S H P)) → IsDealtTo k xs ws ys → length ys ≤ k → IsDealt xs ws ys
-dealt_to_end zero xs ws [] all le = subst (λ (z : List (Walk _ _ _) × List (SpareSeats _ _ _)). IsDealt z.1 z.0 []) (λ i. (sym all.0 i, all.1 i)) tt
+pub dealt_to_end : {S H P : Type 0} → (k : ℕ) (xs : List (SpareSeats S H P)) (ws : List SeatSight) (ys : List (SpareSeats S H P)) → IsDealtTo k xs ws ys → length ys ≤ k → IsDealt xs ws ys
+dealt_to_end {S} {H} {P} zero xs ws [] all le = subst (λ (z : List SeatSight × List (SpareSeats S H P)). IsDealt {S = S} {H = H} {P = P} z.1 z.0 []) (λ i. (sym all.0 i, all.1 i)) tt
 dealt_to_end zero xs ws (y ∷ ys) all le = absurd (omega arith)
 dealt_to_end (suc k) [] ws ys all le = absurd all
 dealt_to_end (suc k) (x ∷ xs) [] ys all le = absurd all
 dealt_to_end (suc k) (x ∷ xs) (w ∷ ws) [] all le = absurd all
 dealt_to_end (suc k) (x ∷ xs) (w ∷ ws) (y ∷ ys) all le = (all.0, dealt_to_end k xs ws ys all.1 (omega arith))
 
-pub dealt_to_at : {S H P : Type 0} → (k : ℕ) (xs : List (SpareSeats S H P)) (ws : List (Walk S H P)) (ys : List (SpareSeats S H P)) (a : (SpareSeats S H P)) → IsDealtTo k xs ws ys → k < length ys → a ≡ get_or ys k a → AllHave 1 xs → 0 < length a.seats.items
+pub dealt_to_at : {S H P : Type 0} → (k : ℕ) (xs : List (SpareSeats S H P)) (ws : List SeatSight) (ys : List (SpareSeats S H P)) (a : (SpareSeats S H P)) → IsDealtTo k xs ws ys → k < length ys → a ≡ get_or ys k a → AllHave 1 xs → 0 < length a.seats.items
 dealt_to_at zero xs ws ys a all lt at have = have_at 1 ys 0 a (subst (AllHave 1) (sym all.1) have) lt at
 dealt_to_at (suc k) [] ws ys a all lt at have = absurd all
 dealt_to_at (suc k) (x ∷ xs) [] ys a all lt at have = absurd all
 dealt_to_at (suc k) (x ∷ xs) (w ∷ ws) [] a all lt at have = absurd all
 dealt_to_at (suc k) (x ∷ xs) (w ∷ ws) (y ∷ ys) a all lt at have = dealt_to_at k xs ws ys a all.1 (omega arith) at (λ i d l. have (suc i) d (omega arith))
 
-pub dealt_len : {S H P : Type 0} → (xs : List (SpareSeats S H P)) (ws : List (Walk S H P)) (ys : List (SpareSeats S H P)) → IsDealt xs ws ys → (length ys ≡ length xs) × (length ws ≡ length xs)
+pub dealt_len : {S H P : Type 0} → (xs : List (SpareSeats S H P)) (ws : List SeatSight) (ys : List (SpareSeats S H P)) → IsDealt xs ws ys → (length ys ≡ length xs) × (length ws ≡ length xs)
 dealt_len [] [] [] all = (refl, refl)
 dealt_len [] [] (b ∷ ys) all = absurd all
 dealt_len [] (w ∷ ws) ys all = absurd all
@@ -69,7 +69,7 @@ dealt_len (a ∷ xs) [] ys all = absurd all
 dealt_len (a ∷ xs) (w ∷ ws) [] all = absurd all
 dealt_len (a ∷ xs) (w ∷ ws) (b ∷ ys) all = let r = dealt_len xs ws ys all.1 in (ap suc r.0, ap suc r.1)
 
-pub dealt_have : {S H P : Type 0} → (n : ℕ) (xs : List (SpareSeats S H P)) (ws : List (Walk S H P)) (ys : List (SpareSeats S H P)) → IsDealt xs ws ys → AllHave (suc n) xs → AllHave n ys
+pub dealt_have : {S H P : Type 0} → (n : ℕ) (xs : List (SpareSeats S H P)) (ws : List SeatSight) (ys : List (SpareSeats S H P)) → IsDealt xs ws ys → AllHave (suc n) xs → AllHave n ys
 dealt_have n [] [] [] all have = All-nil (λ (s : SpareSeats _ _ _). n ≤ length s.seats.items)
 dealt_have n [] [] (b ∷ ys) all have = absurd all
 dealt_have n [] (w ∷ ws) ys all have = absurd all
@@ -77,38 +77,39 @@ dealt_have n (a ∷ xs) [] ys all have = absurd all
 dealt_have n (a ∷ xs) (w ∷ ws) [] all have = absurd all
 dealt_have n (a ∷ xs) (w ∷ ws) (b ∷ ys) all have =
     All-cons (λ (s : SpareSeats _ _ _). n ≤ length s.seats.items) b ys
-    (let l : length a.seats.items ≡ length (b.seats.items ++ w.seat ∷ []) = ap (λ (l : List SeatSight). length l) all.0.seats in let m = length-append b.seats.items (w.seat ∷ []) in let h = have 0 a (omega arith) in omega arith)
+    (let l : length a.seats.items ≡ length (b.seats.items ++ all.0.spare ∷ []) = ap (λ (l : List SeatSight). length l) all.0.seats in let m = length-append b.seats.items (all.0.spare ∷ []) in let h = have 0 a (omega arith) in omega arith)
     (dealt_have n xs ws ys all.1 (λ k d lt. have (suc k) d (omega arith)))
 
 pub have_less : {S H P : Type 0} → (m n : ℕ) (bs : List (SpareSeats S H P)) → m ≤ n → AllHave n bs → AllHave m bs
 have_less m n bs le all k d lt = omega (arith, le, all k d lt)
 
-pub dealt_sum : {S H P : Type 0} → (f : SeatSight → ℕ) (xs : List (SpareSeats S H P)) (ws : List (Walk S H P)) (ys : List (SpareSeats S H P)) → IsDealt xs ws ys → on_spares f xs ≡ on_spares f ys + weigh (λ (v : (Walk S H P)). f v.seat) ws
+pub dealt_sum : {S H P : Type 0} → (f : Knowledge → ℕ) (xs : List (SpareSeats S H P)) (ws : List SeatSight) (ys : List (SpareSeats S H P)) → IsDealt xs ws ys → on_spares f xs ≡ on_spares f ys + weigh (λ (s : SeatSight). f s.me) ws
 dealt_sum f [] [] [] all = refl
 dealt_sum f [] [] (b ∷ ys) all = absurd all
 dealt_sum f [] (w ∷ ws) ys all = absurd all
 dealt_sum f (a ∷ xs) [] ys all = absurd all
 dealt_sum f (a ∷ xs) (w ∷ ws) [] all = absurd all
 dealt_sum f (a ∷ xs) (w ∷ ws) (b ∷ ys) all =
-    let l = weigh-last f a.seats.items b.seats.items w.seat all.0.seats in
+    let l = weigh-last (λ (s : SeatSight). f s.me) a.seats.items b.seats.items all.0.spare all.0.seats in
+    let same : f w.me ≡ f all.0.spare.me = ap (λ (s : SeatSight). f s.me) all.0.past in
     let r = dealt_sum f xs ws ys all.1 in omega arith
 
 -- one worker after another
 
-pub dealt_all_snoc : {S H P : Type 0} → (before : List (SpareSeats S H P)) (ws : List (Worker S H P)) (mid : List (SpareSeats S H P)) (w : (Worker S H P)) (after : List (SpareSeats S H P)) → IsDealtAll before ws mid → IsDealt mid w.walks.items after → IsDealtAll before (ws ++ w ∷ []) after
-dealt_all_snoc before [] mid w after all one = (after, subst (λ (z : List (SpareSeats _ _ _)). IsDealt z w.walks.items after) all one, refl)
+pub dealt_all_snoc : {S H P : Type 0} → (before : List (SpareSeats S H P)) (ws : List (Worker S H P)) (mid : List (SpareSeats S H P)) (w : (Worker S H P)) (after : List (SpareSeats S H P)) → IsDealtAll before ws mid → IsDealt mid w.seats.items after → IsDealtAll before (ws ++ w ∷ []) after
+dealt_all_snoc before [] mid w after all one = (after, subst (λ (z : List (SpareSeats _ _ _)). IsDealt z w.seats.items after) all one, refl)
 dealt_all_snoc before (x ∷ ws) mid w after all one = (all.0, all.1, dealt_all_snoc all.0 ws mid w after all.2 one)
 
-pub dealt_all_last : {S H P : Type 0} → (before : List (SpareSeats S H P)) (ws : List (Worker S H P)) (w : (Worker S H P)) (after : List (SpareSeats S H P)) → IsDealtAll before (ws ++ w ∷ []) after → (mid : List (SpareSeats S H P)) × IsDealtAll before ws mid × IsDealt mid w.walks.items after
-dealt_all_last before [] w after all = (before, refl, subst (λ (z : List (SpareSeats _ _ _)). IsDealt before w.walks.items z) (sym all.2) all.1)
+pub dealt_all_last : {S H P : Type 0} → (before : List (SpareSeats S H P)) (ws : List (Worker S H P)) (w : (Worker S H P)) (after : List (SpareSeats S H P)) → IsDealtAll before (ws ++ w ∷ []) after → (mid : List (SpareSeats S H P)) × IsDealtAll before ws mid × IsDealt mid w.seats.items after
+dealt_all_last before [] w after all = (before, refl, subst (λ (z : List (SpareSeats _ _ _)). IsDealt before w.seats.items z) (sym all.2) all.1)
 dealt_all_last before (x ∷ ws) w after all =
     let r = dealt_all_last all.0 ws w after all.2 in
     (r.0, (all.0, all.1, r.1), r.2)
 
-pub dealt_all_sum : {S H P : Type 0} → (f : SeatSight → ℕ) (before : List (SpareSeats S H P)) (ws : List (Worker S H P)) (after : List (SpareSeats S H P)) → IsDealtAll before ws after → on_spares f before ≡ on_spares f after + at_work f ws
+pub dealt_all_sum : {S H P : Type 0} → (f : Knowledge → ℕ) (before : List (SpareSeats S H P)) (ws : List (Worker S H P)) (after : List (SpareSeats S H P)) → IsDealtAll before ws after → on_spares f before ≡ on_spares f after + at_work f ws
 dealt_all_sum f before [] after all = (let e : on_spares f after ≡ on_spares f before = ap (on_spares f) all in omega arith)
 dealt_all_sum f before (w ∷ ws) after all =
-    let a = dealt_sum f before w.walks.items all.0 all.1 in
+    let a = dealt_sum f before w.seats.items all.0 all.1 in
     let b = dealt_all_sum f all.0 ws after all.2 in omega arith
 
 -- passes that workers have
@@ -140,30 +141,30 @@ split_more before ws w mid after s is = record {
 -- giving seats back
 
 -- the first walks are those of before, and of the others the seats were given back
-abbrev pub IsGivenFrom : {S H P : Type 0} → List (Walk S H P) → List (Walk S H P) → List (SpareSeats S H P) → List (SpareSeats S H P) → Type 0
+abbrev pub IsGivenFrom : {S H P : Type 0} → List SeatSight → List SeatSight → List (SpareSeats S H P) → List (SpareSeats S H P) → Type 0
 IsGivenFrom [] ws xs ys = IsGiven xs ws ys
 IsGivenFrom (v ∷ vs) [] xs ys = ⊥
 IsGivenFrom (v ∷ vs) (w ∷ ws) [] ys = ⊥
 IsGivenFrom (v ∷ vs) (w ∷ ws) (a ∷ xs) [] = ⊥
 IsGivenFrom (v ∷ vs) (w ∷ ws) (a ∷ xs) (b ∷ ys) = (v ≡ w) × (b ≡ a) × IsGivenFrom vs ws xs ys
 
-pub given_from_all : {S H P : Type 0} → (ws : List (Walk S H P)) (xs : List (SpareSeats S H P)) → length ws ≡ length xs → IsGivenFrom ws ws xs xs
+pub given_from_all : {S H P : Type 0} → (ws : List SeatSight) (xs : List (SpareSeats S H P)) → length ws ≡ length xs → IsGivenFrom ws ws xs xs
 given_from_all [] [] len = tt
 given_from_all [] (x ∷ xs) len = absurd (omega arith)
 given_from_all (w ∷ ws) [] len = absurd (omega arith)
 given_from_all (w ∷ ws) (x ∷ xs) len = (refl, refl, given_from_all ws xs (omega arith))
 
-pub given_from_less : {S H P : Type 0} → (vs ws : List (Walk S H P)) (xs ys : List (SpareSeats S H P)) (v : (Walk S H P)) (a b : (SpareSeats S H P)) → IsGivenFrom (vs ++ v ∷ []) ws xs ys → a ≡ get_or ys (length vs) a → IsGivenSeat a v b → IsGivenFrom vs ws xs (slice_set ys (length vs) b)
+pub given_from_less : {S H P : Type 0} → (vs ws : List SeatSight) (xs ys : List (SpareSeats S H P)) (v : SeatSight) (a b : (SpareSeats S H P)) → IsGivenFrom (vs ++ v ∷ []) ws xs ys → a ≡ get_or ys (length vs) a → IsGivenSeat a v b → IsGivenFrom vs ws xs (slice_set ys (length vs) b)
 given_from_less [] [] xs ys v a b all at one = absurd all
 given_from_less [] (w ∷ ws) [] ys v a b all at one = absurd all
 given_from_less [] (w ∷ ws) (x ∷ xs) [] v a b all at one = absurd all
-given_from_less [] (w ∷ ws) (x ∷ xs) (y ∷ ys) v a b all at one = (subst (λ (z : (SpareSeats _ _ _) × (Walk _ _ _)). IsGivenSeat z.0 z.1 b) (λ i. ((at ∙ all.1) i, all.0 i)) one, all.2)
+given_from_less [] (w ∷ ws) (x ∷ xs) (y ∷ ys) v a b all at one = (subst (λ (z : (SpareSeats _ _ _) × SeatSight). IsGivenSeat z.0 z.1 b) (λ i. ((at ∙ all.1) i, all.0 i)) one, all.2)
 given_from_less (u ∷ vs) [] xs ys v a b all at one = absurd all
 given_from_less (u ∷ vs) (w ∷ ws) [] ys v a b all at one = absurd all
 given_from_less (u ∷ vs) (w ∷ ws) (x ∷ xs) [] v a b all at one = absurd all
 given_from_less (u ∷ vs) (w ∷ ws) (x ∷ xs) (y ∷ ys) v a b all at one = (all.0, all.1, given_from_less vs ws xs ys v a b all.2 at one)
 
-pub given_from_at : {S H P : Type 0} → (vs ws : List (Walk S H P)) (xs ys : List (SpareSeats S H P)) (v : (Walk S H P)) (a : (SpareSeats S H P)) → IsGivenFrom (vs ++ v ∷ []) ws xs ys → a ≡ get_or ys (length vs) a → AllRoomy xs → length a.seats.items < vec_capacity a.seats
+pub given_from_at : {S H P : Type 0} → (vs ws : List SeatSight) (xs ys : List (SpareSeats S H P)) (v : SeatSight) (a : (SpareSeats S H P)) → IsGivenFrom (vs ++ v ∷ []) ws xs ys → a ≡ get_or ys (length vs) a → AllRoomy xs → length a.seats.items < vec_capacity a.seats
 given_from_at [] [] xs ys v a all at room = absurd all
 given_from_at [] (w ∷ ws) [] ys v a all at room = absurd all
 given_from_at [] (w ∷ ws) (x ∷ xs) [] v a all at room = absurd all
@@ -173,7 +174,7 @@ given_from_at (u ∷ vs) (w ∷ ws) [] ys v a all at room = absurd all
 given_from_at (u ∷ vs) (w ∷ ws) (x ∷ xs) [] v a all at room = absurd all
 given_from_at (u ∷ vs) (w ∷ ws) (x ∷ xs) (y ∷ ys) v a all at room = given_from_at vs ws xs ys v a all.2 at (λ k d lt. room (suc k) d (omega arith))
 
-pub given_from_lt : {S H P : Type 0} → (vs ws : List (Walk S H P)) (xs ys : List (SpareSeats S H P)) (v : (Walk S H P)) → IsGivenFrom (vs ++ v ∷ []) ws xs ys → length vs < length ys
+pub given_from_lt : {S H P : Type 0} → (vs ws : List SeatSight) (xs ys : List (SpareSeats S H P)) (v : SeatSight) → IsGivenFrom (vs ++ v ∷ []) ws xs ys → length vs < length ys
 given_from_lt [] [] xs ys v all = absurd all
 given_from_lt [] (w ∷ ws) [] ys v all = absurd all
 given_from_lt [] (w ∷ ws) (x ∷ xs) [] v all = absurd all
@@ -183,14 +184,14 @@ given_from_lt (u ∷ vs) (w ∷ ws) [] ys v all = absurd all
 given_from_lt (u ∷ vs) (w ∷ ws) (x ∷ xs) [] v all = absurd all
 given_from_lt (u ∷ vs) (w ∷ ws) (x ∷ xs) (y ∷ ys) v all = let r = given_from_lt vs ws xs ys v all.2 in omega arith
 
-pub given_sum : {S H P : Type 0} → (f : SeatSight → ℕ) (xs : List (SpareSeats S H P)) (ws : List (Walk S H P)) (ys : List (SpareSeats S H P)) → IsGiven xs ws ys → on_spares f ys ≡ on_spares f xs + weigh (λ (v : (Walk S H P)). f v.seat) ws
+pub given_sum : {S H P : Type 0} → (f : Knowledge → ℕ) (xs : List (SpareSeats S H P)) (ws : List SeatSight) (ys : List (SpareSeats S H P)) → IsGiven xs ws ys → on_spares f ys ≡ on_spares f xs + weigh (λ (s : SeatSight). f s.me) ws
 given_sum f [] [] [] all = refl
 given_sum f [] [] (b ∷ ys) all = absurd all
 given_sum f [] (w ∷ ws) ys all = absurd all
 given_sum f (a ∷ xs) [] ys all = absurd all
 given_sum f (a ∷ xs) (w ∷ ws) [] all = absurd all
 given_sum f (a ∷ xs) (w ∷ ws) (b ∷ ys) all =
-    let l = weigh-last f b.seats.items a.seats.items w.seat all.0.seats in
+    let l = weigh-last (λ (s : SeatSight). f s.me) b.seats.items a.seats.items w all.0.seats in
     let r = given_sum f xs ws ys all.1 in omega arith
 
 pub have_more : {S H P : Type 0} → (n m : ℕ) (bs : List (SpareSeats S H P)) (k : ℕ) (b : (SpareSeats S H P)) → AllHave n (take k bs) → m ≤ n → k < length bs → b ≡ get_or bs k b → m ≤ length b.seats.items → AllHave m (take (k + 1) bs)

@@ -13,13 +13,13 @@ use Rattle.work.specs.Hands.{weigh}
 use Rattle.work.proofs.Balances.{weigh-append}
 use Rattle.cells.specs.Sights.{CellSight}
 use Rattle.cells.specs.Receipts.{AppliedEvent}
-use Rattle.cells.specs.Views.{Denial}
+use Rattle.cells.specs.Views.{Denial, Knowledge}
 use Rattle.cells.specs.Sights.{SeatSight}
 use Rattle.workers.specs.declared.deal.SpareSeats.{SpareSeats}
 use Rattle.workers.specs.declared.host_state.HostState.{HostState}
 use Rattle.workers.specs.declared.running.Report.{Report}
-use Rattle.workers.specs.Sums.{IsLater, applied_of, heard_of, refused_of, seat_applied, seat_done, seat_heard, seat_refused, job, hears}
-use Rattle.workers.specs.Spares.{AllGrown, AllGrownSpares, AllHosted, IsHosted, IsWorked, on_spares}
+use Rattle.workers.specs.Sums.{AllGrown, IsLater, applied_of, heard_of, refused_of, seat_applied, seat_done, seat_heard, seat_refused, job, hears}
+use Rattle.workers.specs.Spares.{AllGrownSpares, AllHosted, IsHosted, IsWorked, on_spares}
 use Rattle.workers.specs.HostStates.{AreParts, IsPut, IsRemoved, IsSameHostState, IsTurned}
 use Rattle.workers.specs.NetSights.{Net}
 use Rattle.workers.specs.Nets.{AllElsewhere, AllGrownNets, IsDone, IsHostState, IsKept, IsLeast, IsTurnedState, NoNet, denials_gained, done_since, receipts_gained, heard_since, nets_in, nets_of, nets_with, over_nets, over_seats}
@@ -301,13 +301,13 @@ parts_fit f nets k view is le =
 
 -- what was gained
 
-pub gains_seats : (f : SeatSight → ℕ) (g : SeatSight → SeatSight → ℕ) → ((a b : SeatSight) → IsLater a b → f b ≡ f a + g a b) → (xs ys : List SeatSight) → AllGrown xs ys → weigh f ys ≡ weigh f xs + over_seats g xs ys
+pub gains_seats : (f : Knowledge → ℕ) (g : SeatSight → SeatSight → ℕ) → ((a b : SeatSight) → IsLater a b → f b.me ≡ f a.me + g a b) → (xs ys : List SeatSight) → AllGrown xs ys → weigh (λ (s : SeatSight). f s.me) ys ≡ weigh (λ (s : SeatSight). f s.me) xs + over_seats g xs ys
 gains_seats f g one [] [] all = refl
 gains_seats f g one [] (y ∷ ys) all = absurd all
 gains_seats f g one (x ∷ xs) [] all = absurd all
 gains_seats f g one (x ∷ xs) (y ∷ ys) all = let a = one x y all.0 in let r = gains_seats f g one xs ys all.1 in omega arith
 
-gains : {S H P : Type 0} → (f : SeatSight → ℕ) (g : SeatSight → SeatSight → ℕ) → ((a b : SeatSight) → IsLater a b → f b ≡ f a + g a b) → (cs : List CellSight) (xs ys : List (SpareSeats S H P)) → AllHosted cs xs → AllGrownSpares xs ys → on_spares f ys ≡ on_spares f xs + over_nets g (nets_of cs xs) (nets_of cs ys)
+gains : {S H P : Type 0} → (f : Knowledge → ℕ) (g : SeatSight → SeatSight → ℕ) → ((a b : SeatSight) → IsLater a b → f b.me ≡ f a.me + g a b) → (cs : List CellSight) (xs ys : List (SpareSeats S H P)) → AllHosted cs xs → AllGrownSpares xs ys → on_spares f ys ≡ on_spares f xs + over_nets g (nets_of cs xs) (nets_of cs ys)
 gains f g one [] [] [] hosted all = refl
 gains f g one [] [] (y ∷ ys) hosted all = absurd all
 gains f g one [] (x ∷ xs) ys hosted all = absurd hosted
@@ -323,7 +323,7 @@ gained_is a b l = ap (drop (length a.me.receipts)) l.gained ∙ drop-append_seam
 denied_is : (a b : SeatSight) (l : IsLater a b) → denials_gained a b ≡ l.denials
 denied_is a b l = ap (drop (length a.me.denials)) l.refused ∙ drop-append_seam a.me.denials l.denials
 
-pub one_done : (h : Job → ℕ) (a b : SeatSight) → IsLater a b → seat_done h b ≡ seat_done h a + done_since h a b
+pub one_done : (h : Job → ℕ) (a b : SeatSight) → IsLater a b → seat_done h b.me ≡ seat_done h a.me + done_since h a b
 one_done h a b l =
     let p : applied_of h b.me.config b.me.receipts ≡ applied_of h a.me.config a.me.receipts + applied_of h a.me.config (receipts_gained a b) =
     (λ i. applied_of h (l.config i) (l.gained i)) ∙ weigh-append (λ (r : AppliedEvent). h (job a.me.config.number r.event)) a.me.receipts l.receipts ∙ ap (λ x. applied_of h a.me.config a.me.receipts + applied_of h a.me.config x) (sym (gained_is a b l)) in
@@ -331,14 +331,14 @@ one_done h a b l =
     (λ i. refused_of h (l.config i) (l.refused i)) ∙ weigh-append (λ (r : Denial). h (job a.me.config.number r.event)) a.me.denials l.denials ∙ ap (λ x. refused_of h a.me.config a.me.denials + refused_of h a.me.config x) (sym (denied_is a b l)) in
     omega arith
 
-pub one_heard : (h : Job → ℕ) (a b : SeatSight) → IsLater a b → seat_heard h b ≡ seat_heard h a + heard_since h a b
+pub one_heard : (h : Job → ℕ) (a b : SeatSight) → IsLater a b → seat_heard h b.me ≡ seat_heard h a.me + heard_since h a b
 one_heard h a b l =
     (λ i. heard_of h (l.config i) (l.gained i)) ∙ weigh-append (λ (r : AppliedEvent). weigh h (hears a.me.config r)) a.me.receipts l.receipts ∙ ap (λ x. heard_of h a.me.config a.me.receipts + heard_of h a.me.config x) (sym (gained_is a b l))
 
-pub one_applied : (a b : SeatSight) → IsLater a b → seat_applied b ≡ seat_applied a + length (receipts_gained a b)
+pub one_applied : (a b : SeatSight) → IsLater a b → seat_applied b.me ≡ seat_applied a.me + length (receipts_gained a b)
 one_applied a b l = ap (λ (x : List AppliedEvent). length x) l.gained ∙ length-append a.me.receipts l.receipts ∙ ap (λ (x : List AppliedEvent). length a.me.receipts + length x) (sym (gained_is a b l))
 
-pub one_refused : (a b : SeatSight) → IsLater a b → seat_refused b ≡ seat_refused a + length (denials_gained a b)
+pub one_refused : (a b : SeatSight) → IsLater a b → seat_refused b.me ≡ seat_refused a.me + length (denials_gained a b)
 one_refused a b l = ap (λ (x : List Denial). length x) l.refused ∙ length-append a.me.denials l.denials ∙ ap (λ (x : List Denial). length a.me.denials + length x) (sym (denied_is a b l))
 
 pub is_done : {S H P : Type 0} → (cs : List CellSight) (xs ys : List (SpareSeats S H P)) (came went : (Job → ℕ) → ℕ) (r : Report) → AllHosted cs xs → AllGrownSpares xs ys → IsWorked cs xs ys came went r → IsDone (nets_of cs xs) (nets_of cs ys) came went r

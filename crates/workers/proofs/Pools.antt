@@ -86,14 +86,14 @@ weigh_rest f (w ∷ ws) = let r = weigh_rest f ws in omega arith
 
 rest_later : {S H P : Type 0} → (ws : List (Worker S H P)) → AllLaterWorkers ws (map at_rest ws)
 rest_later [] = tt
-rest_later (w ∷ ws) = (all_later_none w.walks.items, rest_later ws)
+rest_later (w ∷ ws) = (all_later_none w.seats.items, rest_later ws)
 
 no_put : (h : Job → ℕ) (o : Option (Pass Job Hand)) → IsPassing None o → (weigh h (hand_of o).put ≡ 0) × (weigh h (hand_of o).taken ≡ 0)
 no_put h None n = (refl, refl)
 no_put h (Some p) n = absurd n
 
 pub later_workers_both : {S H P : Type 0} → (xs ys zs : List (Worker S H P)) → AllLaterWorkers xs ys → AllLaterWorkers ys zs → AllLaterWorkers xs zs
-later_workers_both xs ys zs a b = zip-then _ _ _ (λ (x y z : Worker _ _ _). all_later_both x.walks.items y.walks.items z.walks.items) xs ys zs a b
+later_workers_both xs ys zs a b = zip-then _ _ _ (λ (x y z : Worker _ _ _). all_later_both x.seats.items y.seats.items z.seats.items) xs ys zs a b
 
 -- what the first worker does at the end closes the sums of all
 pub closed : {S H P : Type 0} → (cs : List CellSight) (xs zs : List (Worker S H P)) (ps qs : List (Pass Job Hand)) (a c : (Worker S H P)) (left : List Job)

@@ -3,14 +3,14 @@ use Rattle.std.proofs.Common.{◌≡◌, ◌≤◌, ◌<◌, ◌+◌, ℕ, zero,
 use Rattle.types.specs.declared.event.Out.{Out}
 use Rattle.types.specs.declared.event.Out.TheVariants.{ArmNomination, ArmBallot, Emit, Externalized}
 use Rattle.protocol.specs.Networks.{HostedNode}
-use Rattle.workers.specs.declared.walk.SlotEmission.{SlotEmission}
+use Rattle.workers.specs.declared.applying.SlotEmission.{SlotEmission}
 use mathlib.Core.List.{IsPrefix}
 use Rattle.std.proofs.lemmas.Bool.{cases_eq}
 use Rattle.std.proofs.lemmas.List.{take-append-le, take_more, reverse-append, at_drop_more, at_drop_all, get_or_default, get_or-set_other, length-set}
 use Rattle.std.proofs.lemmas.List.Elements.{All-append, All-cons, All-nil}
+use Rattle.std.proofs.lemmas.Option.{get_or_from_slice_get, slice_get_within}
 use Rattle.std.proofs.lemmas.Slice.Zip.{AllZip-long}
 use Rattle.std.proofs.Common.{reverse}
-use Rattle.std.proofs.Math.ListN.{get_or-append}
 use Rattle.std.proofs.Common.{drop}
 use Rattle.protocol.specs.Hosts.{Config, Entry}
 use Rattle.work.specs.declared.rule.Job.{Job}
@@ -24,18 +24,17 @@ use Rattle.cells.specs.Cells.{IsApplied, IsDenial, IsSeatOf}
 use Rattle.cells.specs.declared.refusal.CellRefusal.{CellRefusal}
 use Rattle.std.proofs.Common.{IfErr, OnOk, Result, Ok, Err, is_ok}
 use Rattle.cells.specs.Sights.{SeatSight}
-use Rattle.workers.specs.declared.walk.Walk.{Walk}
 use Rattle.workers.specs.declared.worker.Worker.{Worker}
 use Rattle.workers.specs.Numbers.{IsElsewhere, Lacks, IsNumberAt}
 use Rattle.workers.proofs.Pairs.{zip-at, zip-same, zip-set, zip-then}
-use Rattle.workers.specs.Sums.{job, hears, applied_of, refused_of, heard_of, done_by, followed_by, applied_many, refused_many, seat_done, hand_of, IsWalk, AllSeated, IsLater, AllLater, IsDone, weight_done, weight_followed, weight_put, weight_taken, KeepsSums, with_put, with_taken, AllPast, AllPastBut, IsPast, hear_by, hears_of, hears_from, emission_in, IsNext, IsShort, SamePlaces, IsThrough, IsSummed, IsReady, IsBusy, IsSameWorker}
+use Rattle.workers.specs.Sums.{job, hears, applied_of, refused_of, heard_of, done_by, followed_by, applied_many, refused_many, seat_done, hand_of, IsSeated, AllSeated, IsLater, AllGrown, IsDone, weight_done, weight_followed, weight_put, weight_taken, KeepsSums, with_put, with_taken, AllPast, AllPastBut, IsPast, hear_by, hears_of, hears_from, emission_in, IsThrough, IsSummed, IsReady, IsBusy, IsSameWorker}
 use Rattle.work.specs.declared.line.Queue.{Queue}
 use Rattle.std.proofs.Common.{Option, Some, None, ⊎_elim}
 use Rattle.workers.specs.Sums.{IsPassing}
 
 -- lists with one element changed
 
-pub weigh_set : {S H P : Type 0} → (f : (Walk S H P) → ℕ) (ws : List (Walk S H P)) (k : ℕ) (old w : (Walk S H P)) → k < length ws → old ≡ get_or ws k old → weigh f (slice_set ws k w) + f old ≡ weigh f ws + f w
+pub weigh_set : (f : SeatSight → ℕ) (ws : List SeatSight) (k : ℕ) (old w : SeatSight) → k < length ws → old ≡ get_or ws k old → weigh f (slice_set ws k w) + f old ≡ weigh f ws + f w
 weigh_set f [] k old w lt is = absurd (omega arith)
 weigh_set f (x ∷ xs) zero old w lt is = let s : f old ≡ f x = ap f is in omega arith
 weigh_set f (x ∷ xs) (suc k) old w lt is = let s = weigh_set f xs k old w (omega arith) is in omega arith
@@ -64,45 +63,18 @@ later_both a b c x y = record {
   refused = y.refused ∙ ap (λ l. l ++ y.denials) x.refused ∙ append_assoc a.me.denials x.denials y.denials;
 }
 
-pub all_later_none : {S H P : Type 0} → (ws : List (Walk S H P)) → AllLater ws ws
-all_later_none ws = zip-same (λ (a b : Walk _ _ _). IsLater a.seat b.seat) (λ w. later_none w.seat) ws
+pub all_later_none : (ss : List SeatSight) → AllGrown ss ss
+all_later_none ss = zip-same IsLater later_none ss
 
-pub all_later_both : {S H P : Type 0} → (xs ys zs : List (Walk S H P)) → AllLater xs ys → AllLater ys zs → AllLater xs zs
-all_later_both xs ys zs x y = zip-then _ _ _ (λ (a b c : Walk _ _ _). later_both a.seat b.seat c.seat) xs ys zs x y
+pub all_later_both : (xs ys zs : List SeatSight) → AllGrown xs ys → AllGrown ys zs → AllGrown xs zs
+all_later_both xs ys zs x y = zip-then _ _ _ later_both xs ys zs x y
 
-pub all_later_set : {S H P : Type 0} → (ws : List (Walk S H P)) (k : ℕ) (old w : (Walk S H P)) → k < length ws → old ≡ get_or ws k old → IsLater old.seat w.seat → AllLater ws (slice_set ws k w)
-all_later_set ws k old w lt is l = zip-set (λ (a b : Walk _ _ _). IsLater a.seat b.seat) ws ws k old w (all_later_none ws) lt is l
+pub all_later_set : (ss : List SeatSight) (k : ℕ) (old s : SeatSight) → k < length ss → old ≡ get_or ss k old → IsLater old s → AllGrown ss (slice_set ss k s)
+all_later_set ss k old s lt is l = zip-set IsLater ss ss k old s (all_later_none ss) lt is l
 
--- places that stay
-
-pub places_none : {S H P : Type 0} → (ws : List (Walk S H P)) → SamePlaces ws ws
-places_none ws = zip-same (λ (a b : Walk _ _ _). b.place ≡ a.place) (λ w. refl) ws
-
-pub places_both : {S H P : Type 0} → (xs ys zs : List (Walk S H P)) → SamePlaces xs ys → SamePlaces ys zs → SamePlaces xs zs
-places_both xs ys zs x y = zip-then _ _ _ (λ (a b c : Walk _ _ _) (p : b.place ≡ a.place) (q : c.place ≡ b.place). q ∙ p) xs ys zs x y
-
-pub places_set : {S H P : Type 0} → (ws : List (Walk S H P)) (k : ℕ) (old w : (Walk S H P)) → k < length ws → old ≡ get_or ws k old → w.place ≡ old.place → SamePlaces ws (slice_set ws k w)
-places_set ws k old w lt is e = zip-set (λ (a b : Walk _ _ _). b.place ≡ a.place) ws ws k old w (places_none ws) lt is e
-
--- the receipt at the place stays, and there are no fewer
-pub next_later : {S H P : Type 0} → (a b : (Walk S H P)) (r : AppliedEvent) → IsLater a.seat b.seat → b.place ≡ a.place → a.place < length a.seat.me.receipts → IsNext a r → IsNext b r × (b.place < length b.seat.me.receipts)
-next_later a b r later place lt next =
-    let l = ap (λ (x : List AppliedEvent). length x) later.gained in
-    let m = length-append a.seat.me.receipts later.receipts in (
-      next ∙ sym (get_or-append a.seat.me.receipts later.receipts r a.place lt) ∙ (λ i. get_or (sym later.gained i) (sym place i) r),
-      omega arith,
-    )
-
-pub short_at : {S H P : Type 0} → (ws : List (Walk S H P)) (k : ℕ) (w : (Walk S H P)) → IsShort ws k → w ≡ get_or ws k w → w.place < length w.seat.me.receipts
-short_at ws k w short is = subst (λ (v : (Walk _ _ _)). v.place < length v.seat.me.receipts) (sym is) (short.1 w)
-
-pub still_next : {S H P : Type 0} → (xs ys : List (Walk S H P)) (k : ℕ) (a b : (Walk S H P)) (r : AppliedEvent) → IsShort xs k → a ≡ get_or xs k a → b ≡ get_or ys k b → SamePlaces xs ys → AllLater xs ys → IsNext a r → IsNext b r × (b.place < length b.seat.me.receipts)
-still_next xs ys k a b r short is at places later next =
-    next_later a b r (zip-at (λ (u v : Walk _ _ _). IsLater u.seat v.seat) xs ys k a b later short.0 is at)
-    (zip-at (λ (u v : Walk _ _ _). v.place ≡ u.place) xs ys k a b places short.0 is at) (short_at xs k a short is) next
-
-pub moved_walk : {S H P : Type 0} → (c : CellSight) (w v : (Walk S H P)) → IsWalk c w → w.place < length w.seat.me.receipts → v.seat ≡ w.seat → v.place ≡ w.place + 1 → IsWalk c v
-moved_walk c w v walk lt seat place = (subst (IsSeatOf c) (sym seat) walk.0, (let l : length v.seat.me.receipts ≡ length w.seat.me.receipts = ap (λ (s : SeatSight). length s.me.receipts) seat in omega arith))
+-- a seat that lets receipts go is the same for all else
+pub later_let_go : (a : SeatSight) (n : ℕ) → IsLater a (record a { let_go = n })
+later_let_go a n = record { cell = refl; number = refl; config = refl; seats = refl; closed = refl; stops = refl; seen = ([], append-nil _); lasting = λ e. e; receipts = []; denials = []; gained = sym (append-nil _); refused = sym (append-nil _) }
 
 -- jobs for one node more
 hears_of-append : (e : SlotEmission) (hs : List HostedNode) (h : HostedNode) → hears_of e (hs ++ h ∷ []) ≡ hears_of e hs ++ hear_by e h
@@ -171,18 +143,18 @@ pub number_at : (cs : List CellSight) (k : ℕ) (c : CellSight) (n m : ℕ) → 
 number_at cs k c n m lt at is same = λ d. ap (λ (x : CellSight). x.config.number) (get_or_default cs k d c lt ∙ sym at) ∙ sym (same ∙ is)
 
 -- all outs of the receipt were handed on
-pub hears_whole : {S H P : Type 0} (c : CellSight) (w : Walk S H P) (config : Config) (r : AppliedEvent) (index mark : ℕ) (handed : List Job) → IsWalk c w → config ≡ c.config → length r.outs ≤ index → handed ++ hears_from config (drop index r.outs) (drop mark r.marks) ≡ hears config r → handed ≡ hears w.seat.me.config r
-hears_whole c w config r index mark handed walk is le all =
+pub hears_whole : (config : Config) (r : AppliedEvent) (index mark : ℕ) (handed : List Job) → length r.outs ≤ index → handed ++ hears_from config (drop index r.outs) (drop mark r.marks) ≡ hears config r → handed ≡ hears config r
+hears_whole config r index mark handed le all =
     sym (append-nil handed)
     ∙ sym (at_drop_all (λ l. handed ++ hears_from config l (drop mark r.marks)) r.outs index le)
-    ∙ all ∙ ap (λ (k : Config). hears k r) (is ∙ sym walk.0.config)
+    ∙ all
 
 -- past all receipts but one seat's
 
-pub past_set : {S H P : Type 0} → (ws : List (Walk S H P)) (k : ℕ) (v : (Walk S H P)) → AllPastBut k ws → AllPastBut k (slice_set ws k v)
+pub past_set : (ws : List SeatSight) (k : ℕ) (v : SeatSight) → AllPastBut k ws → AllPastBut k (slice_set ws k v)
 past_set ws k v all i d apart lt = subst IsPast (sym (get_or-set_other ws k i v d apart)) (all i d apart (omega (arith, lt, length-set ws k v)))
 
-pub past_all : {S H P : Type 0} → (ws : List (Walk S H P)) (k : ℕ) (w : (Walk S H P)) → AllPastBut k ws → w ≡ get_or ws k w → length w.seat.me.receipts ≤ w.place → AllPast ws
+pub past_all : (ws : List SeatSight) (k : ℕ) (w : SeatSight) → AllPastBut k ws → w ≡ get_or ws k w → length w.me.receipts ≤ w.let_go → AllPast ws
 past_all ws k w all is one i d lt =
     ⊎_elim
     (λ (e : i ≡ k). subst IsPast (is ∙ get_or_default ws k w d (subst (λ j. j < length ws) e lt) ∙ ap (λ j. get_or ws j d) (sym e)) one)
@@ -191,54 +163,52 @@ past_all ws k w all is one i d lt =
 
 -- one job by one seat
 
-followed_same : {S H P : Type 0} → (h : Job → ℕ) (a b : (Walk S H P)) (more : List AppliedEvent) → b.seat.me.config ≡ a.seat.me.config → b.place ≡ a.place → b.seat.me.receipts ≡ a.seat.me.receipts ++ more → a.place ≤ length a.seat.me.receipts → followed_by h b ≡ followed_by h a
+followed_same : (h : Job → ℕ) (a b : SeatSight) (more : List AppliedEvent) → b.me.config ≡ a.me.config → b.let_go ≡ a.let_go → b.me.receipts ≡ a.me.receipts ++ more → a.let_go ≤ length a.me.receipts → followed_by h b ≡ followed_by h a
 followed_same h a b more config place gained le =
     (λ i. heard_of h (config i) (take (place i) (gained i)))
-    ∙ ap (heard_of h a.seat.me.config) (take-append-le a.place a.seat.me.receipts more le)
+    ∙ ap (heard_of h a.me.config) (take-append-le a.let_go a.me.receipts more le)
 
-pub done_well : {S H P : Type 0} (a b : Walk S H P) (c : CellSight) (j : Job) (x : AppliedEvent) → c.config.number ≡ j.network → IsWalk c a → IsSeatOf c b.seat → b.place ≡ a.place → b.seat.me.number ≡ a.seat.me.number
-    → x.event ≡ j.event → b.seat.me.receipts ≡ a.seat.me.receipts ++ x ∷ [] → b.seat.me.denials ≡ a.seat.me.denials → b.seat.me.stops ≡ a.seat.me.stops
-    → IsPrefix a.seat.me.seen b.seat.me.seen → (a.seat.me.stopped ≡ true → b.seat.me.stopped ≡ true) → IsDone a b j true
-done_well a b c j x here walk seat place number event more same stops seen lasting =
-    let config : b.seat.me.config ≡ a.seat.me.config = seat.config ∙ sym walk.0.config in
-    let n : ℕ = a.seat.me.config.number in
+pub done_well : (a b : SeatSight) (c : CellSight) (j : Job) (x : AppliedEvent) → c.config.number ≡ j.network → IsSeated c a → IsSeatOf c b → b.let_go ≡ a.let_go → b.me.number ≡ a.me.number
+    → x.event ≡ j.event → b.me.receipts ≡ a.me.receipts ++ x ∷ [] → b.me.denials ≡ a.me.denials → b.me.stops ≡ a.me.stops
+    → IsPrefix a.me.seen b.me.seen → (a.me.stopped ≡ true → b.me.stopped ≡ true) → IsDone a b j true
+done_well a b c j x here seated seat place number event more same stops seen lasting =
+    let config : b.me.config ≡ a.me.config = seat.config ∙ sym seated.0.config in
+    let n : ℕ = a.me.config.number in
     record {
-      later = record { cell = seat.cell ∙ sym walk.0.cell; number = number; config = config; seats = seat.seats ∙ sym walk.0.seats; closed = seat.open_yet ∙ sym walk.0.open_yet; stops = stops; seen = seen; lasting = lasting; receipts = x ∷ []; denials = []; gained = more; refused = same ∙ sym (append-nil _) };
-      place = place;
+      later = record { cell = seat.cell ∙ sym seated.0.cell; number = number; config = config; seats = seat.seats ∙ sym seated.0.seats; closed = seat.open_yet ∙ sym seated.0.open_yet; stops = stops; seen = seen; lasting = lasting; receipts = x ∷ []; denials = []; gained = more; refused = same ∙ sym (append-nil _) };
       sum = λ h.
-          let p : applied_of h b.seat.me.config b.seat.me.receipts ≡ applied_of h a.seat.me.config a.seat.me.receipts + h (job n x.event) = (λ i. applied_of h (config i) (more i)) ∙ weigh-append (λ (r : AppliedEvent). h (job n r.event)) a.seat.me.receipts (x ∷ []) ∙ omega arith in
-          let q : h (job n x.event) ≡ h j = λ i. h (job ((ap (λ (k : Config). k.number) walk.0.config ∙ here) i) (event i)) in
-          let d : refused_of h b.seat.me.config b.seat.me.denials ≡ refused_of h a.seat.me.config a.seat.me.denials = λ i. refused_of h (config i) (same i) in
+          let p : applied_of h b.me.config b.me.receipts ≡ applied_of h a.me.config a.me.receipts + h (job n x.event) = (λ i. applied_of h (config i) (more i)) ∙ weigh-append (λ (r : AppliedEvent). h (job n r.event)) a.me.receipts (x ∷ []) ∙ omega arith in
+          let q : h (job n x.event) ≡ h j = λ i. h (job ((ap (λ (k : Config). k.number) seated.0.config ∙ here) i) (event i)) in
+          let d : refused_of h b.me.config b.me.denials ≡ refused_of h a.me.config a.me.denials = λ i. refused_of h (config i) (same i) in
           omega arith;
-      followed = λ h. followed_same h a b (x ∷ []) config place more walk.1;
-      applied = ap (λ (l : List AppliedEvent). length l) more ∙ length-append a.seat.me.receipts (x ∷ []);
+      followed = λ h. followed_same h a b (x ∷ []) config place more seated.1;
+      applied = ap (λ (l : List AppliedEvent). length l) more ∙ length-append a.me.receipts (x ∷ []);
       refused = ap (λ (l : List Denial). length l) same ∙ omega arith;
     }
 
-pub done_ill : {S H P : Type 0} (a b : Walk S H P) (c : CellSight) (j : Job) (x : Denial) → c.config.number ≡ j.network → IsWalk c a → IsSeatOf c b.seat → b.place ≡ a.place → b.seat.me.number ≡ a.seat.me.number
-    → x.event ≡ j.event → b.seat.me.receipts ≡ a.seat.me.receipts → b.seat.me.denials ≡ a.seat.me.denials ++ x ∷ [] → b.seat.me.stops ≡ a.seat.me.stops
-    → IsPrefix a.seat.me.seen b.seat.me.seen → (a.seat.me.stopped ≡ true → b.seat.me.stopped ≡ true) → IsDone a b j false
-done_ill a b c j x here walk seat place number event unchanged more stops seen lasting =
-    let config : b.seat.me.config ≡ a.seat.me.config = seat.config ∙ sym walk.0.config in
-    let same : b.seat.me.receipts ≡ a.seat.me.receipts ++ [] = unchanged ∙ sym (append-nil _) in
-    let n : ℕ = a.seat.me.config.number in
+pub done_ill : (a b : SeatSight) (c : CellSight) (j : Job) (x : Denial) → c.config.number ≡ j.network → IsSeated c a → IsSeatOf c b → b.let_go ≡ a.let_go → b.me.number ≡ a.me.number
+    → x.event ≡ j.event → b.me.receipts ≡ a.me.receipts → b.me.denials ≡ a.me.denials ++ x ∷ [] → b.me.stops ≡ a.me.stops
+    → IsPrefix a.me.seen b.me.seen → (a.me.stopped ≡ true → b.me.stopped ≡ true) → IsDone a b j false
+done_ill a b c j x here seated seat place number event unchanged more stops seen lasting =
+    let config : b.me.config ≡ a.me.config = seat.config ∙ sym seated.0.config in
+    let same : b.me.receipts ≡ a.me.receipts ++ [] = unchanged ∙ sym (append-nil _) in
+    let n : ℕ = a.me.config.number in
     record {
-      later = record { cell = seat.cell ∙ sym walk.0.cell; number = number; config = config; seats = seat.seats ∙ sym walk.0.seats; closed = seat.open_yet ∙ sym walk.0.open_yet; stops = stops; seen = seen; lasting = lasting; receipts = []; denials = x ∷ []; gained = same; refused = more };
-      place = place;
+      later = record { cell = seat.cell ∙ sym seated.0.cell; number = number; config = config; seats = seat.seats ∙ sym seated.0.seats; closed = seat.open_yet ∙ sym seated.0.open_yet; stops = stops; seen = seen; lasting = lasting; receipts = []; denials = x ∷ []; gained = same; refused = more };
       sum = λ h.
-          let p : applied_of h b.seat.me.config b.seat.me.receipts ≡ applied_of h a.seat.me.config a.seat.me.receipts = λ i. applied_of h (config i) (unchanged i) in
-          let d : refused_of h b.seat.me.config b.seat.me.denials ≡ refused_of h a.seat.me.config a.seat.me.denials + h (job n x.event) = (λ i. refused_of h (config i) (more i)) ∙ weigh-append (λ (x : Denial). h (job n x.event)) a.seat.me.denials (x ∷ []) ∙ omega arith in
-          let q : h (job n x.event) ≡ h j = λ i. h (job ((ap (λ (k : Config). k.number) walk.0.config ∙ here) i) (event i)) in
+          let p : applied_of h b.me.config b.me.receipts ≡ applied_of h a.me.config a.me.receipts = λ i. applied_of h (config i) (unchanged i) in
+          let d : refused_of h b.me.config b.me.denials ≡ refused_of h a.me.config a.me.denials + h (job n x.event) = (λ i. refused_of h (config i) (more i)) ∙ weigh-append (λ (x : Denial). h (job n x.event)) a.me.denials (x ∷ []) ∙ omega arith in
+          let q : h (job n x.event) ≡ h j = λ i. h (job ((ap (λ (k : Config). k.number) seated.0.config ∙ here) i) (event i)) in
           omega arith;
-      followed = λ h. followed_same h a b [] config place same walk.1;
+      followed = λ h. followed_same h a b [] config place same seated.1;
       applied = ap (λ (l : List AppliedEvent). length l) unchanged ∙ omega arith;
-      refused = ap (λ (l : List Denial). length l) more ∙ length-append a.seat.me.denials (x ∷ []);
+      refused = ap (λ (l : List Denial). length l) more ∙ length-append a.me.denials (x ∷ []);
     }
 
 -- what a worker keeps
 
 pub kept_none : {S H P : Type 0} → (cs : List CellSight) (a : (Worker S H P)) → KeepsSums cs [] a a
-kept_none cs a = record { lacking = []; elsewhere = All-nil (IsElsewhere cs); sum = λ h. omega arith; applied = omega arith; refused = omega arith; later = all_later_none a.walks.items; parts = refl }
+kept_none cs a = record { lacking = []; elsewhere = All-nil (IsElsewhere cs); sum = λ h. omega arith; applied = omega arith; refused = omega arith; later = all_later_none a.seats.items; parts = refl }
 
 pub kept_both : {S H P : Type 0} → (cs : List CellSight) (xs ys : List Job) (a b c : (Worker S H P)) → KeepsSums cs xs a b → KeepsSums cs ys b c → KeepsSums cs (xs ++ ys) a c
 kept_both cs xs ys a b c k l = record {
@@ -247,54 +217,54 @@ kept_both cs xs ys a b c k l = record {
   sum = λ h. let x = k.sum h in let y = l.sum h in let z = weigh-append h k.lacking l.lacking in let w = weigh-append h xs ys in omega arith;
   applied = let x = k.applied in let y = l.applied in omega arith;
   refused = let x = k.refused in let y = l.refused in let z = length-append k.lacking l.lacking in omega arith;
-  later = all_later_both a.walks.items b.walks.items c.walks.items k.later l.later;
+  later = all_later_both a.seats.items b.seats.items c.seats.items k.later l.later;
   parts = l.parts ∙ k.parts;
 }
 
 -- a job of no network here
-pub kept_lacking : {S H P : Type 0} → (cs : List CellSight) (a b : (Worker S H P)) (j : Job) → Lacks cs j.network → b.walks.items ≡ a.walks.items → b.pass ≡ a.pass → b.applied ≡ a.applied → b.refused ≡ a.refused + 1 → KeepsSums cs (j ∷ []) a b
-kept_lacking cs a b j lacks walks pass applied refused = record {
+pub kept_lacking : {S H P : Type 0} → (cs : List CellSight) (a b : (Worker S H P)) (j : Job) → Lacks cs j.network → b.seats.items ≡ a.seats.items → b.pass ≡ a.pass → b.applied ≡ a.applied → b.refused ≡ a.refused + 1 → KeepsSums cs (j ∷ []) a b
+kept_lacking cs a b j lacks seats pass applied refused = record {
   lacking = j ∷ [];
   elsewhere = All-cons (IsElsewhere cs) j [] lacks (All-nil (IsElsewhere cs));
   sum = λ h.
-      let d : weight_done h b ≡ weight_done h a = ap (weigh (done_by h)) walks in
-      let k : weight_followed h b ≡ weight_followed h a = ap (weigh (followed_by h)) walks in
+      let d : weight_done h b ≡ weight_done h a = ap (weigh (done_by h)) seats in
+      let k : weight_followed h b ≡ weight_followed h a = ap (weigh (followed_by h)) seats in
       let p : weight_put h b ≡ weight_put h a = ap (λ p. weigh h (hand_of p).put) pass in
       let t : weight_taken h b ≡ weight_taken h a = ap (λ p. weigh h (hand_of p).taken) pass in
       omega arith;
-  applied = let m : weigh applied_many b.walks.items ≡ weigh applied_many a.walks.items = ap (weigh applied_many) walks in omega arith;
-  refused = let m : weigh refused_many b.walks.items ≡ weigh refused_many a.walks.items = ap (weigh refused_many) walks in omega arith;
-  later = subst (AllLater a.walks.items) (sym walks) (all_later_none a.walks.items);
+  applied = let m : weigh applied_many b.seats.items ≡ weigh applied_many a.seats.items = ap (weigh applied_many) seats in omega arith;
+  refused = let m : weigh refused_many b.seats.items ≡ weigh refused_many a.seats.items = ap (weigh refused_many) seats in omega arith;
+  later = subst (AllGrown a.seats.items) (sym seats) (all_later_none a.seats.items);
   parts = ap (λ p. (hand_of p).parts) pass;
 }
 
 -- a job by one seat
-pub kept_done : {S H P : Type 0} → (cs : List CellSight) (a b : (Worker S H P)) (j : Job) (k : ℕ) (old new : (Walk S H P)) (well : Bool) → k < length a.walks.items → old ≡ get_or a.walks.items k old → IsDone old new j well
-    → b.walks.items ≡ slice_set a.walks.items k new → b.pass ≡ a.pass
+pub kept_done : {S H P : Type 0} → (cs : List CellSight) (a b : (Worker S H P)) (j : Job) (k : ℕ) (old new : SeatSight) (well : Bool) → k < length a.seats.items → old ≡ get_or a.seats.items k old → IsDone old new j well
+    → b.seats.items ≡ slice_set a.seats.items k new → b.pass ≡ a.pass
     → b.applied ≡ a.applied + (if well then 1 else 0) → b.refused ≡ a.refused + (if well then 0 else 1)
     → KeepsSums cs (j ∷ []) a b
-kept_done cs a b j k old new well lt at one walks pass applied refused = record {
+kept_done cs a b j k old new well lt at one seats pass applied refused = record {
   lacking = [];
   elsewhere = All-nil (IsElsewhere cs);
   sum = λ h.
-      let d : weight_done h b ≡ weigh (done_by h) (slice_set a.walks.items k new) = ap (weigh (done_by h)) walks in
-      let s = weigh_set (done_by h) a.walks.items k old new lt at in
+      let d : weight_done h b ≡ weigh (done_by h) (slice_set a.seats.items k new) = ap (weigh (done_by h)) seats in
+      let s = weigh_set (done_by h) a.seats.items k old new lt at in
       let x = one.sum h in
-      let e : weight_followed h b ≡ weigh (followed_by h) (slice_set a.walks.items k new) = ap (weigh (followed_by h)) walks in
-      let f = weigh_set (followed_by h) a.walks.items k old new lt at in
+      let e : weight_followed h b ≡ weigh (followed_by h) (slice_set a.seats.items k new) = ap (weigh (followed_by h)) seats in
+      let f = weigh_set (followed_by h) a.seats.items k old new lt at in
       let y = one.followed h in
       let p : weight_put h b ≡ weight_put h a = ap (λ p. weigh h (hand_of p).put) pass in
       let t : weight_taken h b ≡ weight_taken h a = ap (λ p. weigh h (hand_of p).taken) pass in
       omega arith;
   applied =
-      let m : weigh applied_many b.walks.items ≡ weigh applied_many (slice_set a.walks.items k new) = ap (weigh applied_many) walks in
-      let s = weigh_set applied_many a.walks.items k old new lt at in
+      let m : weigh applied_many b.seats.items ≡ weigh applied_many (slice_set a.seats.items k new) = ap (weigh applied_many) seats in
+      let s = weigh_set applied_many a.seats.items k old new lt at in
       let x = one.applied in omega arith;
   refused =
-      let m : weigh refused_many b.walks.items ≡ weigh refused_many (slice_set a.walks.items k new) = ap (weigh refused_many) walks in
-      let s = weigh_set refused_many a.walks.items k old new lt at in
+      let m : weigh refused_many b.seats.items ≡ weigh refused_many (slice_set a.seats.items k new) = ap (weigh refused_many) seats in
+      let s = weigh_set refused_many a.seats.items k old new lt at in
       let x = one.refused in omega arith;
-  later = subst (AllLater a.walks.items) (sym walks) (all_later_set a.walks.items k old new lt at one.later);
+  later = subst (AllGrown a.seats.items) (sym seats) (all_later_set a.seats.items k old new lt at one.later);
   parts = ap (λ p. (hand_of p).parts) pass;
 }
 
@@ -304,30 +274,30 @@ kept_same cs a b same = record {
   lacking = [];
   elsewhere = All-nil (IsElsewhere cs);
   sum = λ h.
-      let d : weight_done h b ≡ weight_done h a = ap (weigh (done_by h)) same.walks in
-      let k : weight_followed h b ≡ weight_followed h a = ap (weigh (followed_by h)) same.walks in
+      let d : weight_done h b ≡ weight_done h a = ap (weigh (done_by h)) same.seats in
+      let k : weight_followed h b ≡ weight_followed h a = ap (weigh (followed_by h)) same.seats in
       let p : weight_put h b ≡ weight_put h a = ap (λ p. weigh h (hand_of p).put) same.pass in
       let t : weight_taken h b ≡ weight_taken h a = ap (λ p. weigh h (hand_of p).taken) same.pass in
       omega arith;
-  applied = let m : weigh applied_many b.walks.items ≡ weigh applied_many a.walks.items = ap (weigh applied_many) same.walks in let n = same.applied in omega arith;
-  refused = let m : weigh refused_many b.walks.items ≡ weigh refused_many a.walks.items = ap (weigh refused_many) same.walks in let n = same.refused in omega arith;
-  later = subst (AllLater a.walks.items) (sym same.walks) (all_later_none a.walks.items);
+  applied = let m : weigh applied_many b.seats.items ≡ weigh applied_many a.seats.items = ap (weigh applied_many) same.seats in let n = same.applied in omega arith;
+  refused = let m : weigh refused_many b.seats.items ≡ weigh refused_many a.seats.items = ap (weigh refused_many) same.seats in let n = same.refused in omega arith;
+  later = subst (AllGrown a.seats.items) (sym same.seats) (all_later_none a.seats.items);
   parts = ap (λ p. (hand_of p).parts) same.pass;
 }
 
--- the walk there was put back as it was
-set_same : {S H P : Type 0} → (ws : List (Walk S H P)) (k : ℕ) (w : (Walk S H P)) → k < length ws → w ≡ get_or ws k w → slice_set ws k w ≡ ws
+-- the seat there was put back as it was
+set_same : (ws : List SeatSight) (k : ℕ) (w : SeatSight) → k < length ws → w ≡ get_or ws k w → slice_set ws k w ≡ ws
 set_same [] k w lt is = absurd (omega arith)
-set_same (x ∷ xs) zero w lt is = ap (λ (y : (Walk _ _ _)). y ∷ xs) is
+set_same (x ∷ xs) zero w lt is = ap (λ (y : SeatSight). y ∷ xs) is
 set_same (x ∷ xs) (suc k) w lt is = ap (λ l. x ∷ l) (set_same xs k w (omega arith) is)
 
-pub walks_same : {S H P : Type 0} → (ws : List (Walk S H P)) (k : ℕ) (old new : (Walk S H P)) → k < length ws → old ≡ get_or ws k old → new ≡ old → slice_set ws k new ≡ ws
-walks_same ws k old new lt at same = ap (slice_set ws k) same ∙ set_same ws k old lt at
+pub seats_same : (ws : List SeatSight) (k : ℕ) (old new : SeatSight) → k < length ws → old ≡ get_or ws k old → new ≡ old → slice_set ws k new ≡ ws
+seats_same ws k old new lt at same = ap (slice_set ws k) same ∙ set_same ws k old lt at
 
 -- the job went into the queue
-pub kept_put : {S H P : Type 0} → (cs : List CellSight) (a b : (Worker S H P)) (j : Job) → b.walks ≡ a.walks → b.applied ≡ a.applied → b.refused ≡ a.refused → hand_of b.pass ≡ with_put (hand_of a.pass) j → KeepsSums cs (j ∷ []) a b
-kept_put cs a b j walks applied refused pass =
-    let items : b.walks.items ≡ a.walks.items = ap (λ v. v.items) walks in
+pub kept_put : {S H P : Type 0} → (cs : List CellSight) (a b : (Worker S H P)) (j : Job) → b.seats ≡ a.seats → b.applied ≡ a.applied → b.refused ≡ a.refused → hand_of b.pass ≡ with_put (hand_of a.pass) j → KeepsSums cs (j ∷ []) a b
+kept_put cs a b j seats applied refused pass =
+    let items : b.seats.items ≡ a.seats.items = ap (λ v. v.items) seats in
     record {
       lacking = [];
       elsewhere = All-nil (IsElsewhere cs);
@@ -337,16 +307,16 @@ kept_put cs a b j walks applied refused pass =
           let p : weight_put h b ≡ weight_put h a + h j = ap (λ (v : Hand). weigh h v.put) pass ∙ weigh-append h (hand_of a.pass).put (j ∷ []) ∙ omega arith in
           let t : weight_taken h b ≡ weight_taken h a = ap (λ (v : Hand). weigh h v.taken) pass in
           omega arith;
-      applied = let m : weigh applied_many b.walks.items ≡ weigh applied_many a.walks.items = ap (weigh applied_many) items in omega arith;
-      refused = let m : weigh refused_many b.walks.items ≡ weigh refused_many a.walks.items = ap (weigh refused_many) items in omega arith;
-      later = subst (AllLater a.walks.items) (sym items) (all_later_none a.walks.items);
+      applied = let m : weigh applied_many b.seats.items ≡ weigh applied_many a.seats.items = ap (weigh applied_many) items in omega arith;
+      refused = let m : weigh refused_many b.seats.items ≡ weigh refused_many a.seats.items = ap (weigh refused_many) items in omega arith;
+      later = subst (AllGrown a.seats.items) (sym items) (all_later_none a.seats.items);
       parts = ap (λ (v : Hand). v.parts) pass;
     }
 
 -- what was done from here was done from there, where all is the same but how the pass is named
-pub kept_from : {S H P : Type 0} → (cs : List CellSight) (js : List Job) (a b c : (Worker S H P)) → b.walks ≡ a.walks → b.applied ≡ a.applied → b.refused ≡ a.refused → hand_of b.pass ≡ hand_of a.pass → KeepsSums cs js b c → KeepsSums cs js a c
-kept_from cs js a b c walks applied refused pass kept =
-    let items : b.walks.items ≡ a.walks.items = ap (λ v. v.items) walks in
+pub kept_from : {S H P : Type 0} → (cs : List CellSight) (js : List Job) (a b c : (Worker S H P)) → b.seats ≡ a.seats → b.applied ≡ a.applied → b.refused ≡ a.refused → hand_of b.pass ≡ hand_of a.pass → KeepsSums cs js b c → KeepsSums cs js a c
+kept_from cs js a b c seats applied refused pass kept =
+    let items : b.seats.items ≡ a.seats.items = ap (λ v. v.items) seats in
     record {
       lacking = kept.lacking;
       elsewhere = kept.elsewhere;
@@ -356,16 +326,16 @@ kept_from cs js a b c walks applied refused pass kept =
           let p : weight_put h b ≡ weight_put h a = ap (λ (v : Hand). weigh h v.put) pass in
           let t : weight_taken h b ≡ weight_taken h a = ap (λ (v : Hand). weigh h v.taken) pass in
           let s = kept.sum h in omega arith;
-      applied = let m : weigh applied_many b.walks.items ≡ weigh applied_many a.walks.items = ap (weigh applied_many) items in let s = kept.applied in omega arith;
-      refused = let m : weigh refused_many b.walks.items ≡ weigh refused_many a.walks.items = ap (weigh refused_many) items in let s = kept.refused in omega arith;
-      later = subst (λ l. AllLater l c.walks.items) items kept.later;
+      applied = let m : weigh applied_many b.seats.items ≡ weigh applied_many a.seats.items = ap (weigh applied_many) items in let s = kept.applied in omega arith;
+      refused = let m : weigh refused_many b.seats.items ≡ weigh refused_many a.seats.items = ap (weigh refused_many) items in let s = kept.refused in omega arith;
+      later = subst (λ l. AllGrown l c.seats.items) items kept.later;
       parts = kept.parts ∙ ap (λ (v : Hand). v.parts) pass;
     }
 
 -- the job that was taken is done
-pub kept_taken : {S H P : Type 0} → (cs : List CellSight) (a b c : (Worker S H P)) (j : Job) → b.walks ≡ a.walks → b.applied ≡ a.applied → b.refused ≡ a.refused → hand_of b.pass ≡ with_taken (hand_of a.pass) j → KeepsSums cs (j ∷ []) b c → KeepsSums cs [] a c
-kept_taken cs a b c j walks applied refused pass kept =
-    let items : b.walks.items ≡ a.walks.items = ap (λ v. v.items) walks in
+pub kept_taken : {S H P : Type 0} → (cs : List CellSight) (a b c : (Worker S H P)) (j : Job) → b.seats ≡ a.seats → b.applied ≡ a.applied → b.refused ≡ a.refused → hand_of b.pass ≡ with_taken (hand_of a.pass) j → KeepsSums cs (j ∷ []) b c → KeepsSums cs [] a c
+kept_taken cs a b c j seats applied refused pass kept =
+    let items : b.seats.items ≡ a.seats.items = ap (λ v. v.items) seats in
     record {
       lacking = kept.lacking;
       elsewhere = kept.elsewhere;
@@ -375,63 +345,52 @@ kept_taken cs a b c j walks applied refused pass kept =
           let p : weight_put h b ≡ weight_put h a = ap (λ (v : Hand). weigh h v.put) pass in
           let t : weight_taken h b ≡ weight_taken h a + h j = ap (λ (v : Hand). weigh h v.taken) pass ∙ weigh-append h (hand_of a.pass).taken (j ∷ []) ∙ omega arith in
           let s = kept.sum h in omega arith;
-      applied = let m : weigh applied_many b.walks.items ≡ weigh applied_many a.walks.items = ap (weigh applied_many) items in let s = kept.applied in omega arith;
-      refused = let m : weigh refused_many b.walks.items ≡ weigh refused_many a.walks.items = ap (weigh refused_many) items in let s = kept.refused in omega arith;
-      later = subst (λ l. AllLater l c.walks.items) items kept.later;
+      applied = let m : weigh applied_many b.seats.items ≡ weigh applied_many a.seats.items = ap (weigh applied_many) items in let s = kept.applied in omega arith;
+      refused = let m : weigh refused_many b.seats.items ≡ weigh refused_many a.seats.items = ap (weigh refused_many) items in let s = kept.refused in omega arith;
+      later = subst (λ l. AllGrown l c.seats.items) items kept.later;
       parts = kept.parts ∙ ap (λ (v : Hand). v.parts) pass;
     }
 
--- the place is past a receipt whose emissions were handed on
-pub kept_moved : {S H P : Type 0} → (cs : List CellSight) (a b c : (Worker S H P)) (k : ℕ) (w v : (Walk S H P)) (r : AppliedEvent) (xs : List Job) → k < length b.walks.items → w ≡ get_or b.walks.items k w → IsNext w r → w.place < length w.seat.me.receipts
-    → xs ≡ hears w.seat.me.config r → v.seat ≡ w.seat → v.place ≡ w.place + 1
-    → c.walks.items ≡ slice_set b.walks.items k v → c.pass ≡ b.pass → c.applied ≡ b.applied → c.refused ≡ b.refused
-    → KeepsSums cs xs a b → KeepsSums cs [] a c
-kept_moved cs a b c k w v r xs lt at next short is seat place walks pass applied refused kept =
-    let later : IsLater w.seat v.seat = record {
-      cell = ap (λ (s : SeatSight). s.cell) seat;
-      number = ap (λ (s : SeatSight). s.me.number) seat;
-      config = ap (λ (s : SeatSight). s.me.config) seat;
-      seats = ap (λ (s : SeatSight). s.me.seats) seat;
-      closed = ap (λ (s : SeatSight). s.me.closed) seat;
-      stops = ap (λ (s : SeatSight). s.me.stops) seat;
-      seen = subst (λ (s : SeatSight). IsPrefix w.seat.me.seen s.me.seen) (sym seat) ([], append-nil _);
-      lasting = subst (λ (s : SeatSight). w.seat.me.stopped ≡ true → s.me.stopped ≡ true) (sym seat) (λ e. e);
-      receipts = [];
-      denials = [];
-      gained = ap (λ (s : SeatSight). s.me.receipts) seat ∙ sym (append-nil _);
-      refused = ap (λ (s : SeatSight). s.me.denials) seat ∙ sym (append-nil _);
-    } in
+-- a seat let a receipt go, and the others heard what it makes them hear
+pub kept_followed : {S H P : Type 0} → (cs : List CellSight) (a b c : (Worker S H P)) (k : ℕ) (s t : SeatSight) (config : Config) (r : AppliedEvent) → k < length a.seats.items → s ≡ get_or a.seats.items k s → s.me.config ≡ config
+    → slice_get s.me.receipts s.let_go ≡ Some r → t ≡ record s { let_go = s.let_go + 1 }
+    → b.seats.items ≡ slice_set a.seats.items k t → b.pass ≡ a.pass → b.applied ≡ a.applied → b.refused ≡ a.refused
+    → KeepsSums cs (hears config r) b c → KeepsSums cs [] a c
+kept_followed cs a b c k s t config r lt at of first is seats pass applied refused kept =
+    let short = slice_get_within s.me.receipts s.let_go r first in
+    let here = get_or_from_slice_get s.me.receipts s.let_go r r first in
+    let later : IsLater s t = subst (IsLater s) (sym is) (later_let_go s (s.let_go + 1)) in
     record {
       lacking = kept.lacking;
       elsewhere = kept.elsewhere;
       sum = λ h.
-          let s = kept.sum h in
-          let d : weight_done h c ≡ weigh (done_by h) (slice_set b.walks.items k v) = ap (weigh (done_by h)) walks in
-          let d' = weigh_set (done_by h) b.walks.items k w v lt at in
-          let same : done_by h v ≡ done_by h w = ap (seat_done h) seat in
-          let e : weight_followed h c ≡ weigh (followed_by h) (slice_set b.walks.items k v) = ap (weigh (followed_by h)) walks in
-          let e' = weigh_set (followed_by h) b.walks.items k w v lt at in
-          let more : followed_by h v ≡ followed_by h w + weigh h xs =
-          (λ i. heard_of h (seat i).me.config (take (place i) (seat i).me.receipts))
-          ∙ ap (heard_of h w.seat.me.config) (take_more w.seat.me.receipts w.place r short ∙ ap (λ (x : AppliedEvent). take w.place w.seat.me.receipts ++ x ∷ []) (sym next))
-          ∙ weigh-append (λ (x : AppliedEvent). weigh h (hears w.seat.me.config x)) (take w.place w.seat.me.receipts) (r ∷ [])
+          let x = kept.sum h in
+          let d : weight_done h b ≡ weigh (done_by h) (slice_set a.seats.items k t) = ap (weigh (done_by h)) seats in
+          let d' = weigh_set (done_by h) a.seats.items k s t lt at in
+          let same : done_by h t ≡ done_by h s = ap (done_by h) is in
+          let e : weight_followed h b ≡ weigh (followed_by h) (slice_set a.seats.items k t) = ap (weigh (followed_by h)) seats in
+          let e' = weigh_set (followed_by h) a.seats.items k s t lt at in
+          let more : followed_by h t ≡ followed_by h s + weigh h (hears config r) =
+          ap (followed_by h) is
+          ∙ ap (heard_of h s.me.config) (take_more s.me.receipts s.let_go r short ∙ ap (λ (x : AppliedEvent). take s.let_go s.me.receipts ++ x ∷ []) here)
+          ∙ weigh-append (λ (x : AppliedEvent). weigh h (hears s.me.config x)) (take s.let_go s.me.receipts) (r ∷ [])
           ∙ omega arith
-          ∙ ap (λ (l : List Job). followed_by h w + weigh h l) (sym is) in
-          let p : weight_put h c ≡ weight_put h b = ap (λ p. weigh h (hand_of p).put) pass in
-          let t : weight_taken h c ≡ weight_taken h b = ap (λ p. weigh h (hand_of p).taken) pass in
+          ∙ ap (λ (y : Config). followed_by h s + weigh h (hears y r)) of in
+          let p : weight_put h b ≡ weight_put h a = ap (λ p. weigh h (hand_of p).put) pass in
+          let t : weight_taken h b ≡ weight_taken h a = ap (λ p. weigh h (hand_of p).taken) pass in
           omega arith;
       applied =
-          let m : weigh applied_many c.walks.items ≡ weigh applied_many (slice_set b.walks.items k v) = ap (weigh applied_many) walks in
-          let n = weigh_set applied_many b.walks.items k w v lt at in
-          let same : applied_many v ≡ applied_many w = ap (λ (t : SeatSight). length t.me.receipts) seat in
-          let s = kept.applied in omega arith;
+          let m : weigh applied_many b.seats.items ≡ weigh applied_many (slice_set a.seats.items k t) = ap (weigh applied_many) seats in
+          let n = weigh_set applied_many a.seats.items k s t lt at in
+          let same : applied_many t ≡ applied_many s = ap applied_many is in
+          let x = kept.applied in omega arith;
       refused =
-          let m : weigh refused_many c.walks.items ≡ weigh refused_many (slice_set b.walks.items k v) = ap (weigh refused_many) walks in
-          let n = weigh_set refused_many b.walks.items k w v lt at in
-          let same : refused_many v ≡ refused_many w = ap (λ (t : SeatSight). length t.me.denials) seat in
-          let s = kept.refused in omega arith;
-      later = all_later_both a.walks.items b.walks.items c.walks.items kept.later (subst (AllLater b.walks.items) (sym walks) (all_later_set b.walks.items k w v lt at later));
-      parts = ap (λ p. (hand_of p).parts) pass ∙ kept.parts;
+          let m : weigh refused_many b.seats.items ≡ weigh refused_many (slice_set a.seats.items k t) = ap (weigh refused_many) seats in
+          let n = weigh_set refused_many a.seats.items k s t lt at in
+          let same : refused_many t ≡ refused_many s = ap refused_many is in
+          let x = kept.refused in omega arith;
+      later = all_later_both a.seats.items b.seats.items c.seats.items (subst (AllGrown a.seats.items) (sym seats) (all_later_set a.seats.items k s t lt at later)) kept.later;
+      parts = kept.parts ∙ ap (λ p. (hand_of p).parts) pass;
     }
 
 summed_none : {S H P : Type 0} (cs : List CellSight) → IsSummed {S = S} {H = H} {P = P} cs [] []
@@ -472,40 +431,57 @@ one_handed cs all left now handed j a b c is sum kept one = (
 
 -- states between two jobs
 
-pub is_seated : {S H P : Type 0} → (cs : List CellSight) (q : Option Queue) (k : ℕ) (w : (Worker S H P)) → IsBusy cs q k w → k < length w.walks.items
-is_seated cs q k w b = let m = AllZip-long IsWalk cs w.walks.items b.seated in let lt = b.there in omega arith
+pub is_seated : {S H P : Type 0} → (cs : List CellSight) (q : Option Queue) (k : ℕ) (w : (Worker S H P)) → IsBusy cs q k w → k < length w.seats.items
+is_seated cs q k w b = let m = AllZip-long IsSeated cs w.seats.items b.seated in let lt = b.there in omega arith
 
 pub busy : {S H P : Type 0} → (cs : List CellSight) (q : Option Queue) (k : ℕ) (w : (Worker S H P)) → k < length cs → IsReady cs q w → IsBusy cs q k w
 busy cs q k w lt r = record { seated = r.seated; passing = r.passing; there = lt; past = λ i d apart. r.past i d }
 
-pub receipts_followed : {S H P : Type 0} → (cs : List CellSight) (q : Option Queue) (k : ℕ) (w : (Worker S H P)) (v : (Walk S H P)) → IsBusy cs q k w → v ≡ get_or w.walks.items k v → length v.seat.me.receipts ≤ v.place → IsReady cs q w
-receipts_followed cs q k w v b is past = record { seated = b.seated; passing = b.passing; past = past_all w.walks.items k v b.past is past }
-
--- the same walks with another pass
-pub ready_same : {S H P : Type 0} → (cs : List CellSight) (q : Option Queue) (a b : (Worker S H P)) → b.walks ≡ a.walks → IsPassing q b.pass → IsReady cs q a → IsReady cs q b
-ready_same cs q a b walks passing r =
-    let items : b.walks.items ≡ a.walks.items = ap (λ v. v.items) walks in
+-- the same seats with another pass
+pub ready_same : {S H P : Type 0} → (cs : List CellSight) (q : Option Queue) (a b : (Worker S H P)) → b.seats ≡ a.seats → IsPassing q b.pass → IsReady cs q a → IsReady cs q b
+ready_same cs q a b seats passing r =
+    let items : b.seats.items ≡ a.seats.items = ap (λ v. v.items) seats in
     record { seated = subst (AllSeated cs) (sym items) r.seated; passing = passing; past = subst AllPast (sym items) r.past }
 
 -- the same worker
 pub ready_still : {S H P : Type 0} → (cs : List CellSight) (q : Option Queue) (a b : (Worker S H P)) → IsSameWorker a b → IsReady cs q a → IsReady cs q b
 ready_still cs q a b same r = record {
-  seated = subst (AllSeated cs) (sym same.walks) r.seated;
+  seated = subst (AllSeated cs) (sym same.seats) r.seated;
   passing = subst (IsPassing q) (sym same.pass) r.passing;
-  past = subst AllPast (sym same.walks) r.past;
+  past = subst AllPast (sym same.seats) r.past;
 }
 
--- one walk was changed
-pub busy_set : {S H P : Type 0} → (cs : List CellSight) (q : Option Queue) (k : ℕ) (a b : (Worker S H P)) (c : CellSight) (v : (Walk S H P)) → b.walks.items ≡ slice_set a.walks.items k v → b.pass ≡ a.pass → c ≡ get_or cs k c → IsWalk c v → IsBusy cs q k a → IsBusy cs q k b
-busy_set cs q k a b c v items pass at walk r = record {
-  seated = subst (AllSeated cs) (sym items) (zip-set IsWalk cs a.walks.items k c v r.seated r.there at walk);
+-- the seat at one cell was put back as it was
+pub same_worker : {S H P : Type 0} → (a b : (Worker S H P)) (k : ℕ) (s t : SeatSight) → k < length a.seats.items → s ≡ get_or a.seats.items k s → t ≡ s
+    → b.seats.items ≡ slice_set a.seats.items k t → b.pass ≡ a.pass → b.applied ≡ a.applied → b.refused ≡ a.refused → IsSameWorker a b
+same_worker a b k s t lt at same seats pass applied refused = record { seats = seats ∙ seats_same a.seats.items k s t lt at same; pass = pass; applied = applied; refused = refused }
+
+-- the seat at one cell had no receipt left
+pub none_left : {S H P : Type 0} → (cs : List CellSight) (q : Option Queue) (k : ℕ) (a b : (Worker S H P)) (s : SeatSight) → IsBusy cs q k a → IsSameWorker a b → s ≡ get_or a.seats.items k s → s.let_go ≡ length s.me.receipts → IsReady cs q b
+none_left cs q k a b s busy same at none =
+    ready_still cs q a b same (record { seated = busy.seated; passing = busy.passing; past = past_all a.seats.items k s busy.past at (omega arith) })
+
+-- one seat was changed
+pub busy_set : {S H P : Type 0} → (cs : List CellSight) (q : Option Queue) (k : ℕ) (a b : (Worker S H P)) (c : CellSight) (v : SeatSight) → b.seats.items ≡ slice_set a.seats.items k v → b.pass ≡ a.pass → c ≡ get_or cs k c → IsSeated c v → IsBusy cs q k a → IsBusy cs q k b
+busy_set cs q k a b c v items pass at seated r = record {
+  seated = subst (AllSeated cs) (sym items) (zip-set IsSeated cs a.seats.items k c v r.seated r.there at seated);
   passing = subst (IsPassing q) (sym pass) r.passing;
   there = r.there;
-  past = subst (AllPastBut k) (sym items) (past_set a.walks.items k v r.past);
+  past = subst (AllPastBut k) (sym items) (past_set a.seats.items k v r.past);
 }
 
-pub short_of : {S H P : Type 0} → (ws : List (Walk S H P)) (k : ℕ) (w : (Walk S H P)) → k < length ws → w ≡ get_or ws k w → w.place < length w.seat.me.receipts → IsShort ws k
-short_of ws k w lt at short = (lt, λ d. subst (λ (v : (Walk _ _ _)). v.place < length v.seat.me.receipts) (at ∙ get_or_default ws k w d lt) short)
+-- there is a cell at each place
+pub cell_at : (cs : List CellSight) (k : ℕ) → k < length cs → (c : CellSight) × (c ≡ get_or cs k c)
+cell_at [] k lt = absurd (omega (arith, lt))
+cell_at (c ∷ cs) zero lt = (c, refl)
+cell_at (c ∷ cs) (suc k) lt = cell_at cs k (omega (arith, lt))
+
+-- a receipt was let go
+pub seated_less : (c : CellSight) (s t : SeatSight) (r : AppliedEvent) → IsSeated c s → slice_get s.me.receipts s.let_go ≡ Some r → t ≡ record s { let_go = s.let_go + 1 } → IsSeated c t
+seated_less c s t r seated first is =
+    let short = slice_get_within s.me.receipts s.let_go r first in
+    let o = seated.0 in
+    subst (IsSeated c) (sym is) (record { cell = o.cell; config = o.config; seats = o.seats; open_yet = o.open_yet }, omega (arith, short))
 
 weigh-reverse : {X : Type 0} (h : X → ℕ) (xs : List X) → weigh h (reverse xs) ≡ weigh h xs
 weigh-reverse h [] = refl
@@ -515,7 +491,7 @@ pub weigh-turned : {X : Type 0} (h : X → ℕ) (xs ys : List X) → ys ≡ reve
 weigh-turned h xs ys is = ap (weigh h) is ∙ weigh-reverse h xs
 
 -- a job was applied, or refused, as the cell answered
-pub answered : {S H P A : Type 0} (a b : Walk S H P) (c : CellSight) (j : Job) (r : Result A CellRefusal) → c.config.number ≡ j.network → IsWalk c a → IsSeatOf c b.seat → b.place ≡ a.place → b.seat.me.number ≡ a.seat.me.number
-    → OnOk r (IsApplied c j.event a.seat b.seat) → IfErr r (λ x. IsDenial j.event x a.seat b.seat) → IsPrefix a.seat.me.seen b.seat.me.seen → (a.seat.me.stopped ≡ true → b.seat.me.stopped ≡ true) → IsDone a b j (is_ok r)
-answered a b c j (Ok x) here walk seat place number ok err seen lasting = done_well a b c j _ here walk seat place number refl ok.receipts ok.denials ok.stops seen lasting
-answered a b c j (Err x) here walk seat place number ok err seen lasting = done_ill a b c j _ here walk seat place number refl err.receipts err.denials err.stops seen lasting
+pub answered : {A : Type 0} (a b : SeatSight) (c : CellSight) (j : Job) (r : Result A CellRefusal) → c.config.number ≡ j.network → IsSeated c a → IsSeatOf c b → b.me.number ≡ a.me.number
+    → OnOk r (IsApplied c j.event a b) → IfErr r (λ x. IsDenial j.event x a b) → IsPrefix a.me.seen b.me.seen → (a.me.stopped ≡ true → b.me.stopped ≡ true) → IsDone a b j (is_ok r)
+answered a b c j (Ok x) here seated seat number ok err seen lasting = done_well a b c j _ here seated seat ok.let_go number refl ok.receipts ok.denials ok.stops seen lasting
+answered a b c j (Err x) here seated seat number ok err seen lasting = done_ill a b c j _ here seated seat err.let_go number refl err.receipts err.denials err.stops seen lasting

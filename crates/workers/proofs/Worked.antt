@@ -17,14 +17,14 @@ use Rattle.cells.specs.Sights.{CellSight}
 use Rattle.cells.specs.Cells.{IsSeatOf}
 use Rattle.cells.specs.Closing.{AllSeats}
 use Rattle.cells.specs.Sights.{SeatSight}
+use Rattle.cells.specs.Views.{Knowledge}
 use Rattle.workers.specs.declared.deal.SpareSeats.{SpareSeats}
 use Rattle.workers.specs.declared.running.Report.{Report}
-use Rattle.workers.specs.declared.walk.Walk.{Walk}
 use Rattle.workers.specs.declared.worker.Worker.{Worker}
-use Rattle.workers.specs.Sums.{AllLater, AllLaterWorkers, AllPast, AllReady, AllSeated, IsClosed, IsPast, IsLater, IsReady, applied_by, weight_followed, followed_by, denials_of, weight_done, heard_of, receipts_of, refused_by, seat_applied, seat_done, seat_heard, seat_refused}
-use Rattle.workers.specs.Spares.{AllFresh, AllGrown, AllGrownSpares, AllHave, AllHold, AllHosted, AllRoomy, IsCounted, IsHosted, IsDealt, IsDealtAll, IsGiven, IsSplit, IsWorked, at_work, on_spares}
+use Rattle.workers.specs.Sums.{AllGrown, AllLaterWorkers, AllPast, AllReady, AllSeated, IsClosed, IsPast, IsLater, IsReady, IsSeated, applied_by, weight_followed, followed_by, denials_of, weight_done, heard_of, receipts_of, refused_by, seat_applied, seat_done, seat_heard, seat_refused}
+use Rattle.workers.specs.Spares.{AllFresh, AllGrownSpares, AllHave, AllHold, AllHosted, AllRoomy, IsCounted, IsHosted, IsDealt, IsDealtAll, IsGiven, IsSplit, IsWorked, at_work, on_spares}
 use Rattle.workers.proofs.Pairs.{zip-same, zip-then}
-use Rattle.workers.proofs.Sums.{later_none}
+use Rattle.workers.proofs.Sums.{later_both, later_let_go, later_none}
 use Rattle.workers.proofs.Deals.{dealt_all_sum, dealt_len}
 
 pub weigh_more : {X : Type 0} (f : X → ℕ) (xs : List X) (i : ℕ) (x : X) → i < length xs → x ≡ get_or xs i x → weigh f (take (i + 1) xs) ≡ weigh f (take i xs) + f x
@@ -41,7 +41,12 @@ own [] (b ∷ bs) all = absurd all
 own (c ∷ cs) [] all = absurd all
 own (c ∷ cs) (b ∷ bs) all = (all.0.own, own cs bs all.1)
 
-own_dealt : {S H P : Type 0} → (cs : List CellSight) (xs : List (SpareSeats S H P)) (ws : List (Walk S H P)) (ys : List (SpareSeats S H P)) → AllOwn cs xs → IsDealt xs ws ys → AllOwn cs ys × AllSeated cs ws × AllPast ws
+-- a seat that has let go of all its receipts
+dealt_past : (c : CellSight) (spare s : SeatSight) → IsSeatOf c spare → s ≡ record spare { let_go = length spare.me.receipts } → IsSeated c s × IsPast s
+dealt_past c spare s o is =
+    subst (λ (t : SeatSight). IsSeated c t × IsPast t) (sym is) ((record { cell = o.cell; config = o.config; seats = o.seats; open_yet = o.open_yet }, omega arith), omega arith)
+
+own_dealt : {S H P : Type 0} → (cs : List CellSight) (xs : List (SpareSeats S H P)) (ws : List SeatSight) (ys : List (SpareSeats S H P)) → AllOwn cs xs → IsDealt xs ws ys → AllOwn cs ys × AllSeated cs ws × AllPast ws
 own_dealt [] [] [] [] o d = (tt, tt, All-nil IsPast)
 own_dealt [] [] [] (y ∷ ys) o d = absurd d
 own_dealt [] [] (w ∷ ws) ys o d = absurd d
@@ -50,15 +55,15 @@ own_dealt (c ∷ cs) [] ws ys o d = absurd o
 own_dealt (c ∷ cs) (x ∷ xs) [] ys o d = absurd d
 own_dealt (c ∷ cs) (x ∷ xs) (w ∷ ws) [] o d = absurd d
 own_dealt (c ∷ cs) (x ∷ xs) (w ∷ ws) (y ∷ ys) o d =
-    let f = All-pop (IsSeatOf c) x.seats.items y.seats.items (Some w.seat) d.0.seats o.0 in
+    let f = All-pop (IsSeatOf c) x.seats.items y.seats.items (Some d.0.spare) d.0.seats o.0 in
     let r = own_dealt cs xs ws ys o.1 d.1 in
-    let p = d.0.place in
-    ((f.0, r.0), ((f.1, omega arith), r.1), All-cons IsPast w ws (omega arith) r.2)
+    let one = dealt_past c d.0.spare w f.1 d.0.past in
+    ((f.0, r.0), (one.0, r.1), All-cons IsPast w ws one.1 r.2)
 
 ready_all : {S H P : Type 0} → (cs : List CellSight) (q : Option Queue) (before : List (SpareSeats S H P)) (ws : List (Worker S H P)) (after : List (SpareSeats S H P)) → AllOwn cs before → AllHold q ws → IsDealtAll before ws after → AllReady cs q ws
 ready_all cs q before [] after o h d = All-nil (IsReady cs q)
 ready_all cs q before (w ∷ ws) after o h d =
-    let r = own_dealt cs before w.walks.items d.0 o d.1 in
+    let r = own_dealt cs before w.seats.items d.0 o d.1 in
     All-cons (IsReady cs q) w ws (record { seated = r.1; passing = h 0 w (omega arith); past = r.2 }) (ready_all cs q d.0 ws after r.0 (λ k v lt. h (suc k) v (omega arith)) d.2)
 
 pub dealt_ready : {S H P : Type 0} → (cs : List CellSight) (q : Option Queue) (before : List (SpareSeats S H P)) (ws : List (Worker S H P)) (after : List (SpareSeats S H P)) → AllHosted cs before → AllHold q ws → IsDealtAll before ws after → AllReady cs q ws
@@ -73,7 +78,10 @@ pub grown_spares_none : {S H P : Type 0} → (bs : List (SpareSeats S H P)) → 
 grown_spares_none bs =
     zip-same (λ (a b : SpareSeats _ _ _). AllGrown a.seats.items b.seats.items × (vec_capacity b.seats ≡ vec_capacity a.seats)) (λ b. (grown_none b.seats.items, refl)) bs
 
-pub given_grown : {S H P : Type 0} → (before : List (SpareSeats S H P)) (ws : List (Walk S H P)) (mid : List (SpareSeats S H P)) (zs : List (Walk S H P)) (cur after : List (SpareSeats S H P)) → IsDealt before ws mid → AllGrownSpares mid cur → AllLater ws zs → IsGiven cur zs after → AllGrownSpares before after
+later_dealt : (spare s t : SeatSight) → s ≡ record spare { let_go = length spare.me.receipts } → IsLater s t → IsLater spare t
+later_dealt spare s t is later = later_both spare s t (subst (IsLater spare) (sym is) (later_let_go spare (length spare.me.receipts))) later
+
+pub given_grown : {S H P : Type 0} → (before : List (SpareSeats S H P)) (ws : List SeatSight) (mid : List (SpareSeats S H P)) (zs : List SeatSight) (cur after : List (SpareSeats S H P)) → IsDealt before ws mid → AllGrownSpares mid cur → AllGrown ws zs → IsGiven cur zs after → AllGrownSpares before after
 given_grown [] [] [] [] [] [] d g l b = tt
 given_grown [] [] [] [] [] (a ∷ after) d g l b = absurd b
 given_grown [] [] [] [] (u ∷ cur) after d g l b = absurd g
@@ -87,13 +95,13 @@ given_grown (x ∷ before) (w ∷ ws) (m ∷ mid) [] (u ∷ cur) after d g l b =
 given_grown (x ∷ before) (w ∷ ws) (m ∷ mid) (z ∷ zs) (u ∷ cur) [] d g l b = absurd b
 given_grown (x ∷ before) (w ∷ ws) (m ∷ mid) (z ∷ zs) (u ∷ cur) (a ∷ after) d g l b = (
   (
-    subst (λ (p : List SeatSight × List SeatSight). AllGrown p.0 p.1) (λ i. (sym d.0.seats i, sym b.0.seats i)) (AllZip-push IsLater m.seats.items u.seats.items w.seat z.seat g.0.0 l.0),
+    subst (λ (p : List SeatSight × List SeatSight). AllGrown p.0 p.1) (λ i. (sym d.0.seats i, sym b.0.seats i)) (AllZip-push IsLater m.seats.items u.seats.items d.0.spare z g.0.0 (later_dealt d.0.spare w z d.0.past l.0)),
     b.0.capacity ∙ g.0.1 ∙ d.0.capacity,
   ),
   given_grown before ws mid zs cur after d.1 g.1 l.1 b.1,
 )
 
-pub grown_roomy : {S H P : Type 0} → (before : List (SpareSeats S H P)) (ws : List (Walk S H P)) (mid cur : List (SpareSeats S H P)) → IsDealt before ws mid → AllGrownSpares mid cur → AllRoomy cur
+pub grown_roomy : {S H P : Type 0} → (before : List (SpareSeats S H P)) (ws : List SeatSight) (mid cur : List (SpareSeats S H P)) → IsDealt before ws mid → AllGrownSpares mid cur → AllRoomy cur
 grown_roomy before ws mid [] d g = All-nil (λ (s : SpareSeats _ _ _). length s.seats.items < vec_capacity s.seats)
 grown_roomy before ws [] (u ∷ cur) d g = absurd g
 grown_roomy [] [] (m ∷ mid) (u ∷ cur) d g = absurd d
@@ -103,7 +111,7 @@ grown_roomy (x ∷ before) (w ∷ ws) (m ∷ mid) (u ∷ cur) d g =
     All-cons (λ (s : SpareSeats _ _ _). length s.seats.items < vec_capacity s.seats) u cur
     (let l = AllZip-long IsLater m.seats.items u.seats.items g.0.0 in let r = d.0.room in let c = g.0.1 in omega arith) (grown_roomy before ws mid cur d.1 g.1)
 
-pub given_many : {S H P : Type 0} → (before : List (SpareSeats S H P)) (ws : List (Walk S H P)) (mid cur : List (SpareSeats S H P)) (zs : List (Walk S H P)) → IsDealt before ws mid → AllGrownSpares mid cur → AllLater ws zs → length zs ≡ length cur
+pub given_many : {S H P : Type 0} → (before : List (SpareSeats S H P)) (ws : List SeatSight) (mid cur : List (SpareSeats S H P)) (zs : List SeatSight) → IsDealt before ws mid → AllGrownSpares mid cur → AllGrown ws zs → length zs ≡ length cur
 given_many before ws mid cur zs d g l =
     let a = dealt_len before ws mid d in
     let a0 = a.0 in let a1 = a.1 in
@@ -129,23 +137,23 @@ fresh_sums (w ∷ ws) all =
     let one = all 0 w (omega arith) in
     (omega (arith, r.0, one.0), omega (arith, r.1, one.1))
 
-followed_past : {S H P : Type 0} → (h : Job → ℕ) (ws : List (Walk S H P)) → AllPast ws → weigh (followed_by h) ws ≡ weigh (λ (v : (Walk S H P)). seat_heard h v.seat) ws
+followed_past : (h : Job → ℕ) (ws : List SeatSight) → AllPast ws → weigh (followed_by h) ws ≡ weigh (λ (s : SeatSight). seat_heard h s.me) ws
 followed_past h [] all = refl
 followed_past h (w ∷ ws) all =
     let r = followed_past h ws (All-tail IsPast w ws all) in
-    let e : followed_by h w ≡ seat_heard h w.seat = ap (heard_of h w.seat.me.config) (take_all w.place w.seat.me.receipts (All-head IsPast w ws all)) in omega arith
+    let e : followed_by h w ≡ seat_heard h w.me = ap (heard_of h w.me.config) (take_all w.let_go w.me.receipts (All-head IsPast w ws all)) in omega arith
 
 followed_all : {S H P : Type 0} → (cs : List CellSight) (q : Option Queue) (h : Job → ℕ) (ws : List (Worker S H P)) → AllReady cs q ws → weigh (weight_followed h) ws ≡ at_work (seat_heard h) ws
 followed_all cs q h [] all = refl
 followed_all cs q h (w ∷ ws) all =
     let r = followed_all cs q h ws (All-tail (IsReady cs q) w ws all) in
-    let e = followed_past h w.walks.items (All-head (IsReady cs q) w ws all).past in omega arith
+    let e = followed_past h w.seats.items (All-head (IsReady cs q) w ws all).past in omega arith
 
 pub worked : {S H P : Type 0} → (cs : List CellSight) (q : Option Queue) (xs mid ys : List (SpareSeats S H P)) (ws zs : List (Worker S H P)) (ps qs : List (Pass Job Hand)) (r : Report)
-    → IsDealtAll xs ws mid → ((f : SeatSight → ℕ) → on_spares f ys ≡ on_spares f mid + at_work f zs) → AllFresh ws → IsSplit ps ws qs → AllReady cs q ws → AllReady cs None zs
+    → IsDealtAll xs ws mid → ((f : Knowledge → ℕ) → on_spares f ys ≡ on_spares f mid + at_work f zs) → AllFresh ws → IsSplit ps ws qs → AllReady cs q ws → AllReady cs None zs
     → IsClosed cs qs ws zs → IsCounted zs r → IsWorked cs xs ys (λ h. put_by h ps) (λ h. taken_by h ps) r
 worked cs q xs mid ys ws zs ps qs r dealt given fresh split ready rest closed counted =
-    let s : (f : SeatSight → ℕ) → on_spares f xs ≡ on_spares f mid + at_work f ws = λ f. dealt_all_sum f xs ws mid dealt in
+    let s : (f : Knowledge → ℕ) → on_spares f xs ≡ on_spares f mid + at_work f ws = λ f. dealt_all_sum f xs ws mid dealt in
     let n = fresh_sums ws fresh in
     let n0 = n.0 in let n1 = n.1 in
     record {

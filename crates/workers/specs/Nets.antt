@@ -10,9 +10,9 @@ use Rattle.cells.specs.Views.{Denial}
 use Rattle.cells.specs.Closing.{IsOneHistory, ended_sight}
 use Rattle.cells.specs.Sights.{SeatSight}
 use Rattle.workers.specs.NetSights.{Net}
-use Rattle.workers.specs.Spares.{AllGrown, AllHosted}
+use Rattle.workers.specs.Spares.{AllHosted}
 use Rattle.workers.specs.Numbers.{IsNumbered}
-use Rattle.workers.specs.Sums.{applied_of, heard_of, refused_of}
+use Rattle.workers.specs.Sums.{AllGrown, applied_of, heard_of, refused_of}
 use Rattle.workers.specs.declared.deal.SpareSeats.{SpareSeats}
 use Rattle.workers.specs.declared.host_state.HostState.{HostState}
 use Rattle.workers.specs.declared.running.Report.{Report}

@@ -12,12 +12,12 @@ use Rattle.cells.specs.Cells.{IsSeatOf}
 use Rattle.cells.specs.Closing.{AllSeats, HasNumber}
 use Rattle.cells.specs.Sights.{SeatSight}
 use Rattle.workers.specs.Numbers.{AllLack}
-use Rattle.workers.specs.Sums.{AllPassing, IsLater, applied_by, refused_by, seat_done, seat_heard, seat_applied, seat_refused, IsPassing, parts_of, weight_put, weight_taken}
+use Rattle.cells.specs.Views.{Knowledge}
+use Rattle.workers.specs.Sums.{AllGrown, AllPassing, applied_by, refused_by, seat_done, seat_heard, seat_applied, seat_refused, IsPassing, parts_of, weight_put, weight_taken}
 use Rattle.workers.specs.declared.deal.SpareSeats.{SpareSeats}
 use Rattle.workers.specs.declared.deal.WorkerRoom.{WorkerRoom}
 use Rattle.workers.specs.declared.deal.Room.{Room}
 use Rattle.workers.specs.declared.running.Report.{Report}
-use Rattle.workers.specs.declared.walk.Walk.{Walk}
 use Rattle.workers.specs.declared.worker.Worker.{Worker}
 
 -- each cell has so many spare seats
@@ -28,9 +28,9 @@ AllHave n bs = All (λ (b : SpareSeats _ _ _). n ≤ length b.seats.items) bs
 abbrev pub AllRoomy : {S H P : Type 0} → List (SpareSeats S H P) → Type 0
 AllRoomy bs = All (λ (b : SpareSeats _ _ _). length b.seats.items < vec_capacity b.seats) bs
 
--- an empty room for so many walks
+-- an empty room for so many seats
 abbrev pub IsBlank : {S H P : Type 0} → ℕ → (Room S H P) → Type 0
-IsBlank n r = (r.walks.items ≡ []) × (n ≤ vec_capacity r.walks)
+IsBlank n r = (r.seats.items ≡ []) × (n ≤ vec_capacity r.seats)
 
 abbrev pub AllBlank : {S H P : Type 0} → ℕ → List (Room S H P) → Type 0
 AllBlank n rs = All (IsBlank n) rs
@@ -42,44 +42,43 @@ pub record IsWorkerRoom {S H P : Type 0} (workers cells : ℕ) (c : (WorkerRoom 
   pub none : c.workers.items ≡ []
   pub room : workers ≤ vec_capacity c.workers
 
--- a walk was dealt the last spare seat of a cell, at its place behind all its receipts
-pub record IsDealtSeat {S H P : Type 0} (a : (SpareSeats S H P)) (w : (Walk S H P)) (b : (SpareSeats S H P))
-    : Type 0 where
-  pub seats : a.seats.items ≡ b.seats.items ++ w.seat ∷ []
-  pub place : w.place ≡ length w.seat.me.receipts
+-- the last spare seat of a cell was dealt, and has let go of all its receipts
+pub record IsDealtSeat {S H P : Type 0} (a : (SpareSeats S H P)) (s : SeatSight) (b : (SpareSeats S H P)) : Type 0 where
+  pub spare : SeatSight
+  pub seats : a.seats.items ≡ b.seats.items ++ spare ∷ []
+  pub past : s ≡ record spare { let_go = length spare.me.receipts }
   pub capacity : vec_capacity b.seats ≡ vec_capacity a.seats
   pub room : length b.seats.items < vec_capacity b.seats
 
--- each walk was dealt the last spare seat of its cell
-abbrev pub IsDealt : {S H P : Type 0} → List (SpareSeats S H P) → List (Walk S H P) → List (SpareSeats S H P) → Type 0
+-- of each cell the last spare seat was dealt
+abbrev pub IsDealt : {S H P : Type 0} → List (SpareSeats S H P) → List SeatSight → List (SpareSeats S H P) → Type 0
 IsDealt [] [] [] = Unit {0}
 IsDealt [] [] (b ∷ bs) = ⊥
-IsDealt [] (w ∷ ws) bs = ⊥
+IsDealt [] (s ∷ ss) bs = ⊥
 IsDealt (a ∷ xs) [] bs = ⊥
-IsDealt (a ∷ xs) (w ∷ ws) [] = ⊥
-IsDealt (a ∷ xs) (w ∷ ws) (b ∷ ys) = IsDealtSeat a w b × IsDealt xs ws ys
+IsDealt (a ∷ xs) (s ∷ ss) [] = ⊥
+IsDealt (a ∷ xs) (s ∷ ss) (b ∷ ys) = IsDealtSeat a s b × IsDealt xs ss ys
 
 -- one worker after another was dealt a seat at each cell
 abbrev pub IsDealtAll : {S H P : Type 0} → List (SpareSeats S H P) → List (Worker S H P) → List (SpareSeats S H P)
     → Type 0
 IsDealtAll before [] after = after ≡ before
 IsDealtAll before (w ∷ ws) after =
-    (mid : List (SpareSeats _ _ _)) × IsDealt before w.walks.items mid × IsDealtAll mid ws after
+    (mid : List (SpareSeats _ _ _)) × IsDealt before w.seats.items mid × IsDealtAll mid ws after
 
--- a walk's seat is the last of the spare ones
-pub record IsGivenSeat {S H P : Type 0} (a : (SpareSeats S H P)) (w : (Walk S H P)) (b : (SpareSeats S H P))
-    : Type 0 where
-  pub seats : b.seats.items ≡ a.seats.items ++ w.seat ∷ []
+-- a seat is the last of the spare ones
+pub record IsGivenSeat {S H P : Type 0} (a : (SpareSeats S H P)) (s : SeatSight) (b : (SpareSeats S H P)) : Type 0 where
+  pub seats : b.seats.items ≡ a.seats.items ++ s ∷ []
   pub capacity : vec_capacity b.seats ≡ vec_capacity a.seats
 
--- each walk gave its seat back, as the last spare one of its cell
-abbrev pub IsGiven : {S H P : Type 0} → List (SpareSeats S H P) → List (Walk S H P) → List (SpareSeats S H P) → Type 0
+-- each seat was given back, as the last spare one of its cell
+abbrev pub IsGiven : {S H P : Type 0} → List (SpareSeats S H P) → List SeatSight → List (SpareSeats S H P) → Type 0
 IsGiven [] [] [] = Unit {0}
 IsGiven [] [] (b ∷ bs) = ⊥
-IsGiven [] (w ∷ ws) bs = ⊥
+IsGiven [] (s ∷ ss) bs = ⊥
 IsGiven (a ∷ xs) [] bs = ⊥
-IsGiven (a ∷ xs) (w ∷ ws) [] = ⊥
-IsGiven (a ∷ xs) (w ∷ ws) (b ∷ ys) = IsGivenSeat a w b × IsGiven xs ws ys
+IsGiven (a ∷ xs) (s ∷ ss) [] = ⊥
+IsGiven (a ∷ xs) (s ∷ ss) (b ∷ ys) = IsGivenSeat a s b × IsGiven xs ss ys
 
 -- no worker has counted anything yet
 abbrev pub AllFresh : {S H P : Type 0} → List (Worker S H P) → Type 0
@@ -97,10 +96,6 @@ pub record IsSplit {S H P : Type 0} (before : List (Pass Job Hand)) (ws : List (
   pub taken_all : (h : Job → ℕ) → taken_by h before ≡ taken_by h after + weigh (weight_taken h) ws
   pub parts_all : parts_by before ≡ parts_by after + weigh parts_of ws
 
--- seats that have gained receipts and denials, one by one
-abbrev pub AllGrown : List SeatSight → List SeatSight → Type 0
-AllGrown xs ys = AllZip IsLater xs ys
-
 -- the spare seats have gained receipts and denials, and there is as much room as before
 abbrev pub AllGrownSpares : {S H P : Type 0} → List (SpareSeats S H P) → List (SpareSeats S H P) → Type 0
 AllGrownSpares xs ys =
@@ -117,12 +112,12 @@ abbrev pub AllHosted : {S H P : Type 0} → List CellSight → List (SpareSeats 
 AllHosted cs bs = AllZip (λ (c : CellSight) (b : SpareSeats _ _ _). IsHosted c b.seats.items) cs bs
 
 -- all spare seats, weighed
-abbrev pub on_spares : {S H P : Type 0} → (SeatSight → ℕ) → List (SpareSeats S H P) → ℕ
-on_spares f bs = weigh (λ (b : (SpareSeats _ _ _)). weigh f b.seats.items) bs
+abbrev pub on_spares : {S H P : Type 0} → (Knowledge → ℕ) → List (SpareSeats S H P) → ℕ
+on_spares f bs = weigh (λ (b : (SpareSeats _ _ _)). weigh (λ (s : SeatSight). f s.me) b.seats.items) bs
 
 -- the seats of all workers, weighed
-abbrev pub at_work : {S H P : Type 0} → (SeatSight → ℕ) → List (Worker S H P) → ℕ
-at_work f ws = weigh (λ (w : (Worker _ _ _)). weigh (λ (v : (Walk _ _ _)). f v.seat) w.walks.items) ws
+abbrev pub at_work : {S H P : Type 0} → (Knowledge → ℕ) → List (Worker S H P) → ℕ
+at_work f ws = weigh (λ (w : (Worker _ _ _)). weigh (λ (s : SeatSight). f s.me) w.seats.items) ws
 
 -- a report has what the workers counted
 pub record IsCounted {S H P : Type 0} (ws : List (Worker S H P)) (r : Report) : Type 0 where

@@ -17,12 +17,11 @@ use Rattle.work.specs.declared.line.Queue.{Queue}
 use Rattle.work.specs.Hands.{weigh, hand}
 use Rattle.work.specs.Queues.{IsOf, put_by, taken_by}
 use Rattle.cells.specs.Receipts.{AppliedEvent}
-use Rattle.cells.specs.Views.{Denial}
+use Rattle.cells.specs.Views.{Denial, Knowledge}
 use Rattle.cells.specs.Cells.{IsSeatOf}
 use Rattle.cells.specs.Sights.{CellSight, SeatSight}
 use Rattle.workers.specs.Numbers.{AllLack}
-use Rattle.workers.specs.declared.walk.SlotEmission.{SlotEmission}
-use Rattle.workers.specs.declared.walk.Walk.{Walk}
+use Rattle.workers.specs.declared.applying.SlotEmission.{SlotEmission}
 use Rattle.workers.specs.declared.worker.Worker.{Worker}
 
 abbrev pub job : ℕ → Event → Job
@@ -74,31 +73,31 @@ refused_of h config ds = weigh (λ (d : Denial). h (job config.number d.event)) 
 abbrev pub heard_of : (Job → ℕ) → Config → List AppliedEvent → ℕ
 heard_of h config rs = weigh (λ (r : AppliedEvent). weigh h (hears config r)) rs
 
--- what was done by a seat: applied or refused
-abbrev pub seat_done : (Job → ℕ) → SeatSight → ℕ
-seat_done h s = applied_of h s.me.config s.me.receipts + refused_of h s.me.config s.me.denials
+-- what was done by a seat that knows this: applied or refused
+abbrev pub seat_done : (Job → ℕ) → Knowledge → ℕ
+seat_done h v = applied_of h v.config v.receipts + refused_of h v.config v.denials
 
-abbrev pub seat_heard : (Job → ℕ) → SeatSight → ℕ
-seat_heard h s = heard_of h s.me.config s.me.receipts
+abbrev pub seat_heard : (Job → ℕ) → Knowledge → ℕ
+seat_heard h v = heard_of h v.config v.receipts
 
-abbrev pub seat_applied : SeatSight → ℕ
-seat_applied s = length s.me.receipts
+abbrev pub seat_applied : Knowledge → ℕ
+seat_applied v = length v.receipts
 
-abbrev pub seat_refused : SeatSight → ℕ
-seat_refused s = length s.me.denials
+abbrev pub seat_refused : Knowledge → ℕ
+seat_refused v = length v.denials
 
-abbrev pub done_by : {S H P : Type 0} → (Job → ℕ) → (Walk S H P) → ℕ
-done_by h w = seat_done h w.seat
+abbrev pub done_by : (Job → ℕ) → SeatSight → ℕ
+done_by h s = seat_done h s.me
 
--- what the receipts up to the place make heard
-abbrev pub followed_by : {S H P : Type 0} → (Job → ℕ) → (Walk S H P) → ℕ
-followed_by h w = heard_of h w.seat.me.config (take w.place w.seat.me.receipts)
+-- what the receipts make heard that were let go
+abbrev pub followed_by : (Job → ℕ) → SeatSight → ℕ
+followed_by h s = heard_of h s.me.config (take s.let_go s.me.receipts)
 
-abbrev pub applied_many : {S H P : Type 0} → (Walk S H P) → ℕ
-applied_many w = seat_applied w.seat
+abbrev pub applied_many : SeatSight → ℕ
+applied_many s = seat_applied s.me
 
-abbrev pub refused_many : {S H P : Type 0} → (Walk S H P) → ℕ
-refused_many w = seat_refused w.seat
+abbrev pub refused_many : SeatSight → ℕ
+refused_many s = seat_refused s.me
 
 -- what a worker's pass, if it has one, has put and taken
 abbrev pub hand_of : Option (Pass Job Hand) → Hand
@@ -113,13 +112,13 @@ with_put p j = hand p.parts (p.put ++ j ∷ []) p.taken
 abbrev pub with_taken : Hand → Job → Hand
 with_taken p j = hand p.parts p.put (p.taken ++ j ∷ [])
 
--- a walk at a cell: a seat of it, and a place in its receipts
-abbrev pub IsWalk : {S H P : Type 0} → CellSight → (Walk S H P) → Type 0
-IsWalk c w = IsSeatOf c w.seat × (w.place ≤ length w.seat.me.receipts)
+-- a seat of this cell, which has let go of no more receipts than it has
+abbrev pub IsSeated : CellSight → SeatSight → Type 0
+IsSeated c s = IsSeatOf c s × (s.let_go ≤ length s.me.receipts)
 
 -- a seat in each cell
-abbrev pub AllSeated : {S H P : Type 0} → List CellSight → List (Walk S H P) → Type 0
-AllSeated cs ws = AllZip IsWalk cs ws
+abbrev pub AllSeated : List CellSight → List SeatSight → Type 0
+AllSeated cs ss = AllZip IsSeated cs ss
 
 -- the same seat later: it has seen more, gained receipts and denials, and set no stop mark
 pub record IsLater (a b : SeatSight) : Type 0 where
@@ -136,34 +135,34 @@ pub record IsLater (a b : SeatSight) : Type 0 where
   pub gained : b.me.receipts ≡ a.me.receipts ++ receipts
   pub refused : b.me.denials ≡ a.me.denials ++ denials
 
-abbrev pub AllLater : {S H P : Type 0} → List (Walk S H P) → List (Walk S H P) → Type 0
-AllLater xs ys = AllZip (λ (a b : Walk _ _ _). IsLater a.seat b.seat) xs ys
+-- seats that have gained receipts and denials, one by one
+abbrev pub AllGrown : List SeatSight → List SeatSight → Type 0
+AllGrown xs ys = AllZip IsLater xs ys
 
--- the place is not short of its receipts
-abbrev pub IsPast : {S H P : Type 0} → (Walk S H P) → Type 0
-IsPast w = length w.seat.me.receipts ≤ w.place
+-- the seat has let go of all its receipts
+abbrev pub IsPast : SeatSight → Type 0
+IsPast s = length s.me.receipts ≤ s.let_go
 
-abbrev pub AllPast : {S H P : Type 0} → List (Walk S H P) → Type 0
-AllPast ws = All IsPast ws
+abbrev pub AllPast : List SeatSight → Type 0
+AllPast ss = All IsPast ss
 
 -- all but the one there
-abbrev pub AllPastBut : {S H P : Type 0} → ℕ → List (Walk S H P) → Type 0
-AllPastBut k ws = (i : ℕ) (d : (Walk _ _ _)) → i ≢ k → i < length ws → IsPast (slice_index_or ws i d)
+abbrev pub AllPastBut : ℕ → List SeatSight → Type 0
+AllPastBut k ss = (i : ℕ) (d : SeatSight) → i ≢ k → i < length ss → IsPast (slice_index_or ss i d)
 
 -- a seat has done one job more: applied or refused it
-pub record IsDone {S H P : Type 0} (a b : (Walk S H P)) (j : Job) (well : Bool) : Type 0 where
-  pub later : IsLater a.seat b.seat
-  pub place : b.place ≡ a.place
+pub record IsDone (a b : SeatSight) (j : Job) (well : Bool) : Type 0 where
+  pub later : IsLater a b
   pub sum : (h : Job → ℕ) → done_by h b ≡ done_by h a + h j
   pub followed : (h : Job → ℕ) → followed_by h b ≡ followed_by h a
   pub applied : applied_many b ≡ applied_many a + (if well then 1 else 0)
   pub refused : refused_many b ≡ refused_many a + (if well then 0 else 1)
 
 abbrev pub weight_done : {S H P : Type 0} → (Job → ℕ) → (Worker S H P) → ℕ
-weight_done h w = weigh (done_by h) w.walks.items
+weight_done h w = weigh (done_by h) w.seats.items
 
 abbrev pub weight_followed : {S H P : Type 0} → (Job → ℕ) → (Worker S H P) → ℕ
-weight_followed h w = weigh (followed_by h) w.walks.items
+weight_followed h w = weigh (followed_by h) w.seats.items
 
 abbrev pub weight_put : {S H P : Type 0} → (Job → ℕ) → (Worker S H P) → ℕ
 weight_put h w = weigh h (hand_of w.pass).put
@@ -173,10 +172,10 @@ weight_taken h w = weigh h (hand_of w.pass).taken
 
 -- how many receipts and denials the seats of a worker have
 abbrev pub receipts_of : {S H P : Type 0} → (Worker S H P) → ℕ
-receipts_of w = weigh applied_many w.walks.items
+receipts_of w = weigh applied_many w.seats.items
 
 abbrev pub denials_of : {S H P : Type 0} → (Worker S H P) → ℕ
-denials_of w = weigh refused_many w.walks.items
+denials_of w = weigh refused_many w.seats.items
 
 -- from one moment of a worker to another: what it took, what its receipts made heard and what it was handed were as
 -- often put, applied, refused or of no network here
@@ -188,12 +187,12 @@ pub record KeepsSums {S H P : Type 0} (cells : List CellSight) (handed : List Jo
       ≡ weight_done h a + weight_put h a + weight_followed h b + weight_taken h b + weigh h handed
   pub applied : b.applied + receipts_of a ≡ a.applied + receipts_of b
   pub refused : b.refused + denials_of a ≡ a.refused + denials_of b + length lacking
-  pub later : AllLater a.walks.items b.walks.items
+  pub later : AllGrown a.seats.items b.seats.items
   pub parts : (hand_of b.pass).parts ≡ (hand_of a.pass).parts
 
 -- the worker is as it was
 pub record IsSameWorker {S H P : Type 0} (a b : (Worker S H P)) : Type 0 where
-  pub walks : b.walks.items ≡ a.walks.items
+  pub seats : b.seats.items ≡ a.seats.items
   pub pass : b.pass ≡ a.pass
   pub applied : b.applied ≡ a.applied
   pub refused : b.refused ≡ a.refused
@@ -204,33 +203,19 @@ IsPassing q None = Unit {0}
 IsPassing None (Some p) = ⊥
 IsPassing (Some q) (Some p) = IsOf q p
 
--- a worker between two jobs: it has a seat in each cell, and has gone through all receipts
+-- a worker between two jobs: it has a seat in each cell, each of which has let go of all its receipts
 pub record IsReady {S H P : Type 0} (cells : List CellSight) (queue : Option Queue) (w : (Worker S H P)) : Type 0 where
-  pub seated : AllSeated cells w.walks.items
+  pub seated : AllSeated cells w.seats.items
   pub passing : IsPassing queue w.pass
-  pub past : AllPast w.walks.items
+  pub past : AllPast w.seats.items
 
 -- a worker that goes through the receipts of one seat
 pub record IsBusy {S H P : Type 0} (cells : List CellSight) (queue : Option Queue) (k : ℕ) (w : (Worker S H P))
     : Type 0 where
-  pub seated : AllSeated cells w.walks.items
+  pub seated : AllSeated cells w.seats.items
   pub passing : IsPassing queue w.pass
   pub there : k < length cells
-  pub past : AllPastBut k w.walks.items
-
--- the receipt at the place of a walk, where it goes on
-abbrev pub IsNext : {S H P : Type 0} → (Walk S H P) → AppliedEvent → Type 0
-IsNext w r = r ≡ slice_index_or w.seat.me.receipts w.place r
-
--- the walk at a place among the others has not gone through all its receipts
-abbrev pub IsShort : {S H P : Type 0} → List (Walk S H P) → ℕ → Type 0
-IsShort ws k =
-    (k < length ws)
-    × ((d : (Walk _ _ _)) → (slice_index_or ws k d).place < length (slice_index_or ws k d).seat.me.receipts)
-
--- the walks stand at the same places as before
-abbrev pub SamePlaces : {S H P : Type 0} → List (Walk S H P) → List (Walk S H P) → Type 0
-SamePlaces xs ys = AllZip (λ (a b : Walk _ _ _). b.place ≡ a.place) xs ys
+  pub past : AllPastBut k w.seats.items
 
 -- a worker at the end of its work: between two jobs, with the sums kept
 pub record IsThrough {S H P : Type 0} (cells : List CellSight) (queue : Option Queue) (a b : (Worker S H P))
@@ -243,7 +228,7 @@ abbrev pub AllReady : {S H P : Type 0} → List CellSight → Option Queue → L
 AllReady cells queue ws = All (IsReady cells queue) ws
 
 abbrev pub AllLaterWorkers : {S H P : Type 0} → List (Worker S H P) → List (Worker S H P) → Type 0
-AllLaterWorkers xs ys = AllZip (λ (a b : Worker _ _ _). AllLater a.walks.items b.walks.items) xs ys
+AllLaterWorkers xs ys = AllZip (λ (a b : Worker _ _ _). AllGrown a.seats.items b.seats.items) xs ys
 
 -- how many parts of the right to know the whole of a queue a worker has
 abbrev pub parts_of : {S H P : Type 0} → (Worker S H P) → ℕ

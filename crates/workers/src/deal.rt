@@ -2,9 +2,8 @@
 
 ghost use Rattle.std.specs.Prelude.{◌≡◌, ◌<◌, ◌≤◌, ◌+◌, IfOk, ◌∷◌, ◌++◌, vec_capacity, vec_len, length, []};
 ghost use Rattle.workers.specs.Spares.{AllFresh, AllHave, AllRoomy, IsWorkerRoom, IsDealt, IsDealtAll, IsDealtSeat, IsGiven, IsSplit};
-ghost use Rattle.workers.specs.declared.walk.Walk.{Walk};
+ghost use Rattle.cells.specs.Sights.{SeatSight};
 
-use crate::walk::Walk;
 use crate::worker::Worker;
 use cells::Seat;
 use envstore::Shelf;
@@ -18,13 +17,13 @@ pub(crate) struct SpareSeats<S: Shelf, H: Wait + Drop> {
     pub seats: Vec<Seat<S, H>>,
 }
 
-/// Room for the walks of one worker.
+/// Room for the seats of one worker.
 #[derive(Drop)]
 pub(crate) struct Room<S: Shelf, H: Wait + Drop> {
-    pub walks: Vec<Walk<S, H>>,
+    pub seats: Vec<Seat<S, H>>,
 }
 
-/// Room for workers, and for the walks of each.
+/// Room for workers, and for the seats of each.
 #[derive(Drop)]
 pub(crate) struct WorkerRoom<S: Shelf, H: Wait + Drop> {
     pub rooms: Vec<Room<S, H>>,
@@ -59,7 +58,7 @@ pub(crate) fn make_worker_room<S: Shelf, H: Wait + Drop>(
     let mut rooms = Vec::with_capacity(alloc, workers)?;
     for _made in 0..workers {
         rooms.push_reserved(Room {
-            walks: Vec::with_capacity(alloc, cells)?,
+            seats: Vec::with_capacity(alloc, cells)?,
         });
     }
     Ok(WorkerRoom {
@@ -68,35 +67,35 @@ pub(crate) fn make_worker_room<S: Shelf, H: Wait + Drop>(
     })
 }
 
-/// The last spare seat of a cell, to be gone through from here on.
-fn deal_seat<S: Shelf, H: Wait + Drop>(spare: &mut SpareSeats<S, H>, walks: &mut Vec<Walk<S, H>>)
+/// The last spare seat of a cell, which lets go of all receipts that it has kept.
+fn deal_seat<S: Shelf, H: Wait + Drop>(spare: &mut SpareSeats<S, H>, seats: &mut Vec<Seat<S, H>>)
     requires some { 0 < length spare.old.seats.items }
-    requires room { vec_len walks.old < vec_capacity walks.old }
-    ensures dealt { (w : Walk S H S.Place) × (walks.new.items ≡ walks.old.items ++ w ∷ []) × IsDealtSeat spare.old w spare.new }
-    ensures room { (vec_len walks.new ≡ vec_len walks.old + 1) × (vec_capacity walks.new ≡ vec_capacity walks.old) }
+    requires room { vec_len seats.old < vec_capacity seats.old }
+    ensures dealt { (s : SeatSight) × (seats.new.items ≡ seats.old.items ++ s ∷ []) × IsDealtSeat spare.old s spare.new }
+    ensures room { (vec_len seats.new ≡ vec_len seats.old + 1) × (vec_capacity seats.new ≡ vec_capacity seats.old) }
 {
-    let Some(seat) = spare.seats.pop() else {
+    let Some(mut seat) = spare.seats.pop() else {
         unreachable!()
     };
-    let place = seat.receipts().len();
-    walks.push_reserved(Walk { seat, place });
+    seat.let_go_receipts();
+    seats.push_reserved(seat);
 }
 
-/// One worker's walks: the last spare seat of each cell.
+/// One worker's seats: the last spare one of each cell.
 pub(crate) fn deal_one<S: Shelf, H: Wait + Drop>(
     spares: &mut Vec<SpareSeats<S, H>>,
     room: Room<S, H>,
-) -> Vec<Walk<S, H>>
+) -> Vec<Seat<S, H>>
     requires seats { AllHave 1 spares.old.items }
-    requires room { (room.walks.items ≡ []) × (length spares.old.items ≤ vec_capacity room.walks) }
+    requires room { (room.seats.items ≡ []) × (length spares.old.items ≤ vec_capacity room.seats) }
     ensures { IsDealt spares.old.items result.items spares.new.items }
 {
-    let Room { mut walks } = room;
+    let Room { mut seats } = room;
     let many = spares.len();
     for k in 0..many {
-        deal_seat(&mut spares[k], &mut walks);
+        deal_seat(&mut spares[k], &mut seats);
     }
-    walks
+    seats
 }
 
 /// Workers that have a pass each, as long as there are some, and a seat at each cell.
@@ -119,7 +118,7 @@ pub(crate) fn deal<S: Shelf, H: Wait + Drop>(
     } = worker_room;
     while let Some(room) = rooms.pop() {
         workers.push_reserved(Worker {
-            walks: deal_one(spares, room),
+            seats: deal_one(spares, room),
             pass: passes.pop(),
             applied: 0,
             refused: 0,
@@ -134,16 +133,16 @@ pub(crate) fn give_back<S: Shelf, H: Wait + Drop>(
     worker: Worker<S, H>,
 )
     requires room { AllRoomy spares.old.items }
-    requires seats { length worker.walks.items ≡ length spares.old.items }
-    ensures { IsGiven spares.old.items worker.walks.items spares.new.items }
+    requires seats { length worker.seats.items ≡ length spares.old.items }
+    ensures { IsGiven spares.old.items worker.seats.items spares.new.items }
 {
     let Worker {
-        mut walks,
+        mut seats,
         pass: _,
         applied: _,
         refused: _,
     } = worker;
-    while let Some(walk) = walks.pop() {
-        spares[walks.len()].seats.push_reserved(walk.seat);
+    while let Some(seat) = seats.pop() {
+        spares[seats.len()].seats.push_reserved(seat);
     }
 }

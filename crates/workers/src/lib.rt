@@ -13,6 +13,7 @@
 //! counted in the [`Report`] as what it is.
 #![tactic(auto)]
 
+mod applying;
 mod crew;
 mod deal;
 mod gate;
@@ -22,7 +23,6 @@ mod not_joined;
 mod pool;
 mod running;
 mod shared;
-mod walk;
 mod worker;
 mod workplace;
 

@@ -4,14 +4,13 @@ ghost use Rattle.std.specs.Prelude.{◌≡◌, ◌<◌, ◌+◌, if◌then◌els
 ghost use Rattle.std.specs.Option.{option_to_list};
 ghost use Rattle.cells.specs.Sights.{CellSight};
 ghost use Rattle.workers.specs.Numbers.{IsNumbered, IsNumberAt};
-ghost use Rattle.workers.specs.Sums.{IsBusy, KeepsSums, IsPassing, IsReady, IsSameWorker, IsShort, SamePlaces, hand_of, hear_by, hears_of, with_put, with_taken};
+ghost use Rattle.workers.specs.Sums.{IsBusy, KeepsSums, IsPassing, IsReady, IsSameWorker, hand_of, hear_by, hears, hears_of, with_put, with_taken};
 
+use crate::applying::{SlotEmission, apply_by, emission_of, try_apply_by};
 use crate::gate::Gate;
 use crate::shared::Shared;
-use crate::walk::{
-    SlotEmission, Walk, apply_by, emission_at, is_short, move_on, read, try_apply_by,
-};
 use crate::workplace::Workplace;
+use cells::{Receipt, Seat};
 use configuration::HostedNode;
 use envstore::Shelf;
 use std::sync::Wait;
@@ -19,11 +18,11 @@ use std::thread;
 use types::Event;
 use work::{Job, Pass};
 
-/// A walk at each cell, in the order of the cells, a pass as long as there is a queue, and how many jobs it
+/// A seat at each cell, in the order of the cells, a pass as long as there is a queue, and how many jobs it
 /// has applied and refused.
 #[derive(Drop)]
 pub(crate) struct Worker<S: Shelf, H: Wait + Drop> {
-    pub walks: Vec<Walk<S, H>>,
+    pub seats: Vec<Seat<S, H>>,
     pub pass: Option<Pass>,
     pub applied: u64,
     pub refused: u64,
@@ -66,7 +65,7 @@ fn hearing(emission: &SlotEmission, hosted: &HostedNode) -> Option<Job>
 impl<S: Shelf + Drop, H: Wait + Drop> Worker<S, H> {
     /// Counts a job, as applied or as refused.
     fn count<R: Wait>(&mut self, rt: &R, is_applied: bool)
-        ensures same { (self.new.walks ≡ self.old.walks) × (self.new.pass ≡ self.old.pass) }
+        ensures same { (self.new.seats ≡ self.old.seats) × (self.new.pass ≡ self.old.pass) }
         ensures applied { self.new.applied ≡ self.old.applied + (if is_applied then 1 else 0) }
         ensures refused { self.new.refused ≡ self.old.refused + (if is_applied then 0 else 1) }
     {
@@ -87,13 +86,12 @@ impl<S: Shelf + Drop, H: Wait + Drop> Worker<S, H> {
         requires busy { IsBusy workplace.now.shared.now.cells.items workplace.now.shared.now.queue k self.old }
         requires job { IsNumberAt workplace.now.shared.now.cells.items k job.network }
         ensures busy { IsBusy workplace.now.shared.now.cells.items workplace.now.shared.now.queue k self.new }
-        ensures places { SamePlaces self.old.walks.items self.new.walks.items }
         ensures kept { KeepsSums workplace.now.shared.now.cells.items (job ∷ []) self.old self.new }
     {
         let is_applied = apply_by(
             workplace.rt,
             &workplace.shared.cells[k],
-            &mut self.walks[k],
+            &mut self.seats[k],
             workplace.gate,
             job,
         );
@@ -115,7 +113,7 @@ impl<S: Shelf + Drop, H: Wait + Drop> Worker<S, H> {
         match try_apply_by(
             workplace.rt,
             &workplace.shared.cells[k],
-            &mut self.walks[k],
+            &mut self.seats[k],
             workplace.gate,
             job,
         ) {
@@ -131,7 +129,7 @@ impl<S: Shelf + Drop, H: Wait + Drop> Worker<S, H> {
     fn take<R: Wait>(&mut self, rt: &R, shared: &Shared<S, H>) -> Option<Job>
         requires { IsPassing shared.now.queue self.old.pass }
         ensures pass { IsPassing shared.now.queue self.new.pass }
-        ensures same { (self.new.walks ≡ self.old.walks) × (self.new.applied ≡ self.old.applied) × (self.new.refused ≡ self.old.refused) }
+        ensures same { (self.new.seats ≡ self.old.seats) × (self.new.applied ≡ self.old.applied) × (self.new.refused ≡ self.old.refused) }
         ensures take { MatchOption result (hand_of self.new.pass ≡ hand_of self.old.pass) (λ x. hand_of self.new.pass ≡ with_taken (hand_of self.old.pass) x) }
     {
         match (&shared.queue, &mut self.pass) {
@@ -144,7 +142,7 @@ impl<S: Shelf + Drop, H: Wait + Drop> Worker<S, H> {
     fn put_back<R: Wait>(&mut self, rt: &R, shared: &Shared<S, H>, job: Job) -> Option<Job>
         requires { IsPassing shared.now.queue self.old.pass }
         ensures pass { IsPassing shared.now.queue self.new.pass }
-        ensures same { (self.new.walks ≡ self.old.walks) × (self.new.applied ≡ self.old.applied) × (self.new.refused ≡ self.old.refused) }
+        ensures same { (self.new.seats ≡ self.old.seats) × (self.new.applied ≡ self.old.applied) × (self.new.refused ≡ self.old.refused) }
         ensures put { MatchOption result (hand_of self.new.pass ≡ with_put (hand_of self.old.pass) job) (λ j. (j ≡ job) × (hand_of self.new.pass ≡ hand_of self.old.pass)) }
     {
         match (&shared.queue, &mut self.pass) {
@@ -163,7 +161,6 @@ impl<S: Shelf + Drop, H: Wait + Drop> Worker<S, H> {
         requires busy { IsBusy workplace.now.shared.now.cells.items workplace.now.shared.now.queue k self.old }
         requires network { IsNumberAt workplace.now.shared.now.cells.items k emission.network }
         ensures busy { IsBusy workplace.now.shared.now.cells.items workplace.now.shared.now.queue k self.new }
-        ensures places { SamePlaces self.old.walks.items self.new.walks.items }
         ensures kept { (c : CellSight) → c ≡ slice_index_or workplace.now.shared.now.cells.items k c → KeepsSums workplace.now.shared.now.cells.items (hears_of emission c.config.nodes) self.old self.new }
     {
         let nodes = workplace.shared.cells[k].config().nodes();
@@ -175,18 +172,22 @@ impl<S: Shelf + Drop, H: Wait + Drop> Worker<S, H> {
         }
     }
 
-    /// The others hear each emission of the receipt at a walk's place, and the place moves on.
-    fn follow_receipt<R: Wait, G: Gate>(&mut self, workplace: &Workplace<'_, S, H, R, G>, k: usize)
-        requires busy { IsBusy workplace.now.shared.now.cells.items workplace.now.shared.now.queue k self.old }
-        requires place { IsShort self.old.walks.items k }
+    /// The others hear each emission of a receipt of the seat at a cell.
+    fn follow_receipt<R: Wait, G: Gate>(
+        &mut self,
+        workplace: &Workplace<'_, S, H, R, G>,
+        k: usize,
+        receipt: &Receipt,
+    )
+        requires { IsBusy workplace.now.shared.now.cells.items workplace.now.shared.now.queue k self.old }
         ensures busy { IsBusy workplace.now.shared.now.cells.items workplace.now.shared.now.queue k self.new }
-        ensures kept { KeepsSums workplace.now.shared.now.cells.items [] self.old self.new }
+        ensures kept { (c : CellSight) → c ≡ slice_index_or workplace.now.shared.now.cells.items k c → KeepsSums workplace.now.shared.now.cells.items (hears c.config receipt.now) self.old self.new }
     {
         let config = workplace.shared.cells[k].config();
-        let (receipt, many) = read(&self.walks[k]);
+        let many = receipt.outs().len();
         let mut mark = 0;
         for index in 0..many {
-            match emission_at(&self.walks[k], &receipt, config.number(), index, mark) {
+            match emission_of(receipt, config.number(), index, mark) {
                 Some(emission) => {
                     self.let_others_hear(workplace, k, emission);
                     mark += 1;
@@ -194,24 +195,26 @@ impl<S: Shelf + Drop, H: Wait + Drop> Worker<S, H> {
                 None => {}
             }
         }
-        move_on(&mut self.walks[k]);
     }
 
-    /// Goes through the receipts at one cell until its place is past them. A hearing that is applied adds a receipt
-    /// behind the others, so what follows from hearings is one list and no call within a call; each receipt draws an
-    /// event of the network's budget, which is finite.
+    /// Goes through the receipts of the seat at one cell, which lets each of them go, until it keeps none. A hearing that
+    /// is applied adds a receipt behind the others, so what follows from hearings is one list and no call within a call;
+    /// each receipt draws an event of the network's budget, which is finite.
     fn follow_receipts<R: Wait, G: Gate>(&mut self, workplace: &Workplace<'_, S, H, R, G>, k: usize)
         requires { IsBusy workplace.now.shared.now.cells.items workplace.now.shared.now.queue k self.old }
         ensures ready { IsReady workplace.now.shared.now.cells.items workplace.now.shared.now.queue self.new }
         ensures kept { KeepsSums workplace.now.shared.now.cells.items [] self.old self.new }
     {
         for _ in workplace.rt.forever() {
-            if is_short(&self.walks[k]) {
-                self.follow_receipt(workplace, k);
-            } else {
-                break;
+            match self.seats[k].take_receipt() {
+                Some(receipt) => {
+                    self.follow_receipt(workplace, k, &receipt);
+                    drop(receipt);
+                }
+                None => return,
             }
         }
+        unreachable!()
     }
 
     /// Applies a job, and what follows from it. One of a network that is not here counts as refused. It waits for the

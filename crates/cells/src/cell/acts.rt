@@ -22,6 +22,7 @@ use decisions::{Board, Publisher, Watch};
 use envstore::{SharedHandle, Shelf};
 use hoststep::Journal;
 use std::alloc::{AllocError, Global};
+use std::collections::VecDeque;
 use std::marker::Brand;
 use std::snapshot::Snapshot;
 use std::sync::Wait;
@@ -176,7 +177,7 @@ impl<S: Shelf + Drop, H: Wait + Drop + Copy> Cell<S, H> {
             all.push_reserved(Seat {
                 pass,
                 number,
-                receipts: Vec::new(alloc),
+                receipts: VecDeque::new(alloc),
             });
         }
         let cell = Cell {

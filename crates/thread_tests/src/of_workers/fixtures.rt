@@ -256,7 +256,7 @@ fn replay<S: Shelf>(alloc: Global, journal: &Journal<S>, tally: &mut Tally) {
     }
 }
 
-/// Adds the receipts of the seats.
+/// Adds the receipts that the seats keep.
 fn count_seats<S: Shelf, H: Wait + Drop>(seats: &[Seat<S, H>], tally: &mut Tally) {
     for seat in seats {
         tally.receipts = tally.receipts.saturating_add(seat.receipts().len() as u64);

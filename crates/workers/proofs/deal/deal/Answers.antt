@@ -25,7 +25,7 @@ pub loop-room-preserved : goal.loop-room-preserved
 loop-room-preserved g c =
     let i = c.loop-room.invariant in
     let m = length c.args.spares.now.items in
-    let w : (Worker _ _ _) = record { walks = c.deal_one.result; pass = c.pop-in-Some.result; applied = 0; refused = 0 } in
+    let w : (Worker _ _ _) = record { seats = c.deal_one.result; pass = c.pop-in-Some.result; applied = 0; refused = 0 } in
     let e = c.push_reserved.ensures in
     let was = c.loop-room.workers.items in
     let many = ap (λ (x : List (Worker _ _ _)). length x) e.items ∙ length-append was (w ∷ []) in

@@ -9,7 +9,7 @@ loop-made-preserved g c =
     let i = c.loop-made.invariant in
     let p = c.push_reserved.ensures in
     let w = c.in_ok-with_capacity.ensures in
-    let r : (Room _ _ _) = record { walks = c.in_ok-with_capacity.field-0 } in (
+    let r : (Room _ _ _) = record { seats = c.in_ok-with_capacity.field-0 } in (
       p.len ∙ ap (λ n. n + 1) i.0,
       (let a = p.capacity in let b = i.1 in omega arith),
       (let l = ap (λ (x : List (Room _ _ _)). length x) p.items ∙ length-append c.loop-made.rooms.items (r ∷ []) in let b = i.2 in omega arith),

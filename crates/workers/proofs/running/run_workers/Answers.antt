@@ -2,7 +2,7 @@ use Rattle.std.proofs.Common.{◌≡◌, ◌+◌, [], ℕ, List, refl, sym, ap, 
 use Rattle.work.specs.Hands.{all_parts, weigh}
 use Rattle.work.specs.Queues.{parts_by}
 use Rattle.cells.specs.Sights.{SeatSight}
-use Rattle.workers.specs.declared.walk.Walk.{Walk}
+use Rattle.cells.specs.Views.{Knowledge}
 use Rattle.workers.specs.declared.worker.Worker.{Worker}
 use Rattle.workers.specs.Spares.{IsCounted, IsDealtAll, at_work, on_spares}
 use Rattle.workers.specs.Sums.{AllLaterWorkers, AllReady, IsClosed, parts_of}
@@ -42,14 +42,14 @@ give_back-requires-clause-room g c =
     let i = c.loop-worker.invariant.2 in
     let l = zip-last _ i.0 c.pop.new.self.items c.in-Some.worker (subst (AllLaterWorkers i.0) c.in-Some.ensures.items i.3) in
     let d = dealt_all_last c.args.host_state.now.spares.items l.0 l.1 i.1 (subst (λ (v : List (Worker _ _ _)). IsDealtAll c.args.host_state.now.spares.items v i.1) l.2 i.2) in
-    grown_roomy d.0 l.1.walks.items i.1 c.loop-worker.host_state.spares.items d.2 i.4
+    grown_roomy d.0 l.1.seats.items i.1 c.loop-worker.host_state.spares.items d.2 i.4
 
 pub give_back-requires-clause-seats : goal.give_back-requires-clause-seats
 give_back-requires-clause-seats g c =
     let i = c.loop-worker.invariant.2 in
     let l = zip-last _ i.0 c.pop.new.self.items c.in-Some.worker (subst (AllLaterWorkers i.0) c.in-Some.ensures.items i.3) in
     let d = dealt_all_last c.args.host_state.now.spares.items l.0 l.1 i.1 (subst (λ (v : List (Worker _ _ _)). IsDealtAll c.args.host_state.now.spares.items v i.1) l.2 i.2) in
-    given_many d.0 l.1.walks.items i.1 c.loop-worker.host_state.spares.items c.in-Some.worker.walks.items d.2 i.4 l.4
+    given_many d.0 l.1.seats.items i.1 c.loop-worker.host_state.spares.items c.in-Some.worker.seats.items d.2 i.4 l.4
 
 pub loop-worker-preserved : goal.loop-worker-preserved
 loop-worker-preserved g c =
@@ -59,11 +59,11 @@ loop-worker-preserved g c =
     let l = zip-last _ i.0 c.pop.new.self.items z (subst (AllLaterWorkers i.0) c.in-Some.ensures.items i.3) in
     let d = dealt_all_last c.args.host_state.now.spares.items l.0 l.1 i.1 (subst (λ (v : List (Worker _ _ _)). IsDealtAll c.args.host_state.now.spares.items v i.1) l.2 i.2) in (
       c.loop-worker.invariant.0,
-      (λ (f : SeatSight → ℕ).
-          let a = given_sum f cur z.walks.items c.give_back.new.spares.items c.give_back.ensures in
-          let b = weigh-last (λ (w : (Worker _ _ _)). weigh (λ (v : (Walk _ _ _)). f v.seat) w.walks.items) c.loop-worker.workers.items c.pop.new.self.items z c.in-Some.ensures.items in
+      (λ (f : Knowledge → ℕ).
+          let a = given_sum f cur z.seats.items c.give_back.new.spares.items c.give_back.ensures in
+          let b = weigh-last (λ (w : (Worker _ _ _)). weigh (λ (v : SeatSight). f v.me) w.seats.items) c.loop-worker.workers.items c.pop.new.self.items z c.in-Some.ensures.items in
           let s = c.loop-worker.invariant.1 f in omega arith),
-      (l.0, d.0, d.1, l.3, given_grown d.0 l.1.walks.items i.1 z.walks.items cur c.give_back.new.spares.items d.2 i.4 l.4 c.give_back.ensures),
+      (l.0, d.0, d.1, l.3, given_grown d.0 l.1.seats.items i.1 z.seats.items cur c.give_back.new.spares.items d.2 i.4 l.4 c.give_back.ensures),
     )
 
 pub returns-clause-grown : goal.returns-clause-grown
@@ -84,7 +84,7 @@ returns-clause-worked g c =
     let back = written_back c.deal-workers.result.len xs ys closed.later c.deal-workers.result.ok.0 in
     let none : c.loop-worker.workers.items ≡ [] = empty c.loop-worker.workers.items (let ok = c.loop-worker.workers.ok.0 in let m = c.in_default.ensures.cases.0 in omega arith) in
     let hold = (c.deal-workers.ensures.passes.passing q c.requires.queue.0).1 in
-    let given : (f : SeatSight → ℕ) → on_spares f cur ≡ on_spares f mid + at_work f ys = λ f.
+    let given : (f : Knowledge → ℕ) → on_spares f cur ≡ on_spares f mid + at_work f ys = λ f.
     (let s = c.loop-worker.invariant.1 f in
     let a : at_work f c.loop-worker.workers.items ≡ 0 = ap (at_work f) none in
     let b = ap (at_work f) back in omega arith) in

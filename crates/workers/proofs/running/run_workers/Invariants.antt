@@ -1,5 +1,5 @@
 use Rattle.std.proofs.Common.{◌≡◌, ◌+◌, ℕ, List, vec_len}
-use Rattle.cells.specs.Sights.{SeatSight}
+use Rattle.cells.specs.Views.{Knowledge}
 use Rattle.workers.specs.Spares.{AllGrownSpares, IsDealtAll, at_work, on_spares}
 use Rattle.workers.specs.Sums.{AllLaterWorkers}
 use Rattle.workers.specs.declared.deal.SpareSeats.{SpareSeats}
@@ -9,7 +9,7 @@ use Rattle.workers.proofs.running.run_workers.Given as goal
 abbrev pub invariant-loop-worker : goal.invariant-loop-worker
 invariant-loop-worker g l =
     (l.host_state.shared ≡ l.initial.host_state.shared)
-    × ((f : SeatSight → ℕ) → on_spares f l.host_state.spares.items + at_work f l.workers.items ≡ on_spares f l.initial.host_state.spares.items + at_work f l.initial.workers.items)
+    × ((f : Knowledge → ℕ) → on_spares f l.host_state.spares.items + at_work f l.workers.items ≡ on_spares f l.initial.host_state.spares.items + at_work f l.initial.workers.items)
     × ((ws : List (Worker _ _ _)) × (mid : List (SpareSeats _ _ _)) × IsDealtAll l.fn.host_state.spares.items ws mid × AllLaterWorkers ws l.workers.items × AllGrownSpares mid l.host_state.spares.items)
 
 abbrev pub decreases-loop-worker : goal.decreases-loop-worker

@@ -42,7 +42,7 @@ loop-number-preserved g c =
       search rules,
       search rules,
       subst (AllFresh c.in_ok-lock.lock.table.shared.table_id c.args.config c.args.seats) (sym c.push_reserved.ensures.items)
-          (seats_more _ c.args.config c.args.seats c.loop-number.all.items n (sight_of c.another-pass.result) i.3 q.1.0 (v.1 ∙ ap seat_of i.1) i.5),
+          (seats_more _ c.args.config c.args.seats c.loop-number.all.items n (sight_of c.another-pass.result c.new.result.items) i.3 q.1.0 (v.1 ∙ ap seat_of i.1) i.5),
     )
 
 pub returns-clause-theirs : goal.returns-clause-theirs
