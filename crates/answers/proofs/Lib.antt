@@ -1,4 +1,6 @@
 mod CrowdLines
 mod ExplainedTexts
+mod Histories
 mod LineLaws
 mod PlanningLaws
+mod DeterminedEnds

@@ -1,14 +1,18 @@
 -- What a comparison of two scripts prints.
-use Rattle.std.specs.Prelude.{◌≡◌, ◌++◌, ◌∷◌, ◌&&◌, [], ℕ, Bool, true, false, List, codes, string_bytes}
+use Rattle.std.specs.Prelude.{◌≡◌, ◌++◌, ◌∷◌, ◌&&◌, [], ℕ, Bool, true, false, IsTrue, is_some, List, codes, string_bytes}
 use Rattle.std.specs.List.{flat_map}
 use Rattle.std.specs.Fmt.{decimal}
 use Rattle.types.specs.declared.event.Out.{Out}
 use Rattle.scripts.specs.Script.{Bytes}
 use Rattle.scripts.specs.Names.{text_of_name}
+use Rattle.protocol.specs.Hosts.{History, entries, nodes_of}
+use Rattle.protocol.specs.Isolation.{closure, kept_of, outs_of, SameCast}
+use Rattle.protocol.specs.Networks.{slices_of}
+use Rattle.network.specs.Decoding.{reading}
 use Rattle.hoststep.specs.Logs.{Log}
-use Rattle.world.specs.Worlds.{log_at}
+use Rattle.world.specs.Worlds.{AreJournalsOf, log_at}
 use Rattle.requests.specs.Replies.{behind_space}
-use Rattle.twoworlds.specs.Meanings.{IsVerdictOn}
+use Rattle.twoworlds.specs.Meanings.{IsVerdictBetween, IsVerdictOn}
 use Rattle.twoworlds.specs.declared.verdict.Verdict.{Verdict}
 use Rattle.twoworlds.specs.declared.verdict.Verdict.TheVariants.{CastDiffers, InputsDiffer, Same}
 use Rattle.answers.specs.declared.answer.Answer.{Answer}
@@ -34,9 +38,30 @@ abbrev pub IsExplained : Bool → Verdict → Bytes → Type 0
 IsExplained explain verdict text =
     (more : Bytes) × (text ≡ text_of_verdict verdict ++ more) × ((explain && is_difference verdict) ≡ false → more ≡ [])
 
+-- The headline of two histories of hosts, as this host reads envelopes: if both host the members of the closure of v in
+-- the first alike, with the same slices, and the steps that concern them are the same in order, then each hosted member
+-- gives out the same in both.
+abbrev pub AreIsolatedHistories : History → History → ℕ → ℕ → ℕ → Type 0
+AreIsolatedHistories one other g i v =
+    let R = closure (nodes_of one.configs g) i v (entries reading one g) in
+    SameCast R v (nodes_of one.configs g) (nodes_of other.configs g)
+    → kept_of R i (entries reading one g) ≡ kept_of R i (entries reading other g)
+    → (u : ℕ) → IsTrue (R u) → IsTrue (is_some (slices_of (nodes_of one.configs g) u))
+    → outs_of i u (entries reading one g) ≡ outs_of i u (entries reading other g)
+
+-- two worlds are those of two histories of hosts; the verdict is right between these, and the headline holds of them
+pub record IsVerdictOnHistories (one other : List Log) (net slot node : ℕ) (verdict : Verdict) : Type 0 where
+  pub first : History
+  pub second : History
+  pub is_first : AreJournalsOf first one
+  pub is_second : AreJournalsOf second other
+  pub right : IsVerdictBetween first second net slot node verdict
+  pub isolated : AreIsolatedHistories first second net slot node
+
 -- the answer is that of a right verdict on two worlds, in its lines; behind those of a difference it may explain it
 pub record IsComparison (one other : List Log) (net slot node : ℕ) (explain : Bool) (a : Answer) : Type 0 where
   pub verdict : Verdict
   pub right : IsVerdictOn (log_at one net) (log_at other net) slot node verdict
+  pub histories : IsVerdictOnHistories one other net slot node verdict
   pub differs : a.differs ≡ is_difference verdict
   pub text : IsExplained explain verdict (string_bytes a.text)

@@ -6,7 +6,7 @@ use Rattle.scripts.specs.Names.{text_of_name}
 use Rattle.protocol.specs.Hosts.{History}
 use Rattle.protocol.specs.Networks.{Reply}
 use Rattle.protocol.specs.Networks.Reply.{Done, Refused}
-use Rattle.crowds.specs.Crowding.{IsCrowdHere}
+use Rattle.crowds.specs.Crowding.{AreNeverCrowdedOut, IsCrowdHere}
 use Rattle.crowds.specs.Replies.{reply_of}
 use Rattle.crowds.specs.declared.reply.Reply.{Reply as Replied}
 use Rattle.crowds.specs.declared.verdict.Crowd.{Crowd}
@@ -50,7 +50,9 @@ is_difference (InputsDiffer place) = true
 abbrev pub Tells : Crowd → Answer → Type 0
 Tells verdict answer = (answer.differs ≡ is_difference verdict) × (string_bytes answer.text ≡ lines_of verdict)
 
--- the answer tells the verdict on two submissions
-abbrev pub TellsCrowd : History → History → Subject → Answer → Type 0
-TellsCrowd one other subject answer =
-    (verdict : Crowd) × IsCrowdHere one other subject.net subject.slot subject.node verdict × Tells verdict answer
+-- the answer tells the right verdict on two submissions, and in these no member that a roster has is crowded out
+pub record TellsCrowd (one other : History) (subject : Subject) (answer : Answer) : Type 0 where
+  pub verdict : Crowd
+  pub right : IsCrowdHere one other subject.net subject.slot subject.node verdict
+  pub never_crowded_out : AreNeverCrowdedOut one other subject.net subject.slot subject.node
+  pub tells : Tells verdict answer

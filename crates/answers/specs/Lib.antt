@@ -1,3 +1,4 @@
 pub mod Scripts
+pub mod Determined
 pub mod Comparisons
 pub mod Crowding

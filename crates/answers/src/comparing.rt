@@ -34,6 +34,10 @@ pub struct Sides<'a> {
 
 /// Compares what concerns the subject in two scripts; where it is asked for, a difference is explained. An
 /// error says that memory is short.
+///
+/// The journals of the scripts are those of two histories of hosts, between which the verdict is right. If both host the
+/// members of the closure of the node alike, and the steps that concern them are the same in order, each hosted member
+/// gives out the same in both.
 pub fn answer_compare(
     alloc: Global,
     sides: &Sides<'_>,

@@ -1,7 +1,9 @@
 //! Scripts of networks that are run to their end without printing.
 
 ghost use Rattle.std.specs.Prelude.{◌≡◌, ◌≤◌, IfErr, IfOk, Some, length, option_map};
+ghost use Rattle.runs.specs.Histories.{HaveHistory};
 ghost use Rattle.runs.specs.Unprinted.{origin_in};
+ghost use Rattle.answers.specs.Determined.{ScriptsHaveOneEnd};
 ghost use Rattle.answers.specs.Scripts.{HasEnded, IsLineAt, IsLineOf, IsStoryOf, StopsStory, start_of};
 ghost use Rattle.scripts.specs.Script.{is_no_record as no_record};
 
@@ -14,7 +16,8 @@ use std::marker::Model;
 
 /// A script of networks that has been run to its end.
 ///
-/// Its text is no longer than a script may be: for example, it may have 64 MiB, and not one byte more.
+/// Its text is no longer than a script may be: for example, it may have 64 MiB, and not one byte more. Its journals are
+/// those of a history of a host.
 #[derive(Drop)]
 pub struct FinishedScript {
     run: UnprintedRun,
@@ -25,6 +28,7 @@ impl Model for FinishedScript {
     ghost use Rattle.std.specs.Coded.{codes};
     ghost use Rattle.std.specs.Prelude.{◌≤◌, length};
     ghost use Rattle.types.specs.Trees.{members_code};
+    ghost use Rattle.runs.specs.Histories.{HaveHistory};
     ghost use Rattle.answers.specs.Scripts.{Story, longest_script};
 
     ghost Value = { Story };
@@ -33,7 +37,7 @@ impl Model for FinishedScript {
 
     ghost view = { λ script. record { run = script.run; text = script.text.items } };
 
-    ghost invariant = { λ script. length script.text.items ≤ longest_script };
+    ghost invariant = { λ script. (length script.text.items ≤ longest_script) × HaveHistory script.run.hosting.logs };
 }
 
 impl FinishedScript {
@@ -41,6 +45,7 @@ impl FinishedScript {
     /// that are declared with nodes and that no event has named are there too. A line that is bad ends it, and
     /// so does an event for which memory is short: no story lacks an event of its script for that. Where it is
     /// traced, it keeps from which line each entry comes.
+    #[tactic(auto, using(crate::proofs::Histories::ends_have_histories))]
     pub fn read_and_run<R: Read>(
         alloc: Global,
         script: &mut R,
@@ -56,7 +61,8 @@ impl FinishedScript {
 
     /// The run.
     pub fn run(&self) -> &UnprintedRun
-        ensures { result.now ≡ self.now.run }
+        ensures run { result.now ≡ self.now.run }
+        ensures history { HaveHistory self.now.run.hosting.logs }
     {
         &self.run
     }
@@ -122,3 +128,9 @@ fn is_no_record(line: &[u8]) -> bool
 {
     matches!(line, [] | [b'#', ..])
 }
+
+/// A law: what becomes of a script is determined. Where a text is run to its end twice, from the same networks, the
+/// journals of both ends are the same, and so are the traces of the lines.
+pub fn scripts_have_one_end()
+    ensures { ScriptsHaveOneEnd }
+{}

@@ -14,5 +14,5 @@ mod jobs;
 pub use answer::Answer;
 pub use comparing::{Side, Sides, answer_compare};
 pub use crowding::{answer_crowd, read_submission};
-pub use finished_script::FinishedScript;
+pub use finished_script::{FinishedScript, scripts_have_one_end};
 pub use jobs::read_jobs;

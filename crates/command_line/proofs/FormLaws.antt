@@ -75,11 +75,11 @@ plain_replay : (asked : Options) (word : Text) (rest : List Text) → is_plain w
 plain_replay asked word rest e = rw (plain_journal word e, plain_from word e) refl
 
 ended_plain : (c : Command) (asked : Options) (word : Text) (rest : List Text) → is_plain word ≡ true → option_in c asked (word ∷ rest) ≡ None
-ended_plain command.Table asked word rest e = refl
-ended_plain command.Run asked word rest e = rw (plain_workers word e) refl
-ended_plain command.Closure asked word rest e = rw (plain_format word e) refl
+ended_plain command.Table asked word rest e = rw (no_option word (codes "explain") e) refl
+ended_plain command.Run asked word rest e = rw (plain_workers word e, no_option word (codes "explain") e) refl
+ended_plain command.Closure asked word rest e = rw (plain_format word e, no_option word (codes "explain") e) refl
 ended_plain command.Compare asked word rest e = rw (no_option word (codes "explain") e) refl
-ended_plain command.Crowd asked word rest e = refl
+ended_plain command.Crowd asked word rest e = rw (no_option word (codes "explain") e) refl
 ended_plain command.Serve asked word rest e =
     rw (plain_workers word e, plain_replay asked word rest e, no_option word (codes "bytes") e, no_option word (codes "explain") e) refl
 ended_plain command.Compact asked word rest e = refl

@@ -12,14 +12,14 @@ use Rattle.command_line.specs.declared.options.Options.{Options}
 
 -- what a command asks for with these options and operands, if it takes them
 abbrev pub call_of : Command → Options → List Text → Option Call
-call_of command.Table asked (file ∷ []) = Some (Table file)
-call_of command.Run asked (script ∷ []) = Some (Run script asked.workers)
+call_of command.Table asked (file ∷ []) = Some (Table file asked.explain)
+call_of command.Run asked (script ∷ []) = Some (Run script asked.workers asked.explain)
 call_of command.Closure asked (script ∷ net ∷ slot ∷ node ∷ []) =
-    option_map (λ subject. Closure script subject (format_or_text asked.format)) (subject_in net slot node)
+    option_map (λ subject. Closure script subject (format_or_text asked.format) asked.explain) (subject_in net slot node)
 call_of command.Compare asked (one ∷ other ∷ net ∷ slot ∷ node ∷ []) =
     option_map (λ subject. Compare one other subject asked.explain) (subject_in net slot node)
 call_of command.Crowd asked (one ∷ other ∷ net ∷ slot ∷ node ∷ []) =
-    option_map (λ subject. Crowd one other subject) (subject_in net slot node)
+    option_map (λ subject. Crowd one other subject asked.explain) (subject_in net slot node)
 call_of command.Serve asked [] = if lack_journal asked then None
     else Some (Serve asked.workers asked.bytes asked.explain asked.journal asked.from)
 call_of command.Compact asked (file ∷ []) = Some (Compact file)

@@ -83,6 +83,10 @@ with_explanation asked (word ∷ rest) = if bytes_eq word (codes "--explain") &&
 abbrev pub workers_option : Options → List Text → Option (Options × List Text)
 workers_option asked words = option_and_then (with_workers asked) (value_in (codes "--workers") words)
 
+-- the options with a form of report, as its option is spelled
+abbrev pub format_option : Options → List Text → Option (Options × List Text)
+format_option asked words = option_and_then (with_format asked) (value_in (codes "--format") words)
+
 -- the options with a journal, as its options are spelled: its name, or the line from which it is replayed
 abbrev pub journal_option : Options → List Text → Option (Options × List Text)
 journal_option asked words = option_or (option_and_then (with_journal asked) (value_in (codes "--journal") words))
@@ -95,11 +99,11 @@ serving_in asked words = option_or (workers_option asked words) (option_or (jour
 
 -- the options with the one of a command beside them that the first words are, each once, and the words behind it
 abbrev pub option_in : Command → Options → List Text → Option (Options × List Text)
-option_in command.Table asked words = None
-option_in command.Run asked words = workers_option asked words
-option_in command.Closure asked words = option_and_then (with_format asked) (value_in (codes "--format") words)
+option_in command.Table asked words = with_explanation asked words
+option_in command.Run asked words = option_or (workers_option asked words) (with_explanation asked words)
+option_in command.Closure asked words = option_or (format_option asked words) (with_explanation asked words)
 option_in command.Compare asked words = with_explanation asked words
-option_in command.Crowd asked words = None
+option_in command.Crowd asked words = with_explanation asked words
 option_in command.Serve asked words = serving_in asked words
 option_in command.Compact asked words = None
 option_in command.Encode asked words = None

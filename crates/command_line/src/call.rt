@@ -26,6 +26,8 @@ pub enum Call {
     Table {
         /// The name of the file; `-` is the standard input.
         file: Word,
+        /// Whether a bad line is explained on the standard error.
+        explain: bool,
     },
     /// `run SCRIPT`: run the lines of a script of networks, in order or as jobs of a pool.
     Run {
@@ -33,6 +35,8 @@ pub enum Call {
         script: Word,
         /// How many workers the pool has; without one the lines are run in order.
         workers: Option<PoolSize>,
+        /// Whether a bad line is explained on the standard error.
+        explain: bool,
     },
     /// `closure SCRIPT NET SLOT NODE`: run a script and report whom a node depends on.
     Closure {
@@ -42,6 +46,8 @@ pub enum Call {
         subject: Subject,
         /// The form of the report.
         format: Format,
+        /// Whether a bad line is explained on the standard error.
+        explain: bool,
     },
     /// `compare SCRIPT1 SCRIPT2 NET SLOT NODE`: run two scripts and compare what concerns a node in them.
     Compare {
@@ -51,7 +57,7 @@ pub enum Call {
         second: Word,
         /// The node, at a slot of a network.
         subject: Subject,
-        /// Whether a difference is to be explained.
+        /// Whether a difference is to be explained, and a bad line on the standard error.
         explain: bool,
     },
     /// `crowd SCRIPT1 SCRIPT2 NET SLOT NODE`: read two scripts and compare what they submit for a node, and the
@@ -63,6 +69,8 @@ pub enum Call {
         second: Word,
         /// The node, at a slot of a network.
         subject: Subject,
+        /// Whether a bad line is explained on the standard error.
+        explain: bool,
     },
     /// `serve`: host what the lines of the standard input declare, and answer each line as it comes.
     Serve {
@@ -223,7 +231,8 @@ fn table_call<S: AsStr>(
     match operands {
         [file] => {
             let file = Word::new(alloc, file.as_str())?;
-            Ok(Some(Call::Table { file }))
+            let explain = asked.explain;
+            Ok(Some(Call::Table { file, explain }))
         }
         _ => Ok(None),
     }
@@ -241,7 +250,12 @@ fn run_call<S: AsStr>(
         [script] => {
             let script = Word::new(alloc, script.as_str())?;
             let workers = asked.workers;
-            Ok(Some(Call::Run { script, workers }))
+            let explain = asked.explain;
+            Ok(Some(Call::Run {
+                script,
+                workers,
+                explain,
+            }))
         }
         _ => Ok(None),
     }
@@ -260,10 +274,12 @@ fn closure_call<S: AsStr>(
             Some(subject) => {
                 let script = Word::new(alloc, script.as_str())?;
                 let format = asked.format_or_text();
+                let explain = asked.explain;
                 Ok(Some(Call::Closure {
                     script,
                     subject,
                     format,
+                    explain,
                 }))
             }
             None => Ok(None),
@@ -314,10 +330,12 @@ fn crowd_call<S: AsStr>(
             Some(subject) => {
                 let first = Word::new(alloc, first.as_str())?;
                 let second = Word::new(alloc, second.as_str())?;
+                let explain = asked.explain;
                 Ok(Some(Call::Crowd {
                     first,
                     second,
                     subject,
+                    explain,
                 }))
             }
             None => Ok(None),

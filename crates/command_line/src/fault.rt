@@ -1,10 +1,13 @@
 //! What is wrong with words that are no call, and how that is told.
 
 use crate::command::Command;
-use crate::form::{COMMANDS, FROM, Form, JOURNAL, Part, form_of};
+use crate::form::{COMMANDS, FORMAT, FROM, Form, JOURNAL, NET, NODE, Part, SLOT, WORKERS, form_of};
 use crate::operands::is_plain;
-use crate::options::Options;
+use crate::options::{Options, workers_in};
 use crate::pages::{push_names, push_usage};
+use crate::replay::replay_of;
+use crate::subject::{format_of, network_of, number_in};
+use scripts::name_of;
 use std::alloc::{AllocError, Global};
 use std::convert::AsStr;
 
@@ -23,7 +26,11 @@ pub enum Fault<'a> {
     NoValue(&'a str),
     /// A journal is to be replayed, and none is named.
     NoJournal,
-    /// Some word is wrong that stands in its place.
+    /// This option or operand does not take this value.
+    BadValue(&'a str, &'a str),
+    /// This option of a command is given twice.
+    Twice(Command, &'a str),
+    /// Two hyphens stand in the wrong place.
     BadWord,
     /// There was no memory to read the words.
     NoMemory,
@@ -46,39 +53,99 @@ pub fn fault_of_command<S: AsStr>(words: &[S]) -> Fault<'_> {
 /// What is wrong where options and operands could not be read on from these words.
 pub fn fault_of_words<S: AsStr>(command: Command, words: &[S]) -> Fault<'_> {
     match words {
-        [word, rest @ ..] if word.as_str() != "--" => {
-            fault_of_word(command, word.as_str(), rest.is_empty())
-        }
+        [word, ..] if word.as_str() != "--" => fault_of_option(command, words),
         _ => Fault::BadWord,
     }
 }
 
-/// What is wrong with a word that has no place behind a command, or that is an option.
-fn fault_of_word(command: Command, word: &str, is_last: bool) -> Fault<'_> {
-    let name = name_of(word);
-    let form = form_of(command);
-    for option in form.options {
-        if is_last && wants_value(option, word) {
-            return Fault::NoValue(option.name);
-        }
-        if has_name(option, name) {
-            return Fault::BadWord;
+/// What is wrong where the first word has no place behind a command, or is an option of it.
+fn fault_of_option<'a, S: AsStr>(command: Command, words: &'a [S]) -> Fault<'a> {
+    let [first, ..] = words else {
+        return Fault::BadWord;
+    };
+    let word = first.as_str();
+    let Some(option) = option_of(command, name_in(word)) else {
+        return Fault::Unexpected(Some(command), word);
+    };
+    if option.name == word {
+        return Fault::Twice(command, option.name);
+    }
+    if !wants_value(&option, name_in(word)) {
+        return Fault::Unexpected(Some(command), word);
+    }
+    match value_in(words) {
+        None => Fault::NoValue(option.name),
+        Some(value) if takes(option.name, value) => Fault::Twice(command, option.name),
+        Some(value) => Fault::BadValue(option.name, value),
+    }
+}
+
+/// The option of a command that has this name.
+fn option_of(command: Command, name: &str) -> Option<Part<'static>> {
+    for option in form_of(command).options {
+        if option.name == name || wants_value(option, name) {
+            return Some(*option);
         }
     }
-    Fault::Unexpected(Some(command), word)
+    None
 }
 
 /// The name of an option, with a value behind `=` or none.
-fn name_of(word: &str) -> &str {
+fn name_in(word: &str) -> &str {
     match word.split_once('=') {
         Some((name, _)) => name,
         None => word,
     }
 }
 
-/// The option has this name, with a value behind it or none.
-fn has_name(option: &Part<'_>, name: &str) -> bool {
-    option.name == name || wants_value(option, name)
+/// The value of the option that the first word is: what stands behind `=`, or the next word.
+fn value_in<S: AsStr>(words: &[S]) -> Option<&str> {
+    let [word, rest @ ..] = words else {
+        return None;
+    };
+    match word.as_str().split_once('=') {
+        Some((_, value)) => Some(value),
+        None => match rest {
+            [next, ..] => Some(next.as_str()),
+            [] => None,
+        },
+    }
+}
+
+/// Whether an option or an operand takes a value.
+fn takes(name: &str, value: &str) -> bool {
+    if name == WORKERS.name {
+        workers_in(value).is_some()
+    } else if name == FORMAT.name {
+        format_of(value).is_some()
+    } else if name == FROM.name {
+        replay_of(value).is_some()
+    } else if name == NET.name {
+        network_of(value).is_some()
+    } else if name == SLOT.name {
+        number_in(value).is_some()
+    } else if name == NODE.name {
+        name_of(value.as_bytes()).is_some()
+    } else {
+        true
+    }
+}
+
+/// What an option or an operand takes.
+fn wanted_by(name: &str) -> &'static str {
+    if name == WORKERS.name {
+        "a number from 1 to 64, without zeros in front"
+    } else if name == FORMAT.name {
+        "text, dot or svg"
+    } else if name == FROM.name {
+        "the number of a line, from 1 on, or open"
+    } else if name == NET.name {
+        "a number below 2^32, without zeros in front"
+    } else if name == SLOT.name {
+        "a number below 2^64, without zeros in front"
+    } else {
+        "1 to 32 letters or digits, or 64 lower-case hexadecimal digits"
+    }
 }
 
 /// The option has this name, and a value behind it.
@@ -102,8 +169,21 @@ pub fn fault_of_operands<'a, S: AsStr>(
             Fault::Missing(command, asked.are_given(), operands.len())
         }
         None if asked.lack_journal() => Fault::NoJournal,
-        None => Fault::BadWord,
+        None => fault_of_operand(form_of(command).operands, operands),
     }
+}
+
+/// What is wrong with the first operand that does not take its value.
+fn fault_of_operand<'a, S: AsStr>(parts: &[Part<'a>], operands: &'a [S]) -> Fault<'a> {
+    for place in 0..operands.len() {
+        let value = operands[place].as_str();
+        if let Some(part) = parts.get(place) {
+            if !takes(part.name, value) {
+                return Fault::BadValue(part.name, value);
+            }
+        }
+    }
+    Fault::BadWord
 }
 
 /// What is said of a fault. Fails only for want of memory.
@@ -144,6 +224,21 @@ fn push_fault(text: &mut String, fault: &Fault<'_>) -> Result<(), AllocError> {
             )
         }
         Fault::NoJournal => push_no_journal(text),
+        Fault::BadValue(name, value) => {
+            let wanted = wanted_by(name);
+            write!(
+                text,
+                "invalid value '{value}' for '{name}': it takes {wanted}\n"
+            )
+        }
+        Fault::Twice(command, option) => {
+            write!(
+                text,
+                "the argument '{option}' cannot be used multiple times\n\n"
+            )?;
+            push_usage(text, &form_of(*command))?;
+            text.push_str("\n")
+        }
         Fault::BadWord | Fault::NoMemory => Ok(()),
     }
 }
@@ -173,7 +268,7 @@ fn push_no_command(text: &mut String) -> Result<(), AllocError> {
     text.push_str("help]\n\nUsage: scphost <COMMAND>\n")
 }
 
-/// Adds which operands are missing behind so many, and how the command is called with these options.
+/// Adds which operands are missing behind so many, and how the command is called.
 fn push_missing(
     text: &mut String,
     form: &Form<'_>,
@@ -187,7 +282,7 @@ fn push_missing(
     text.push_str("\nUsage: scphost ")?;
     text.push_str(form.command.name)?;
     if has_options {
-        push_names(text, form.options)?;
+        text.push_str(" [OPTIONS]")?;
     }
     push_names(text, form.operands)?;
     text.push_str("\n")

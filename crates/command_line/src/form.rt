@@ -38,17 +38,20 @@ pub struct Form<'a> {
     pub more: &'a str,
 }
 
-const NET: Part<'static> = Part {
+/// The operand that names a network.
+pub const NET: Part<'static> = Part {
     name: "<NET>",
     about: "The number of the network",
 };
 
-const SLOT: Part<'static> = Part {
+/// The operand that names a slot.
+pub const SLOT: Part<'static> = Part {
     name: "<SLOT>",
     about: "The slot",
 };
 
-const NODE: Part<'static> = Part {
+/// The operand that names a node.
+pub const NODE: Part<'static> = Part {
     name: "<NODE>",
     about: "The name of the node",
 };
@@ -98,19 +101,21 @@ const HEX: Part<'static> = Part {
     about: "The bytes in lower-case hexadecimal, or - for none",
 };
 
-const WORKERS: Part<'static> = Part {
+/// The option that says how many workers there are.
+pub const WORKERS: Part<'static> = Part {
     name: "--workers <N>",
     about: "Runs the events as jobs of N workers, 1 to 64; without it, in order",
 };
 
-const FORMAT: Part<'static> = Part {
+/// The option that says in which form a report is.
+pub const FORMAT: Part<'static> = Part {
     name: "--format <FORM>",
     about: "The form of the report: text, dot or svg; text where it is left out",
 };
 
 const EXPLAIN: Part<'static> = Part {
     name: "--explain",
-    about: "Shows both sides of a difference, with files and lines",
+    about: "Shows both sides of a difference, with files and lines; explains a bad line",
 };
 
 const HOST_WORKERS: Part<'static> = Part {
@@ -140,6 +145,11 @@ const EXPLAIN_LINES: Part<'static> = Part {
     about: "Explains each bad line on the standard error, with its column",
 };
 
+const EXPLAIN_LINE: Part<'static> = Part {
+    name: "--explain",
+    about: "Explains a bad line on the standard error, with its column",
+};
+
 /// `table FILE`.
 const TABLE: Form<'static> = Form {
     command: Part {
@@ -147,7 +157,7 @@ const TABLE: Form<'static> = Form {
         about: "Runs the lines of a table file",
     },
     operands: &[FILE],
-    options: &[],
+    options: &[EXPLAIN_LINE],
     more: "A table file names one node, its slot and its slices, then offers envelopes and asks.
 For example:
   self A 1 2[A,B]
@@ -162,9 +172,29 @@ const RUN: Form<'static> = Form {
         about: "Runs the lines of a script of networks",
     },
     operands: &[SCRIPT],
-    options: &[WORKERS],
-    more: "A script declares networks with their nodes, opens slots and puts events to them.
-For example:
+    options: &[WORKERS, EXPLAIN_LINE],
+    more: "These lines are taken, N being a network and I a slot; empty ones and comments are passed over:
+  net N events E bytes B slots S, with `served` behind it or without
+  node N NODE SLICES
+  roster N own O pair P bytes B opens S NODE,NODE,..
+  open N I, or close N I
+  propose N I NODE VALUE
+  deliver N NODE HEX
+  say N NODE FROM I SLICES STATEMENT
+  hear N I NODE FROM nom K, or bal in place of nom
+  ntimer N I NODE R, or btimer N I NODE C
+  reslice N I NODE SLICES
+  settle N I, which lets nodes hear one another until none emits any more
+  drop N, which takes a served network back
+In a served network each event is heard by the others, lines that hear and settle are bad, and with
+* for NODE, `deliver` and `say` go to each hosted node.
+
+An event is answered `ok` and what the node gives out, or `refused K NAME`, and then nothing changed:
+  1 NoSuchNetwork   2 NoSuchNode        3 SlotNotOpen   4 SlotOpenAlready   5 TooManySlots
+  6 BadEnvelope     7 HostedSender      8 NotEmitted    9 JournalFull      10 BytesFull
+ 11 BadValue       12 ProposedAlready  13 NoMemory     15 ShareFull        16 ShareBytesFull
+The status is 0 at the end of the script, 2 if it cannot be read or has a bad line, 3 if memory is
+short, and 4 if an answer cannot be written. For example:
   net 1 events 10 bytes 0 slots 1
   node 1 A 1[A]
   open 1 1
@@ -184,7 +214,7 @@ const CLOSURE: Form<'static> = Form {
         about: "Reports whom a node depends on, after a script",
     },
     operands: &[SCRIPT, NET, SLOT, NODE],
-    options: &[FORMAT],
+    options: &[FORMAT, EXPLAIN_LINE],
     more: "The script is run without printing. Then there is a line for each node that NODE depends on at
 SLOT of network NET, with who named it, and one for each hosted one of them, with those single
 nodes that block its slices. For example:
@@ -216,7 +246,7 @@ const CROWD: Form<'static> = Form {
         about: "Compares what was submitted for a node in two scripts, and the answers",
     },
     operands: &[FIRST, SECOND, NET, SLOT, NODE],
-    options: &[],
+    options: &[EXPLAIN_LINE],
     more: "Both scripts are run without printing. Where the nodes on which NODE depends at SLOT of network NET
 stand on one roster, and the same was submitted for them, applied or refused, so are the answers:
 `same` and these. Else the first difference is named, and the status is 1. For example:

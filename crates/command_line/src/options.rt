@@ -1,7 +1,7 @@
 //! The words behind a command: its operands, with options before or behind them.
 
 ghost use Rattle.std.specs.Prelude.{◌≡◌, ◌<◌, IfOk, IfSome, IsOkAnd, List, None, length, map, option_map};
-ghost use Rattle.command_line.specs.Options.{AreOptions, HasForm, behind, journal_option, lack_journal, next_in, no_options, option_in, serving_in, value_in, with_bytes, with_explanation, with_format, with_from, with_journal, with_workers, workers_in, workers_option};
+ghost use Rattle.command_line.specs.Options.{AreOptions, HasForm, behind, format_option, journal_option, lack_journal, next_in, no_options, option_in, serving_in, value_in, with_bytes, with_explanation, with_format, with_from, with_journal, with_workers, workers_in, workers_option};
 ghost use Rattle.command_line.specs.Subjects.{format_or_text};
 ghost use Rattle.command_line.specs.Words.{Text};
 
@@ -154,18 +154,17 @@ fn option_before<'a, S: AsStr>(
     ensures shorter { IfSome result (λ p. length p.1.now < length words.entry.now) }
 {
     match command {
-        Command::Table => None,
-        Command::Run => workers_before(asked, words),
-        Command::Closure => match value_before("--format", words) {
-            Some((value, rest)) => with_format(asked, value, rest),
-            None => None,
+        Command::Run => match workers_before(asked, words) {
+            Some(found) => Some(found),
+            None => with_explanation(asked, words),
         },
-        Command::Compare => with_explanation(asked, words),
-        Command::Crowd => None,
+        Command::Closure => match format_before(asked, words) {
+            Some(found) => Some(found),
+            None => with_explanation(asked, words),
+        },
+        Command::Table | Command::Compare | Command::Crowd => with_explanation(asked, words),
         Command::Serve => serving_before(asked, words),
-        Command::Compact => None,
-        Command::Encode => None,
-        Command::Decode => None,
+        Command::Compact | Command::Encode | Command::Decode => None,
     }
 }
 
@@ -202,6 +201,20 @@ fn journal_before<'a, S: AsStr>(
     }
     match value_before("--from", words) {
         Some((value, rest)) => with_from(asked, value, rest),
+        None => None,
+    }
+}
+
+/// The same with the option `--format FORM`.
+fn format_before<'a, S: AsStr>(
+    asked: &Options<'a>,
+    words: &'a [S],
+) -> Option<(Options<'a>, &'a [S])>
+    ensures option { option_map (λ p. (p.0, map S.text p.1.now)) result ≡ format_option asked.now (map S.text words.entry.now) }
+    ensures shorter { IfSome result (λ p. length p.1.now < length words.entry.now) }
+{
+    match value_before("--format", words) {
+        Some((value, rest)) => with_format(asked, value, rest),
         None => None,
     }
 }
@@ -374,7 +387,7 @@ fn behind<'a>(front: &str, word: &'a str) -> Option<&'a str>
 }
 
 /// How many workers a word asks for.
-fn workers_in(word: &str) -> Option<PoolSize>
+pub fn workers_in(word: &str) -> Option<PoolSize>
     ensures { result ≡ workers_in word.now }
 {
     match number_in(word) {

@@ -36,7 +36,7 @@ pub fn subject_of<S: AsStr>(net: &S, slot: &S, node: &S) -> Option<Subject>
 }
 
 /// The number below 2^32 that a word spells.
-fn network_of(word: &str) -> Option<u32>
+pub fn network_of(word: &str) -> Option<u32>
     ensures { result ≡ word_number (2 ^ 32) word.now }
 {
     counter_of(word.as_bytes())

@@ -12,6 +12,18 @@ use std::sync::Wait;
 /// How many lines are answered together at most (this host's profile).
 pub(crate) const MOST_LINES: usize = 1024;
 
+/// If lines that were answered together are answered by more bytes, fewer of them are taken the next time.
+const MANY_BYTES: usize = 262_144;
+
+/// How many lines are answered together at most, behind so many lines at most, whose answers have so many bytes.
+pub(crate) fn most_behind(most: usize, bytes: usize) -> usize {
+    if bytes > MANY_BYTES {
+        most / 2 + 1
+    } else {
+        MOST_LINES
+    }
+}
+
 /// Reads the next line, and those at hand behind it, as many as asked for at most. It answers whether the input may go on.
 pub(crate) fn gather<X: Wait, R: BufRead>(
     rt: &X,

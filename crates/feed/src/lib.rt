@@ -2,9 +2,10 @@
 //!
 //! A [`Feed`] reads lines until the input ends and gives each to a [`LineServer`]. A [`Desk`] has the line in its journal,
 //! on the disk, before what the line is answered is told. However much comes, what is kept is one line, of at most
-//! [`LONGEST_LINE`] bytes, the lines that came with it in one read, some hundreds at most, and their answers, which a
-//! [`BatchServer`] gives together. [`replay`] has the lines of a journal answered again, [`Lasting`] finds which of them
-//! concern what is still declared and open, and [`compact`] makes a shorter journal of these.
+//! [`LONGEST_LINE`] bytes, the lines that came with it in one read, 1,024 at most, and their answers, which a
+//! [`BatchServer`] gives together; behind answers of many bytes fewer lines are taken. [`replay`] has the lines of a
+//! journal answered again, [`Lasting`] finds which of them concern what is still declared and open, and [`compact`] makes
+//! a shorter journal of these.
 #![tactic(auto)]
 
 mod answering;

@@ -7,7 +7,7 @@ ghost use Rattle.feed.specs.Served.{is_kept, reply_of};
 ghost use Rattle.feed.specs.Replayed.{HasReplayed, HasReplayedLine, HasReplayedLines, IsTaken, is_told, told_if};
 
 use crate::answering::{Answer, BatchServer, LineServer};
-use crate::gathering::{MOST_LINES, gather, numbered, whole_lines};
+use crate::gathering::{MOST_LINES, gather, most_behind, numbered, whole_lines};
 use crate::reading::{KeptLine, LONGEST_LINE};
 use scripts::Stop;
 use std::io::{BufRead, Write};
@@ -25,7 +25,8 @@ pub struct JournalEnd {
 
 /// Has the lines of a journal answered again, up to its end, which is before the first line that has a byte 0 in it or
 /// lacks its line feed. What lines from a number on are answered is written; of the others, and without a number,
-/// nothing is. No more is kept than the lines that come in one read, some hundreds at most, which are answered together.
+/// nothing is. No more is kept than the lines that come in one read, which are answered together, 1,024 at most, and their
+/// answers. Behind answers of many bytes fewer lines are taken.
 ///
 /// It stops early where a line is no line of a journal ([`Stop::BadLine`], with its number), because it is too long, or
 /// because its answer says that a journal does not keep it; where a read fails, memory is short, a write fails, or no
@@ -42,10 +43,13 @@ pub fn replay<X: Threads + Wait + AllocGlobal + Sync, S: BatchServer, R: BufRead
     let alloc = rt.alloc();
     let mut lines = Vec::new(alloc);
     let mut end = JournalEnd { lines: 0, bytes: 0 };
+    let mut most = MOST_LINES;
     for _ in rt.forever() {
-        let read = gather(rt, alloc, MOST_LINES, journal, &mut lines);
+        let read = gather(rt, alloc, most, journal, &mut lines);
         let whole = whole_lines(lines.as_slice());
-        end = replay_lines(rt, server, whole, Place { from, end }, out)?;
+        let mut answered = 0;
+        end = replay_lines(rt, server, whole, Place { from, end }, out, &mut answered)?;
+        most = most_behind(most, answered);
         if whole.len() < lines.len() || !read? {
             return Ok(end);
         }
@@ -60,13 +64,15 @@ struct Place {
     end: JournalEnd,
 }
 
-/// Has lines answered again, and tells that if it is asked for. It answers where the journal ends behind them.
+/// Has lines answered again, and tells that if it is asked for. It answers where the journal ends behind them, and adds up
+/// of how many bytes their answers are.
 fn replay_lines<X: Threads + AllocGlobal + Sync, S: BatchServer, W: Write>(
     rt: &X,
     server: &mut S,
     lines: &[KeptLine],
     place: Place,
     out: &mut W,
+    answered: &mut usize,
 ) -> Result<JournalEnd, Stop>
     ensures { HasReplayedLines S.serves place.from server.old place.end (map given_of lines.now) (W.contents out.old) (W.contents out.new) result server.new }
 {
@@ -75,7 +81,10 @@ fn replay_lines<X: Threads + AllocGlobal + Sync, S: BatchServer, W: Write>(
     let mut answers = server.serve_batch(rt, rt.alloc(), end.lines, numbered);
     for line in numbered {
         match answers.pop_front() {
-            Some(answer) => end = take_line::<S, W>(line, answer, Place { from, end }, out)?,
+            Some(answer) => {
+                *answered = answered.saturating_add(length_of(&answer));
+                end = take_line::<S, W>(line, answer, Place { from, end }, out)?;
+            }
             // Memory: an answer is wanting, so there was none for it.
             None => return Err(Stop::NoMemory),
         }
@@ -84,6 +93,14 @@ fn replay_lines<X: Threads + AllocGlobal + Sync, S: BatchServer, W: Write>(
         return Err(Stop::TooLong);
     }
     Ok(end)
+}
+
+/// Of how many bytes an answer is.
+fn length_of(answer: &Option<Answer>) -> usize {
+    match answer {
+        Some(answer) => answer.block.len(),
+        None => 0,
+    }
 }
 
 /// Takes a line that was answered again, and tells that if it is asked for. It answers where the journal ends behind it.

@@ -9,15 +9,12 @@ ghost use Rattle.feed.specs.Steps.{HasServedLine, HasServedLines, HasTold};
 
 use crate::answering::{Answer, BatchServer, Desk};
 use crate::fault::Fault;
-use crate::gathering::{MOST_LINES, gather, numbered};
+use crate::gathering::{MOST_LINES, gather, most_behind, numbered};
 use crate::reading::{KeptLine, LONGEST_LINE};
 use std::alloc::{AllocError, Global};
 use std::io::BufRead;
 use std::sync::Wait;
 use std::thread::Threads;
-
-/// If lines that were served together are answered by more bytes, fewer of them are taken the next time.
-const MANY_BYTES: usize = 262_144;
 
 /// A live host at work: what answers its lines, and how many there were.
 #[derive(Drop)]
@@ -145,11 +142,7 @@ impl<S: BatchServer> Feed<S> {
         if !desk.tell(self.waiting.as_slice()) {
             return Err(Fault::CannotWrite);
         }
-        self.most = if self.waiting.len() > MANY_BYTES {
-            self.most / 2 + 1
-        } else {
-            MOST_LINES
-        };
+        self.most = most_behind(self.most, self.waiting.len());
         self.waiting.clear();
         Ok(())
     }

@@ -4,14 +4,19 @@ use Rattle.std.specs.Prelude.{IfSome, codes, option_and_then, option_map}
 use Rattle.std.proofs.lemmas.Bool.{false≢true}
 use Rattle.scripts.specs.Script.{Bytes}
 use Rattle.scripts.specs.Names.{word_name}
+use Rattle.scripts.specs.Slices.{AreSlices}
 use Rattle.scripts.specs.Words.{word_counter}
+use Rattle.scripts.proofs.SlicesSpelled.{slices_spelled_once}
+use Rattle.codec.specs.Spelling.{spelling}
 use Rattle.types.specs.declared.event.Event.{Event}
 use Rattle.types.specs.declared.event.Event.TheVariants as event
 use Rattle.types.specs.Trees.{Slices}
+use Rattle.types.specs.Statements.{Sent}
+use Rattle.types.specs.declared.statement.Statement.{Statement}
 use Rattle.protocol.specs.Networks.{Budgets}
 use Rattle.protocol.specs.Rosters.{Shares}
 use Rattle.configuration.specs.declared.roster.Reservation.{Reservation}
-use Rattle.requests.specs.declared.request.Declaration.TheVariants.{Net, Node, Roster}
+use Rattle.requests.specs.declared.request.Declaration.TheVariants.{Node, Roster}
 use Rattle.requests.specs.declared.request.Request.{Request}
 use Rattle.requests.specs.declared.request.Request.TheVariants.{Declare, Apply, Settle}
 use Rattle.requests.specs.declared.ask.Ask.{Ask as Asked}
@@ -31,7 +36,7 @@ use Rattle.requests.specs.Naming.{Named, is_in}
 use Rattle.requests.specs.Ordering.{IsOrdered, IsOrderedBy, order_by}
 use Rattle.requests.specs.Preparing.{IsPrepared}
 use Rattle.requests.specs.Taking.{takes}
-use Rattle.requests.specs.Lines.{AsksReslice, AsksResliceOf, AsksSay, AsksSayOf, IsAsked, IsRead, IsResliced, IsSaid, five, slot_and_node_in, three, verb_in}
+use Rattle.requests.specs.Lines.{AreSaid, AsksReslice, AsksResliceOf, AsksSay, AsksSayOf, IsAsked, IsRead, IsResliced, IsSaid, five, saying_in, slot_and_node_in, three, verb_in}
 use Rattle.requests.specs.Requests.{AreAllowed, AsksNode, AsksRoster, IsNode, IsRequest, IsRequestOf, IsRequested, IsReserved, budgets_in, shares_in}
 use Rattle.requests.specs.Telling.{Allowed, HasNoNode, IsBadOrder, IsBadRequest, IsBadToAsk, IsBare, Refuses, RefusesOrder, is_unserved, may_apply}
 use Rattle.runs.specs.Followed.{also_followed}
@@ -77,12 +82,25 @@ one-behind (v ∷ xs) (w ∷ ys) x y e =
 same-names : (o : Option (List ℕ)) (us vs : List ℕ) → o ≡ Some us → o ≡ Some vs → us ≡ vs
 same-names o us vs e f = cc
 
--- what is so of a request is so of each other that the same words may be read as
-record IsOfWords (P : Request → Type 0) : Type 0 where
-  node : (u : ℕ) (q r : Slices) → P (Declare (Node u q)) → P (Declare (Node u r))
-  roster : (d e : Reservation) → d.names.items ≡ e.names.items → d.shares ≡ e.shares → P (Declare (Roster d)) → P (Declare (Roster e))
-  delivery : (u : ℕ) (b c : Bytes) → P (Apply (event.Deliver u b)) → P (Apply (event.Deliver u c))
-  reslice : (i u : ℕ) (q r : Slices) → P (Apply (event.Reslice i u q)) → P (Apply (event.Reslice i u r))
+-- what is so of a roster is so of each other with the same names and shares: all else is read in one way
+abbrev pub IsOfWords : (Request → Type 0) → Type 0
+IsOfWords P = (d e : Reservation) → d.names.items ≡ e.names.items → d.shares ≡ e.shares → P (Declare (Roster d)) → P (Declare (Roster e))
+
+same-some : {A : Type 0} (o : Option A) (a b : A) → o ≡ Some a → o ≡ Some b → a ≡ b
+same-some o a b e f = let g : Some a ≡ Some b = sym e ∙ f in cc
+
+-- two slices that a word spells are one
+same-slices : (word : Bytes) (q r : Slices) → AreSlices word (Some q) → AreSlices word (Some r) → q ≡ r
+same-slices word q r h k = slices_spelled_once q r word h.0 h.1 k.0 k.1
+
+same-sent : (d e : Sent) → ◌≡◌ {A = ℕ × ℕ × Statement} (d.sender, d.slot, d.body) (e.sender, e.slot, e.body) → d.slices ≡ e.slices → d ≡ e
+same-sent d e h q = λ i. record { sender = (h i).0; slot = (h i).1; slices = q i; body = (h i).2 }
+
+-- what is said in the same words are the same bytes
+same-bytes : (xs ys from i slices statement : Bytes) → AreSaid xs from i slices statement → AreSaid ys from i slices statement → xs ≡ ys
+same-bytes xs ys from i slices statement (d, s, h, q) (e, t, k, r) =
+    let said = same-some (saying_in from i statement) (d.sender, d.slot, d.body) (e.sender, e.slot, e.body) h k in
+    s.text ∙ (ap (λ c. spelling c) (same-sent d e said (same-slices slices d.slices e.slices q r)) ∙ sym t.text)
 
 module _ (P : ℕ → Request → Type 0) (words : (g : ℕ) → IsOfWords (P g)) where
   -- it is so of what is asked for, if anything is
@@ -104,7 +122,7 @@ module _ (P : ℕ → Request → Type 0) (words : (g : ℕ) → IsOfWords (P g)
 
     two-named : (o : Option ℕ) (slices : Bytes) → AreAlike (IsNode o slices) IsSoHere
     two-named None slices r q h k so = absurd h
-    two-named (Some u) slices r q h k so = subst (P g) (sym h.2) ((words g).node u k.0 h.0 (subst (P g) k.2 so))
+    two-named (Some u) slices r q h k so = subst (P g) (k.2 ∙ ap (λ q. Declare (Node u q)) (same-slices slices k.0 h.0 k.1 h.1) ∙ sym h.2) so
 
     two-nodes : (fields : List Bytes) → AreAlike (AsksNode fields) IsSoHere
     two-nodes (name ∷ slices ∷ []) r q h k so = two-named (word_name name) slices r q h k so
@@ -113,11 +131,11 @@ module _ (P : ℕ → Request → Type 0) (words : (g : ℕ) → IsOfWords (P g)
     two-rosters : (o : Option (Shares × List Bytes)) → AreAlike (IsReserved o) IsSoHere
     two-rosters None r q h k so = absurd h
     two-rosters (Some w) r q h k so =
-        subst (P g) (sym h.3) ((words g).roster k.0 h.0 (same-names _ _ _ k.1 h.1) (k.2 ∙ sym h.2) (subst (P g) k.3 so))
+        subst (P g) (sym h.3) (words g k.0 h.0 (same-names _ _ _ k.1 h.1) (k.2 ∙ sym h.2) (subst (P g) k.3 so))
 
     two-said : (o : Option ℕ) (w : Bytes × Bytes × Bytes × Bytes × Bytes) → AreAlike (IsSaid o w) IsSoOfEvent
     two-said None w e f h k so = absurd h
-    two-said (Some u) w e f h k so = subst (λ x. IsSoOfEvent (Some x)) (sym h.2) ((words g).delivery u k.0 h.0 (subst (λ x. IsSoOfEvent (Some x)) k.2 so))
+    two-said (Some u) w e f h k so = subst (λ x. IsSoOfEvent (Some x)) (k.2 ∙ ap (λ bytes. event.Deliver u bytes) (same-bytes k.0 h.0 w.1 w.2 w.3 w.4 k.1 h.1) ∙ sym h.2) so
 
     two-sayings : (o : Option (Bytes × Bytes × Bytes × Bytes × Bytes)) → AreAlike (AsksSayOf o) IsSoOfEvent
     two-sayings None e f h k so = absurd h
@@ -125,7 +143,7 @@ module _ (P : ℕ → Request → Type 0) (words : (g : ℕ) → IsOfWords (P g)
 
     two-resliced : (o : Option (ℕ × ℕ)) (slices : Bytes) → AreAlike (IsResliced o slices) IsSoOfEvent
     two-resliced None slices e f h k so = absurd h
-    two-resliced (Some at) slices e f h k so = subst (λ x. IsSoOfEvent (Some x)) (sym h.2) ((words g).reslice at.0 at.1 k.0 h.0 (subst (λ x. IsSoOfEvent (Some x)) k.2 so))
+    two-resliced (Some at) slices e f h k so = subst (λ x. IsSoOfEvent (Some x)) (k.2 ∙ ap (λ q. event.Reslice at.0 at.1 q) (same-slices slices k.0 h.0 k.1 h.1) ∙ sym h.2) so
 
     two-reslices : (o : Option (Bytes × Bytes × Bytes)) → AreAlike (AsksResliceOf o) IsSoOfEvent
     two-reslices None e f h k so = absurd h
@@ -155,7 +173,7 @@ module _ (P : ℕ → Request → Type 0) (words : (g : ℕ) → IsOfWords (P g)
 -- a line that is read as a request is not read as none
 read-twice : (fields : List Bytes) (r : ℕ × Request) → IsRequested fields (Some r) → IsRequested fields None → ⊥
 read-twice fields r some none =
-    two-readings (λ g x. ⊥) (λ g. record { node = λ u q s h. h; roster = λ d e n s h. h; delivery = λ u b c h. h; reslice = λ i u q s h. h }) fields (Some r) None some none tt
+    two-readings (λ g x. ⊥) (λ g d e n s h. h) fields (Some r) None some none tt
 
 -- ---- no line is bad that asks for what is not
 
@@ -164,12 +182,7 @@ module _ (a : Allowed) (ws : Waiting) (n : Named) where
   same-rosters g d e names shares = rw (names, shares) refl
 
   words-of : (g : ℕ) → IsOfWords (IsBadRequest a ws n g)
-  words-of g = record {
-    node = λ u q r bad. bad;
-    roster = λ d e names shares bad. same-rosters g d e names shares ∙ bad;
-    delivery = λ u b c bad. bad;
-    reslice = λ i u q r bad. bad;
-  }
+  words-of g d e names shares bad = same-rosters g d e names shares ∙ bad
 
   not-bad : (fields : List Bytes) (g : ℕ) (r : Request) → IsRequested fields (Some (g, r)) → ¬ IsBadRequest a ws n g r → ¬ Refuses a ws n fields
   not-bad fields g r asked fine bad = fine (two-readings (IsBadRequest a ws n) words-of fields (Some (g, r)) bad.0 asked bad.1 bad.2)
@@ -179,12 +192,7 @@ module _ (a : Allowed) (ws : Waiting) (n : Named) where
 
 -- ---- the same of what is ordered
 
--- what is so of an order is so of each other that the same words may be read as
-record AreOfWords (Q : ℕ → Order → Type 0) : Type 0 where
-  requests : (g : ℕ) → IsOfWords (λ r. Q g (order.Request r))
-  bytes : (g : ℕ) (b c : Bytes) → Q g (order.ForAll b) → Q g (order.ForAll c)
-
-module _ (Q : ℕ → Order → Type 0) (words : AreOfWords Q) where
+module _ (Q : ℕ → Order → Type 0) (words : (g : ℕ) → IsOfWords (λ r. Q g (order.Request r))) where
   abbrev IsSoOf : Option (ℕ × Order) → Type 0
   IsSoOf ordered = IfSome ordered (λ x. Q x.0 x.1)
 
@@ -204,10 +212,10 @@ module _ (Q : ℕ → Order → Type 0) (words : AreOfWords Q) where
         (of-none h.0 (two-readings (λ g x. IsSoOf (option_and_then order_by (by (g, x)))) words_by fields h.0 k.0 h.1 k.1 (to-none k.0 (subst (λ x. IsSoOf (option_and_then order_by x)) k.2 so))))
 
   words-asked : (g : ℕ) → IsOfWords (λ r. IsSoOf (option_and_then order_by (asked_by (g, r))))
-  words-asked g = record { node = λ u q r so. so; roster = λ d e names shares so. so; delivery = λ u b c so. so; reslice = λ i u q r so. so }
+  words-asked g d e names shares so = so
 
   words-for-all : (g : ℕ) → IsOfWords (λ r. IsSoOf (option_and_then order_by (for_all_by (g, r))))
-  words-for-all g = record { node = λ u q r so. so; roster = λ d e names shares so. so; delivery = λ u b c so. words.bytes g b c so; reslice = λ i u q r so. so }
+  words-for-all g d e names shares so = so
 
   two-served : (b : Bool) (before : List Bytes) (o p : Option (ℕ × Asked)) → IsServedNet b before o → IsServedNet b before p → IsSoOf (option_and_then order_by p) → IsSoOf (option_and_then order_by o)
   two-served true before o p h k so = two-of-script asked_by words-asked before o p h k so
@@ -236,25 +244,17 @@ module _ (Q : ℕ → Order → Type 0) (words : AreOfWords Q) where
 
   two-orders-by : (fields : List Bytes) (r s : Option (ℕ × Request)) (o p : Option (ℕ × Order)) → IsRequested fields r → IsRequested fields s → IsOrderedBy r fields o → IsOrderedBy s fields p → IsSoOf p → IsSoOf o
   two-orders-by fields (Some r) (Some s) o p h k e f so =
-      subst IsSoOf (sym e) (two-readings (λ g x. Q g (order.Request x)) words.requests fields (Some r) (Some s) h k (subst IsSoOf f so))
+      subst IsSoOf (sym e) (two-readings (λ g x. Q g (order.Request x)) words fields (Some r) (Some s) h k (subst IsSoOf f so))
   two-orders-by fields (Some r) None o p h k e f so = absurd (read-twice fields r h k)
   two-orders-by fields None (Some s) o p h k e f so = absurd (read-twice fields s k h)
   two-orders-by fields None None o p h k e f so = subst IsSoOf (sym e.2) (two-asked-as (form_in fields) fields e.0 f.0 e.1 f.1 (subst IsSoOf f.2 so))
 
-  two-orders : (fields : List Bytes) (o p : Option (ℕ × Order)) → IsOrdered fields o → IsOrdered fields p → IsSoOf p → IsSoOf o
+  pub two-orders : (fields : List Bytes) (o p : Option (ℕ × Order)) → IsOrdered fields o → IsOrdered fields p → IsSoOf p → IsSoOf o
   two-orders fields o p h k so = two-orders-by fields h.0 k.0 o p h.1 k.1 h.2 k.2 so
 
 module _ (ws : Waiting) (n : Named) where
-  words-of-orders : AreOfWords (IsBadOrder ws n)
-  words-of-orders = record {
-    requests = λ g. record {
-      node = λ u q r bad. bad;
-      roster = λ d e names shares bad. same-rosters (record { settling = true; closing = true }) ws n g d e names shares ∙ bad;
-      delivery = λ u b c bad. bad;
-      reslice = λ i u q r bad. bad;
-    };
-    bytes = λ g b c bad. bad;
-  }
+  words-of-orders : (g : ℕ) → IsOfWords (λ r. IsBadOrder ws n g (order.Request r))
+  words-of-orders g d e names shares bad = same-rosters (record { settling = true; closing = true }) ws n g d e names shares ∙ bad
 
   -- no line is bad that orders what is not
   not-bad-order : (fields : List Bytes) (g : ℕ) (o : Order) → IsOrdered fields (Some (g, o)) → ¬ IsBadOrder ws n g o → ¬ RefusesOrder ws n fields

@@ -12,3 +12,8 @@ pub mod FollowedLaws
 pub mod Handing
 pub mod HeardByNumber
 pub mod Waiting
+pub mod HistoryLaws
+mod Configured
+pub mod OneCut
+mod DeterminedLaws
+pub mod DeterminedRuns

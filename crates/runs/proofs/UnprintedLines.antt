@@ -1,5 +1,5 @@
 -- Lines that are run for what becomes of the networks.
-use Rattle.std.proofs.Common.{◌≡◌, ◌≢◌, ◌++◌, ℕ, Bool, true, false, List, [], ◌∷◌, Option, Some, None, Ok, Err, inl, inr, refl, subst, sym}
+use Rattle.std.proofs.Common.{◌≡◌, ◌≢◌, ◌++◌, ℕ, Bool, true, false, List, [], ◌∷◌, Option, Some, None, Err, inl, inr, refl, subst, sym}
 use Rattle.std.specs.Prelude.{All, IfSome, Result, Vec, codes, option_and_then, option_map}
 use Rattle.std.specs.Global.{Global}
 use Rattle.types.specs.declared.event.Event.{Event}

@@ -1,5 +1,5 @@
 -- In a served network no emission waits between two lines.
-use Rattle.std.proofs.Common.{◌≡◌, ◌∙◌, ◌==◌, ◌⊎◌, ◌||◌, ℕ, Bool, true, false, not, nat_lt, List, [], ◌∷◌, Option, Some, None, Ok, Err, is_some, if◌then◌else◌, inl, inr, refl, sym, ap, subst}
+use Rattle.std.proofs.Common.{◌≡◌, ◌∙◌, ◌==◌, ◌⊎◌, ◌||◌, ℕ, Bool, true, false, not, nat_lt, List, [], Option, Some, None, Ok, Err, is_some, if◌then◌else◌, inl, inr, refl, sym, ap, subst}
 use Rattle.std.specs.Prelude.{Result, Vec, fold, option_and_then, option_map}
 use Rattle.std.specs.Global.{Global}
 use Rattle.std.specs.List.{enumerate_from}
@@ -18,19 +18,17 @@ use Rattle.protocol.specs.Networks.Step.{Hears}
 use Rattle.protocol.specs.Hosts.{Config, new_net}
 use Rattle.protocol.specs.Runs.{state_of}
 use Rattle.configuration.specs.Configs.{names_of}
-use Rattle.network.specs.Decoding.{step_of}
 use Rattle.network.specs.declared.plan.Emission.{Emission}
 use Rattle.hoststep.specs.Logs.{Log}
 use Rattle.world.specs.Worlds.{IsAnsweredAt, items_of, log_at}
 use Rattle.requests.specs.declared.request.Declaration.{Declaration}
-use Rattle.requests.specs.declared.request.Declaration.TheVariants.{Net}
 use Rattle.requests.specs.Naming.{Named, is_in, named_with, served_with}
 use Rattle.requests.specs.Outlines.{Outlined, waiting_at}
 use Rattle.requests.specs.Taking.{declared_count, is_declared}
 use Rattle.runs.specs.declared.followed.Turn.{Turn}
 use Rattle.runs.specs.declared.followed.Turn.TheVariants.{Opens, Closes, Within}
-use Rattle.runs.specs.Emissions.{OpenSlot, OpenSlots, at_number, changed_at, first_emitted, given_out, given_out_by, handed_on, just_opened, waits, with_slot, without_slot}
-use Rattle.runs.specs.Followed.{Followed, after_turn, also_followed, followed_after, followed_with, names_at, turn_of, waiting, with_handed}
+use Rattle.runs.specs.Emissions.{OpenSlot, OpenSlots, at_number, changed_at, first_emitted, given_out, given_out_by, handed_on, just_opened, waits}
+use Rattle.runs.specs.Followed.{Followed, after_turn, also_followed, names_at, turn_of, waiting, with_handed}
 use Rattle.runs.specs.Hosting.{Hosting, IsApplied, IsBegun, logs_joined, new_hosting, noted_answer}
 use Rattle.runs.specs.Joining.{NetworkIsNamedAt}
 use Rattle.runs.specs.Settling.{AreHandedOn, HasSettledAt, IsHeardBy, handed_over, hearing}
@@ -42,10 +40,10 @@ use Rattle.runs.specs.ServedNetworks.AreTold.{all_told, one_told}
 use Rattle.runs.specs.Running.{IsDeclaredSo, RefusesLine, Tells}
 use Rattle.runs.specs.Running.Tells.{declared, declared_served, answered, settled, delivered, dropped}
 use Rattle.runs.specs.ByJournals.{AreSlotsAt, FollowsJournals, LinesLeaveNothing, NothingWaits, RunsLeaveNothing, StandOnce}
-use Rattle.runs.proofs.NumberedRows.{at-changed, at-inserted, at-removed, equal-self, has-inserted, is-at}
+use Rattle.runs.proofs.NumberedRows.{at-changed, at-inserted, at-removed, has-inserted, is-at}
 use Rattle.runs.proofs.OutsAtPlaces.{IsGivenBy, effect-given, run-in-place}
 use Rattle.runs.proofs.NetsByEntries.{first-from}
-use Rattle.runs.proofs.FollowedLaws.{all-heard-follows, applied-follows, begun-follows, heard-follows, line-follows, over-follows, passed-follows, first-follows, served-follows, told-follows}
+use Rattle.runs.proofs.FollowedLaws.{applied-follows, begun-follows, heard-follows, over-follows, passed-follows, first-follows, served-follows, told-follows}
 
 -- what waits at a slot, by the slots of the network
 abbrev waits_in : Option OpenSlots → ℕ → Option Emission

@@ -9,6 +9,8 @@ pub mod ServedNetworks
 pub mod Running
 pub mod ByJournals
 pub mod Unprinted
+pub mod Histories
+pub mod Determined
 pub mod Submitting
 pub mod Plans
 pub mod Putting

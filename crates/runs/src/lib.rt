@@ -25,4 +25,4 @@ pub use host_run::{
 pub use job_run::{JobRun, bad_lines_put_nothing};
 pub use replies::line_of_reply;
 pub use submission_run::{SubmissionRun, bad_lines_submit_nothing};
-pub use unprinted_run::UnprintedRun;
+pub use unprinted_run::{UnprintedRun, lines_do_one_thing, scripts_have_histories};

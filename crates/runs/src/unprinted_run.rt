@@ -1,6 +1,8 @@
 //! What runs the lines of a script of networks for what becomes of the networks.
 
 ghost use Rattle.std.specs.Prelude.{◌≡◌, [], None, OnOk, Some};
+ghost use Rattle.runs.specs.Determined.{EndsDoOneThing, LinesDoOneThing, RunsDoOneThing};
+ghost use Rattle.runs.specs.Histories.{ScriptsHaveHistories};
 ghost use Rattle.runs.specs.Hosting.{new_hosting};
 ghost use Rattle.runs.specs.Unprinted.{IsFinishedUnprinted, origin_in, trace_after};
 
@@ -110,3 +112,19 @@ impl LineRunner for UnprintedRun {
         Ok(None)
     }
 }
+
+/// A law: the journals of the networks of a script are those of a history of a host. So it is before the first line, each
+/// line that is run keeps it, and so does what comes after the last one.
+#[tactic(auto, using(crate::proofs::HistoryLaws::scripts_have_histories))]
+pub fn scripts_have_histories()
+    ensures { ScriptsHaveHistories }
+{}
+
+/// A law: what lines do that print nothing is determined. The same line leads from networks that are alike to networks
+/// that are alike, and so do the same lines that are all run. What joins after the last line is the same, and so is the
+/// trace of the lines.
+pub fn lines_do_one_thing()
+    ensures lines { LinesDoOneThing }
+    ensures runs { RunsDoOneThing }
+    ensures ends { EndsDoOneThing }
+{}

@@ -52,9 +52,9 @@ performed-as call one first second old new end is performed =
     subst (λ x. IsPerformed x first second old new end) (sym is) performed
 
 -- a run is one of lines or, on workers, of jobs
-pub run-performed : (script : Bytes) (workers : Option ℕ) (first second old new : Option Bytes) (end : End)
+pub run-performed : (script : Bytes) (workers : Option ℕ) (explain : Bool) (first second old new : Option Bytes) (end : End)
     → (workers ≡ None → HasRunLines Running.Tells Running.RefusesLine new_hosting first old new end)
     → IfSome workers (λ n. HasAnswered (IsPooled n first) (StopsPlan first) old new end)
-    → IsPerformed (Run script workers) first second old new end
-run-performed script None first second old new end ran answered = ran refl
-run-performed script (Some n) first second old new end ran answered = answered
+    → IsPerformed (Run script workers explain) first second old new end
+run-performed script None explain first second old new end ran answered = ran refl
+run-performed script (Some n) explain first second old new end ran answered = answered

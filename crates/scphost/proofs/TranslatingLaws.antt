@@ -1,5 +1,5 @@
 -- What is printed of envelopes in words and as bytes.
-use Rattle.std.proofs.Common.{◌≡◌, Bool, false, Option, Err, inl, inr, refl, subst}
+use Rattle.std.proofs.Common.{◌≡◌, Bool, false, Option, Err, inl, inr, subst}
 use Rattle.std.specs.Prelude.{string_bytes}
 use Rattle.std.proofs.KnownBytes.{Keeps-refl}
 use Rattle.scripts.specs.Script.{Bytes}

@@ -86,17 +86,17 @@ names_files call = not (is_translation call)
 -- what a call does with its files: it runs the lines of one, prints the answer, or makes one shorter; what is about one
 -- envelope has none, and `serve` is not performed so
 abbrev pub IsPerformed : Call → Option Bytes → Option Bytes → Option Bytes → Option Bytes → End → Type 0
-IsPerformed (Table file) first second old new end =
+IsPerformed (Table file explain) first second old new end =
     HasRunLines TableLines.Tells TableLines.Refuses None first old new end
-IsPerformed (Run script None) first second old new end =
+IsPerformed (Run script None explain) first second old new end =
     HasRunLines Running.Tells Running.RefusesLine new_hosting first old new end
-IsPerformed (Run script (Some workers)) first second old new end =
+IsPerformed (Run script (Some workers) explain) first second old new end =
     HasAnswered (IsPooled workers first) (StopsPlan first) old new end
-IsPerformed (Closure script subject format) first second old new end =
+IsPerformed (Closure script subject format explain) first second old new end =
     HasAnswered (IsReported format subject first) (StopsStory false first) old new end
 IsPerformed (Compare one other subject explain) first second old new end =
     HasAnswered (IsCompared explain subject first second) (StopsStories explain first second) old new end
-IsPerformed (Crowd one other subject) first second old new end =
+IsPerformed (Crowd one other subject explain) first second old new end =
     HasAnswered (IsCrowd subject first second) (StopsSubmissions first second) old new end
 IsPerformed (Serve workers bytes explain journal from) first second old new end = ⊥
 IsPerformed (Compact file) first second old new end = HasMadeShorter first old new end
@@ -114,18 +114,18 @@ HasRunAsTheyCome {S = S} tells refuses start input old new end =
 
 -- what a call does with the standard input: it runs or serves its lines as they come, or is performed on all of it
 abbrev pub IsPerformedAsItComes : Call → Option Bytes → Option Bytes → Option Bytes → End → Type 0
-IsPerformedAsItComes (Table file) input old new end =
+IsPerformedAsItComes (Table file explain) input old new end =
     HasRunAsTheyCome TableLines.Tells TableLines.Refuses None input old new end
-IsPerformedAsItComes (Run script None) input old new end =
+IsPerformedAsItComes (Run script None explain) input old new end =
     HasRunAsTheyCome Running.Tells Running.RefusesLine new_hosting input old new end
-IsPerformedAsItComes (Run script (Some workers)) input old new end =
-    IsPerformed (Run script (Some workers)) input (Some []) old new end
-IsPerformedAsItComes (Closure script subject format) input old new end =
-    IsPerformed (Closure script subject format) input (Some []) old new end
+IsPerformedAsItComes (Run script (Some workers) explain) input old new end =
+    IsPerformed (Run script (Some workers) explain) input (Some []) old new end
+IsPerformedAsItComes (Closure script subject format explain) input old new end =
+    IsPerformed (Closure script subject format explain) input (Some []) old new end
 IsPerformedAsItComes (Compare one other subject explain) input old new end =
     IsPerformed (Compare one other subject explain) input (Some []) old new end
-IsPerformedAsItComes (Crowd one other subject) input old new end =
-    IsPerformed (Crowd one other subject) input (Some []) old new end
+IsPerformedAsItComes (Crowd one other subject explain) input old new end =
+    IsPerformed (Crowd one other subject explain) input (Some []) old new end
 IsPerformedAsItComes (Serve workers bytes explain journal from) input old new end =
     HasServed bytes journal from input old new end
 IsPerformedAsItComes (Compact file) input old new end = HasMadeShorter input old new end

@@ -4,6 +4,7 @@ ghost use Rattle.std.specs.Prelude.{IsTrue, map};
 ghost use Rattle.scphost.specs.Commands.{HasAnsweredWords, IsCarriedOut};
 ghost use Rattle.scphost.specs.Printing.{names_files};
 
+use crate::explaining::explain_end;
 use crate::outputs::Outputs;
 use crate::perform::{exit_status, perform, perform_stream, print_stop, print_usage};
 use crate::translating::translate;
@@ -20,7 +21,6 @@ use std::{fs, io};
 /// Answers the words after the program's name, and gives the exit status: where they are a call, it is carried out, and
 /// the status says how that ended; else they are told to be none, or help is printed where they ask for it. Words that
 /// are a call are refused only for want of memory.
-#[tactic(auto, using(crate::proofs::CommandLaws::called))]
 pub fn answer_words<
     R: Files<File = File> + Input + AllocGlobal + Threads + Wait + Sync + Send + Copy + Drop,
     S: AsStr,
@@ -32,6 +32,7 @@ pub fn answer_words<
     match read_call(rt.alloc(), words) {
         Ok(call) => {
             let end = open_and_perform(rt, &call, outputs);
+            explain_end(rt, &call, end, outputs);
             drop(call);
             exit_status(end)
         }
@@ -50,7 +51,7 @@ fn open_and_perform<
     ensures { IsCarriedOut call.now (W.contents outputs.old.out) (W.contents outputs.new.out) result }
 {
     match call {
-        Call::Table { file }
+        Call::Table { file, .. }
         | Call::Compact { file }
         | Call::Run { script: file, .. }
         | Call::Closure { script: file, .. } => perform_one(rt, call, file.as_str(), outputs),

@@ -36,6 +36,8 @@ fn main(rt: HostRuntime) -> ExitCode {
                 err,
                 journal: None,
                 explain: false,
+                second: false,
+                alloc: rt.alloc(),
             };
             run_command_line(&rt, outputs)
         }

@@ -1,8 +1,9 @@
 //! Where a program writes.
 
-use crate::explaining::explain;
+use crate::explaining::explain_line;
 use feed::{Desk, write_and_flush};
 use journal::append_line;
+use std::alloc::Global;
 use std::fs::File;
 use std::io::Write;
 
@@ -17,6 +18,10 @@ pub struct Outputs<W, E> {
     pub journal: Option<File>,
     /// Whether it is said why lines of a live host are bad.
     pub explain: bool,
+    /// Whether the second file of a call was come to.
+    pub second: bool,
+    /// Where the texts of reasons are.
+    pub alloc: Global,
 }
 
 impl<W: Write, E: Write> Desk for Outputs<W, E> {
@@ -49,7 +54,7 @@ impl<W: Write, E: Write> Desk for Outputs<W, E> {
     /// Why a line is bad goes to `err`, as `L:COLUMN: REASON`. A write there that fails changes nothing.
     fn explain(&mut self, number: u64, line: Option<&[u8]>, waiting: &[u8]) {
         if self.explain && waiting.ends_with(b" bad\n") {
-            explain(&mut self.err, number, line);
+            explain_line(self.alloc, &mut self.err, number, line);
         }
     }
 }

@@ -68,17 +68,22 @@ pub fn perform<
     ensures { IsPerformed call.now (R.remaining first.old) (T.remaining second.old) (W.contents outputs.old.out) (W.contents outputs.new.out) result }
 {
     match call {
-        Call::Table { file } => {
+        Call::Table { file, .. } => {
             let mut run = TableRun::new();
             let ran = run_script(rt.alloc(), &mut run, first, &mut outputs.out);
             drop(run);
             print_end(ran, file.as_str(), &mut outputs.err)
         }
-        Call::Run { script, workers } => perform_run(rt, *workers, script, first, outputs),
+        Call::Run {
+            script,
+            workers,
+            ..
+        } => perform_run(rt, *workers, script, first, outputs),
         Call::Closure {
             script,
             subject,
             format,
+            ..
         } => {
             let request = ClosureRequest {
                 file: script,
@@ -105,6 +110,7 @@ pub fn perform<
             first: one,
             second: other,
             subject,
+            ..
         } => {
             let request = CrowdRequest {
                 first: one,
@@ -233,6 +239,7 @@ fn perform_compare<R: Read, T: Read, W: Write, E: Write>(
         Ok(finished) => finished,
         Err(stop) => return print_stop(stop, request.first.as_str(), &mut outputs.err),
     };
+    outputs.second = true;
     let second = match FinishedScript::read_and_run(alloc, second, request.explain) {
         Ok(finished) => finished,
         Err(stop) => {
@@ -275,6 +282,7 @@ fn perform_crowd<R: Read, T: Read, W: Write, E: Write>(
         Ok(run) => run,
         Err(stop) => return print_stop(stop, request.first.as_str(), &mut outputs.err),
     };
+    outputs.second = true;
     let second = match read_submission(alloc, second) {
         Ok(run) => run,
         Err(stop) => {
@@ -309,7 +317,7 @@ pub fn perform_stream<
     ensures { IsPerformedAsItComes call.now (R.remaining input.old) (W.contents outputs.old.out) (W.contents outputs.new.out) result }
 {
     match call {
-        Call::Table { file } => {
+        Call::Table { file, .. } => {
             let mut run = TableRun::new();
             let ran = run_stream(rt.alloc(), &mut run, input, &mut outputs.out);
             drop(run);
@@ -318,6 +326,7 @@ pub fn perform_stream<
         Call::Run {
             script,
             workers: None,
+            ..
         } => {
             let mut run = HostRun::new(rt.alloc());
             let ran = run_stream(rt.alloc(), &mut run, input, &mut outputs.out);

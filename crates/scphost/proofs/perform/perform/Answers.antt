@@ -15,4 +15,4 @@ returns-in-Crowd g c = performed-as _ _ _ _ _ _ _ c.in-Crowd.is c.perform_crowd.
 
 pub returns-in-Run : goal.returns-in-Run
 returns-in-Run g c = performed-as _ _ _ _ _ _ _ c.in-Run.is
-    (run-performed c.in-Run.script _ _ _ _ _ _ c.perform_run.ensures.ran c.perform_run.ensures.pooled)
+    (run-performed c.in-Run.script _ _ _ _ _ _ _ c.perform_run.ensures.ran c.perform_run.ensures.pooled)

@@ -1,6 +1,4 @@
-use Rattle.std.proofs.Common.{refl, subst}
-use Rattle.requests.specs.Ordering.{Orders}
-use Rattle.requests.specs.declared.order.Order.TheVariants as order
+use Rattle.std.proofs.Common.{refl}
 use Rattle.runs.specs.Running.Tells.{answered, declared, settled}
 use Rattle.runs.proofs.host_run.HostRun.request.Goals as goal
 

@@ -1,6 +1,5 @@
 use Rattle.std.proofs.Common.{None, refl}
 use Rattle.requests.specs.declared.order.Order.TheVariants as order
-use Rattle.requests.specs.declared.request.Request.TheVariants.{Declare}
 use Rattle.runs.specs.Running.Tells.{declared}
 use Rattle.runs.proofs.UnprintedLines.{event-run, line-run, settling-run}
 use Rattle.runs.proofs.host_run.HostRun.request_unprinted.Goals as goal

@@ -1,5 +1,4 @@
 use Rattle.std.proofs.Common.{None, refl}
-use Rattle.requests.specs.declared.order.Order.TheVariants as order
 use Rattle.runs.specs.Running.Tells.{declared_served}
 use Rattle.runs.proofs.UnprintedLines.{delivered-run, dropped-run, line-run}
 use Rattle.runs.proofs.host_run.HostRun.run_unprinted.Goals as goal

@@ -1,0 +1,58 @@
+-- Lines of scripts that print nothing do one thing to the networks: what becomes of these is determined.
+use Rattle.std.specs.Prelude.{◌≡◌, ℕ, List, Option, Ok}
+use Rattle.scripts.specs.Script.{Bytes}
+use Rattle.scripts.specs.Runs.{Runs}
+use Rattle.requests.specs.Naming.{Named, is_in}
+use Rattle.runs.specs.Emissions.{at_number}
+use Rattle.runs.specs.Followed.{Followed}
+use Rattle.runs.specs.Hosting.{Hosting}
+use Rattle.runs.specs.Unprinted.{IsFinishedUnprinted, RefusesUnprinted, TellsUnprinted, Unprinted}
+
+-- the same numbers are among these and among those
+abbrev pub HaveSame : List ℕ → List ℕ → Type 0
+HaveSame us vs = (g : ℕ) → is_in us g ≡ is_in vs g
+
+-- the same numbers have been named, the networks of the same numbers run, and the same are declared as served
+pub record AreNamedAlike (one other : Named) : Type 0 where
+  pub numbers : HaveSame one.numbers other.numbers
+  pub running : HaveSame one.running other.running
+  pub served : HaveSame one.served other.served
+
+-- of the network of each number the same is followed
+abbrev pub AreFollowedAlike : Followed → Followed → Type 0
+AreFollowedAlike one other = (g : ℕ) → at_number one g ≡ at_number other g
+
+-- the networks of two scripts are alike: the same wait, the same numbers are named, the same is followed of each
+-- network, and the journals are the same. In which order numbers and followed networks are kept does not matter.
+pub record AreAlike (one other : Hosting) : Type 0 where
+  pub waiting : one.waiting ≡ other.waiting
+  pub named : AreNamedAlike one.named other.named
+  pub followed : AreFollowedAlike one.followed other.followed
+  pub logs : one.logs ≡ other.logs
+
+-- afterwards the networks are alike, and the traces are the same where they were the same before
+abbrev pub BecomeAlike : Unprinted → Unprinted → Unprinted → Unprinted → Type 0
+BecomeAlike one other new last = AreAlike new.hosting last.hosting × (one.trace ≡ other.trace → new.trace ≡ last.trace)
+
+-- What a line does is determined: networks that are alike are alike after the same line.
+abbrev pub LinesDoOneThing : Type 0
+LinesDoOneThing =
+    (one other new last : Unprinted) (fields : List Bytes) (p q : Option Bytes) → AreAlike one.hosting other.hosting
+    → TellsUnprinted one fields p new → TellsUnprinted other fields q last
+    → BecomeAlike one other new last
+
+-- What lines do that are all run is determined: networks that are alike are alike after the same lines.
+abbrev pub RunsDoOneThing : Type 0
+RunsDoOneThing =
+    (one other new last : Unprinted) (lines : List (ℕ × Bytes)) (p q : Bytes) → AreAlike one.hosting other.hosting
+    → Runs TellsUnprinted RefusesUnprinted one lines p (Ok tt) new
+    → Runs TellsUnprinted RefusesUnprinted other lines q (Ok tt) last
+    → BecomeAlike one other new last
+
+-- What the end of a script does is determined: where the same networks wait and the journals are the same before it,
+-- the journals are the same after it. So are the traces, where they were the same before.
+abbrev pub EndsDoOneThing : Type 0
+EndsDoOneThing =
+    (one other new last : Unprinted) → one.hosting.waiting ≡ other.hosting.waiting
+    → one.hosting.logs ≡ other.hosting.logs → IsFinishedUnprinted one new → IsFinishedUnprinted other last
+    → (new.hosting.logs ≡ last.hosting.logs) × (one.trace ≡ other.trace → new.trace ≡ last.trace)

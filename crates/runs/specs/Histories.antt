@@ -1,0 +1,21 @@
+-- The histories of hosts that scripts of networks leave.
+use Rattle.std.specs.Prelude.{List, Option}
+use Rattle.scripts.specs.Script.{Bytes}
+use Rattle.protocol.specs.Hosts.{History}
+use Rattle.hoststep.specs.Logs.{Log}
+use Rattle.world.specs.Worlds.{AreJournalsOf}
+use Rattle.runs.specs.Hosting.{new_hosting}
+use Rattle.runs.specs.Unprinted.{IsFinishedUnprinted, TellsUnprinted, Unprinted}
+
+-- the journals are those of a history of a host
+abbrev pub HaveHistory : List Log → Type 0
+HaveHistory logs = (h : History) × AreJournalsOf h logs
+
+-- the journals of a script that prints nothing are those of a history of a host: before the first line, after each line
+-- that is run, and after the last one
+pub record ScriptsHaveHistories : Type 0 where
+  pub first : HaveHistory new_hosting.logs
+  pub next : (old new : Unprinted) (fields : List Bytes) (printed : Option Bytes) → HaveHistory old.hosting.logs
+      → TellsUnprinted old fields printed new → HaveHistory new.hosting.logs
+  pub last : (old new : Unprinted) → HaveHistory old.hosting.logs → IsFinishedUnprinted old new
+      → HaveHistory new.hosting.logs
