@@ -89,6 +89,9 @@ pub trait BatchServer: LineServer {
     ghost use Rattle.feed.specs.Reading.{given_of};
     ghost use Rattle.feed.specs.Served.{AreAnswered, reply_of};
 
+    /// How many lines it is best given together, at most: more where threads share them. No answer depends on it.
+    fn lines_at_once(&self) -> usize;
+
     /// Answers lines behind so many as if one after the other, as [`serve_in_turn`] does, by threads if it has any. If there
     /// are fewer answers than lines, memory is short; then nothing is served any more.
     fn serve_batch<X: Threads + Sync>(

@@ -9,18 +9,19 @@ use std::alloc::Global;
 use std::io::BufRead;
 use std::sync::Wait;
 
-/// How many lines are answered together at most (this host's profile).
-pub(crate) const MOST_LINES: usize = 1024;
+/// How many lines one thread is given together at most (this host's profile).
+pub const MOST_LINES: usize = 1024;
 
-/// If lines that were answered together are answered by more bytes, fewer of them are taken the next time.
-const MANY_BYTES: usize = 262_144;
+/// If the answers to as many lines as may be are longer than this on average, fewer of them are taken the next time.
+const LONG_ANSWER: usize = 256;
 
-/// How many lines are answered together at most, behind so many lines at most, whose answers have so many bytes.
-pub(crate) fn most_behind(most: usize, bytes: usize) -> usize {
-    if bytes > MANY_BYTES {
+/// How many lines are answered together at most, of so many at most, behind so many at most whose answers have so many
+/// bytes.
+pub(crate) fn most_behind(most: usize, all: usize, bytes: usize) -> usize {
+    if bytes / LONG_ANSWER > all {
         most / 2 + 1
     } else {
-        MOST_LINES
+        all
     }
 }
 

@@ -16,6 +16,7 @@ ghost use Rattle.feed.specs.Lasting.{both_drawn, compacted, declaration_text, dr
 use crate::answering::{
     Answer, BatchServer, Deed, Done, Drawn, LineServer, serve_in_turn, write_and_flush,
 };
+use crate::gathering::MOST_LINES;
 use crate::reading::{KeptLine, LONGEST_LINE, first_place};
 use crate::replaying::replay;
 use scripts::{Stop, number_of};
@@ -135,6 +136,10 @@ impl<S: LineServer> LineServer for Lasting<S> {
 }
 
 impl<S: LineServer> BatchServer for Lasting<S> {
+    fn lines_at_once(&self) -> usize {
+        MOST_LINES
+    }
+
     /// Answers lines in turn.
     fn serve_batch<X: Threads + Sync>(
         &mut self,

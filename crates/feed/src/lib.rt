@@ -2,8 +2,8 @@
 //!
 //! A [`Feed`] reads lines until the input ends and gives each to a [`LineServer`]. A [`Desk`] has the line in its journal,
 //! on the disk, before what the line is answered is told. However much comes, what is kept is one line, of at most
-//! [`LONGEST_LINE`] bytes, the lines that came with it in one read, 1,024 at most, and their answers, which a
-//! [`BatchServer`] gives together; behind answers of many bytes fewer lines are taken. [`replay`] has the lines of a
+//! [`LONGEST_LINE`] bytes, the lines that came with it in one read, as many as a [`BatchServer`] takes at once, and their
+//! answers, which it gives together; behind answers of many bytes fewer lines are taken. [`replay`] has the lines of a
 //! journal answered again, [`Lasting`] finds which of them concern what is still declared and open, and [`compact`] makes
 //! a shorter journal of these.
 #![tactic(auto)]
@@ -20,6 +20,7 @@ pub use answering::{
     Answer, BatchServer, Deed, Desk, Done, Drawn, LineServer, serve_in_turn, write_and_flush,
 };
 pub use fault::Fault;
+pub use gathering::MOST_LINES;
 pub use lasting::{Lasting, compact};
 pub use reading::{KeptLine, LONGEST_LINE, READ_SIZE};
 pub use replaying::{JournalEnd, replay};

@@ -7,7 +7,7 @@ ghost use Rattle.feed.specs.Served.{is_kept, reply_of};
 ghost use Rattle.feed.specs.Replayed.{HasReplayed, HasReplayedLine, HasReplayedLines, IsTaken, is_told, told_if};
 
 use crate::answering::{Answer, BatchServer, LineServer};
-use crate::gathering::{MOST_LINES, gather, most_behind, numbered, whole_lines};
+use crate::gathering::{gather, most_behind, numbered, whole_lines};
 use crate::reading::{KeptLine, LONGEST_LINE};
 use scripts::Stop;
 use std::io::{BufRead, Write};
@@ -25,8 +25,8 @@ pub struct JournalEnd {
 
 /// Has the lines of a journal answered again, up to its end, which is before the first line that has a byte 0 in it or
 /// lacks its line feed. What lines from a number on are answered is written; of the others, and without a number,
-/// nothing is. No more is kept than the lines that come in one read, which are answered together, 1,024 at most, and their
-/// answers. Behind answers of many bytes fewer lines are taken.
+/// nothing is. No more is kept than the lines that come in one read, which are answered together, as many as the server
+/// takes at once, and their answers. Behind answers of many bytes fewer lines are taken.
 ///
 /// It stops early where a line is no line of a journal ([`Stop::BadLine`], with its number), because it is too long, or
 /// because its answer says that a journal does not keep it; where a read fails, memory is short, a write fails, or no
@@ -43,13 +43,13 @@ pub fn replay<X: Threads + Wait + AllocGlobal + Sync, S: BatchServer, R: BufRead
     let alloc = rt.alloc();
     let mut lines = Vec::new(alloc);
     let mut end = JournalEnd { lines: 0, bytes: 0 };
-    let mut most = MOST_LINES;
+    let mut most = server.lines_at_once();
     for _ in rt.forever() {
         let read = gather(rt, alloc, most, journal, &mut lines);
         let whole = whole_lines(lines.as_slice());
         let mut answered = 0;
         end = replay_lines(rt, server, whole, Place { from, end }, out, &mut answered)?;
-        most = most_behind(most, answered);
+        most = most_behind(most, server.lines_at_once(), answered);
         if whole.len() < lines.len() || !read? {
             return Ok(end);
         }

@@ -9,7 +9,7 @@ ghost use Rattle.feed.specs.Steps.{HasServedLine, HasServedLines, HasTold};
 
 use crate::answering::{Answer, BatchServer, Desk};
 use crate::fault::Fault;
-use crate::gathering::{MOST_LINES, gather, most_behind, numbered};
+use crate::gathering::{gather, most_behind, numbered};
 use crate::reading::{KeptLine, LONGEST_LINE};
 use std::alloc::{AllocError, Global};
 use std::io::BufRead;
@@ -33,11 +33,12 @@ impl<S: BatchServer> Feed<S> {
         ensures count { result.count ≡ count }
         ensures waiting { result.waiting.items ≡ [] }
     {
+        let most = server.lines_at_once();
         Feed {
             alloc,
             server,
             count,
-            most: MOST_LINES,
+            most,
             waiting: Vec::new(alloc),
         }
     }
@@ -142,7 +143,8 @@ impl<S: BatchServer> Feed<S> {
         if !desk.tell(self.waiting.as_slice()) {
             return Err(Fault::CannotWrite);
         }
-        self.most = most_behind(self.most, self.waiting.len());
+        let all = self.server.lines_at_once();
+        self.most = most_behind(self.most, all, self.waiting.len());
         self.waiting.clear();
         Ok(())
     }

@@ -75,6 +75,10 @@ impl LineServer for RememberedHost {
 }
 
 impl BatchServer for RememberedHost {
+    fn lines_at_once(&self) -> usize {
+        self.host.lines_at_once()
+    }
+
     /// The answers up to the first that says that memory was wanting.
     fn serve_batch<R: Threads + Sync>(
         &mut self,

@@ -11,7 +11,7 @@ ghost use Rattle.shards.specs.declared.shard.Shard.{Shard};
 
 use crate::dealing::{Dealt, answer_in_vain, deal};
 use crate::shard::Shard;
-use feed::{Answer, BatchServer, KeptLine, LineServer, serve_in_turn};
+use feed::{Answer, BatchServer, KeptLine, LineServer, MOST_LINES, serve_in_turn};
 use serving::{LiveHost, MOST_NETWORKS};
 use std::alloc::{AllocError, Global};
 use std::collections::VecDeque;
@@ -21,6 +21,9 @@ use std::thread::Threads;
 
 /// Fewer lines than this are answered one after the other, since to start threads for them would take longer.
 const FEW_LINES: usize = 16;
+
+/// For how many shards lines are taken together at most: all of these lines and their answers are kept at a time.
+const MOST_SHARES: usize = 4;
 
 /// A live host whose networks are shared out among as many shards as there are workers.
 ///
@@ -252,6 +255,17 @@ impl LineServer for ShardedHost {
 }
 
 impl BatchServer for ShardedHost {
+    /// As many lines for each of the first shards as one is given alone. To start a thread takes as long as some lines, and
+    /// may wait until a processor is free.
+    fn lines_at_once(&self) -> usize {
+        let shares = if self.shards.len() < MOST_SHARES {
+            self.shards.len()
+        } else {
+            MOST_SHARES
+        };
+        shares * MOST_LINES
+    }
+
     /// Answers lines, each by the shard to which it goes, and those of different shards in different threads. Few lines, and
     /// such among which one may declare a network, are answered in turn.
     fn serve_batch<R: Threads + Sync>(

@@ -4,7 +4,7 @@ ghost use Rattle.std.specs.Prelude.{◌≡◌, option_map};
 ghost use Rattle.feed.specs.WholeLines.{has_no_hole};
 ghost use Rattle.value_tests.specs.Counting.{Adds};
 
-use feed::{Answer, BatchServer, Deed, Done, KeptLine, LineServer, serve_in_turn};
+use feed::{Answer, BatchServer, Deed, Done, KeptLine, LineServer, MOST_LINES, serve_in_turn};
 use std::alloc::{AllocError, Global};
 use std::collections::VecDeque;
 use std::marker::Model;
@@ -94,6 +94,10 @@ impl LineServer for Counter {
 }
 
 impl BatchServer for Counter {
+    fn lines_at_once(&self) -> usize {
+        MOST_LINES
+    }
+
     fn serve_batch<X: Threads + Sync>(
         &mut self,
         _rt: &X,
