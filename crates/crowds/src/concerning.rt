@@ -26,9 +26,11 @@ pub(crate) fn concerns(
     ensures { IfOk result (λ b. b ≡ concerns (among (names_of members.now)) slot (step_of event.now)) }
 {
     match event {
-        Event::OpenSlot { .. } => Ok(true),
-        Event::CloseSlot { .. } => Ok(true),
-        Event::Propose { slot: at, node, .. } => Ok(*at == slot && members.has(node)),
+        Event::OpenSlot { .. } | Event::CloseSlot { .. } => Ok(true),
+        Event::Propose { slot: at, node, .. }
+        | Event::NominationTimer { slot: at, node, .. }
+        | Event::BallotTimer { slot: at, node, .. }
+        | Event::Reslice { slot: at, node, .. } => Ok(*at == slot && members.has(node)),
         Event::Deliver { node, bytes } => is_between_members(alloc, node, bytes, members, slot),
         Event::Hear {
             slot: at,
@@ -36,9 +38,6 @@ pub(crate) fn concerns(
             from,
             ..
         } => Ok(*at == slot && members.has(node) && members.has(from)),
-        Event::NominationTimer { slot: at, node, .. } => Ok(*at == slot && members.has(node)),
-        Event::BallotTimer { slot: at, node, .. } => Ok(*at == slot && members.has(node)),
-        Event::Reslice { slot: at, node, .. } => Ok(*at == slot && members.has(node)),
     }
 }
 

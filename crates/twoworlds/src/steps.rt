@@ -4,7 +4,7 @@ ghost use Rattle.std.specs.Prelude.{◌≡◌};
 ghost use Rattle.protocol.specs.Sets.{among};
 ghost use Rattle.closure.specs.Announcing.{names_of};
 ghost use Rattle.hoststep.specs.Lending.{lent_step};
-ghost use Rattle.twoworlds.specs.Steps.{at_slot, event_at, is_kept, is_kept_in, node_in, node_of};
+ghost use Rattle.twoworlds.specs.Steps.{event_at, is_kept, is_kept_in, node_in, node_of};
 
 use closure::ClosureList;
 use envstore::Shelf;
@@ -32,9 +32,11 @@ fn is_kept(step: &LentEvent<'_>, members: &ClosureList, slot: u64) -> bool
     ensures { result ≡ is_kept (among (names_of members.now)) slot (lent_step step.now) }
 {
     match step {
-        LentEvent::OpenSlot { slot: at } => *at == slot,
-        LentEvent::CloseSlot { slot: at } => *at == slot,
-        LentEvent::Propose { slot: at, node, .. } => *at == slot && members.has(node),
+        LentEvent::OpenSlot { slot: at } | LentEvent::CloseSlot { slot: at } => *at == slot,
+        LentEvent::Propose { slot: at, node, .. }
+        | LentEvent::NominationTimer { slot: at, node, .. }
+        | LentEvent::BallotTimer { slot: at, node, .. }
+        | LentEvent::Reslice { slot: at, node, .. } => *at == slot && members.has(node),
         LentEvent::Deliver { node, envelope, .. } => {
             envelope.slot() == slot && members.has(node) && members.has(envelope.sender())
         }
@@ -44,9 +46,6 @@ fn is_kept(step: &LentEvent<'_>, members: &ClosureList, slot: u64) -> bool
             from,
             ..
         } => *at == slot && members.has(node) && members.has(from),
-        LentEvent::NominationTimer { slot: at, node, .. } => *at == slot && members.has(node),
-        LentEvent::BallotTimer { slot: at, node, .. } => *at == slot && members.has(node),
-        LentEvent::Reslice { slot: at, node, .. } => *at == slot && members.has(node),
     }
 }
 
@@ -65,21 +64,14 @@ pub fn node_of_entry<S: Shelf>(journal: &Journal<S>, number: usize, slot: u64) -
 fn node_of(step: &LentEvent<'_>, slot: u64) -> Option<NodeId>
     ensures { result ≡ node_of slot (lent_step step.now) }
 {
-    match step {
-        LentEvent::OpenSlot { .. } => None,
-        LentEvent::CloseSlot { .. } => None,
-        LentEvent::Propose { slot: at, node, .. } => node_if(*at == slot, node),
-        LentEvent::Deliver { node, envelope, .. } => node_if(envelope.slot() == slot, node),
-        LentEvent::Hear { slot: at, node, .. } => node_if(*at == slot, node),
-        LentEvent::NominationTimer { slot: at, node, .. } => node_if(*at == slot, node),
-        LentEvent::BallotTimer { slot: at, node, .. } => node_if(*at == slot, node),
-        LentEvent::Reslice { slot: at, node, .. } => node_if(*at == slot, node),
-    }
-}
-
-/// The node, where the test holds.
-fn node_if(holds: bool, node: &NodeId) -> Option<NodeId>
-    ensures { result ≡ at_slot holds node.now }
-{
-    if holds { Some(*node) } else { None }
+    let (at, node) = match step {
+        LentEvent::OpenSlot { .. } | LentEvent::CloseSlot { .. } => return None,
+        LentEvent::Deliver { node, envelope, .. } => (envelope.slot(), node),
+        LentEvent::Propose { slot: at, node, .. }
+        | LentEvent::Hear { slot: at, node, .. }
+        | LentEvent::NominationTimer { slot: at, node, .. }
+        | LentEvent::BallotTimer { slot: at, node, .. }
+        | LentEvent::Reslice { slot: at, node, .. } => (*at, node),
+    };
+    if at == slot { Some(*node) } else { None }
 }
