@@ -1,7 +1,7 @@
 -- Operands that are too few, or too many.
 use Rattle.std.proofs.Common.{◌≡◌, ◌<◌, List, [], ◌∷◌, None, refl, map, length, arith}
 use Rattle.command_line.specs.Words.{Text}
-use Rattle.command_line.specs.CommandLine.{call_of}
+use Rattle.command_line.specs.CommandLine.{call_of, pair_asked}
 use Rattle.command_line.specs.declared.command.Command.TheVariants as command
 use Rattle.command_line.specs.declared.options.Options.{Options}
 
@@ -20,18 +20,10 @@ module _ {X : Type 0} (text : X → Text) (asked : Options) where
   encode_short (a ∷ b ∷ d ∷ []) lt = refl
   encode_short (a ∷ b ∷ d ∷ e ∷ more) lt = absurd (omega arith)
 
-  pub compare_short : (xs : List X) → length xs < 5 → None ≡ call_of command.Compare asked (map text xs)
-  compare_short [] lt = refl
-  compare_short (a ∷ []) lt = refl
-  compare_short (a ∷ b ∷ []) lt = refl
-  compare_short (a ∷ b ∷ d ∷ []) lt = refl
-  compare_short (a ∷ b ∷ d ∷ e ∷ []) lt = refl
-  compare_short (a ∷ b ∷ d ∷ e ∷ f ∷ more) lt = absurd (omega arith)
-
-  pub crowd_short : (xs : List X) → length xs < 5 → None ≡ call_of command.Crowd asked (map text xs)
-  crowd_short [] lt = refl
-  crowd_short (a ∷ []) lt = refl
-  crowd_short (a ∷ b ∷ []) lt = refl
-  crowd_short (a ∷ b ∷ d ∷ []) lt = refl
-  crowd_short (a ∷ b ∷ d ∷ e ∷ []) lt = refl
-  crowd_short (a ∷ b ∷ d ∷ e ∷ f ∷ more) lt = absurd (omega arith)
+  pub pair_short : (xs : List X) → length xs < 5 → None ≡ pair_asked asked (map text xs)
+  pair_short [] lt = refl
+  pair_short (a ∷ []) lt = refl
+  pair_short (a ∷ b ∷ []) lt = refl
+  pair_short (a ∷ b ∷ d ∷ []) lt = refl
+  pair_short (a ∷ b ∷ d ∷ e ∷ []) lt = refl
+  pair_short (a ∷ b ∷ d ∷ e ∷ f ∷ more) lt = absurd (omega arith)

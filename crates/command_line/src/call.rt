@@ -1,7 +1,7 @@
 //! The command line: which words are a call, and what is answered to all others.
 
 ghost use Rattle.std.specs.Prelude.{◌≡◌, ◌⊎◌, List, Some, map, IfOk, IfErr, Ok, Err};
-ghost use Rattle.command_line.specs.CommandLine.{IsCall, call_of};
+ghost use Rattle.command_line.specs.CommandLine.{IsCall, call_of, pair_asked};
 ghost use Rattle.command_line.specs.Help.{IsUsage};
 ghost use Rattle.command_line.specs.declared.call.Call.{Call};
 ghost use Rattle.command_line.specs.declared.call.Usage.TheVariants.{NoMemory};
@@ -23,91 +23,100 @@ use types::Subject;
 #[derive(Drop)]
 pub enum Call {
     /// `table FILE`: run the lines of a table file.
-    Table {
-        /// The name of the file; `-` is the standard input.
-        file: Word,
-        /// Whether a bad line is explained on the standard error.
-        explain: bool,
-    },
+    Table(TableCall),
     /// `run SCRIPT`: run the lines of a script of networks, in order or as jobs of a pool.
-    Run {
-        /// The name of the script; `-` is the standard input.
-        script: Word,
-        /// How many workers the pool has; without one the lines are run in order.
-        workers: Option<PoolSize>,
-        /// Whether a bad line is explained on the standard error.
-        explain: bool,
-    },
+    Run(RunCall),
     /// `closure SCRIPT NET SLOT NODE`: run a script and report whom a node depends on.
-    Closure {
-        /// The name of the script; `-` is the standard input.
-        script: Word,
-        /// The node, at a slot of a network.
-        subject: Subject,
-        /// The form of the report.
-        format: Format,
-        /// Whether a bad line is explained on the standard error.
-        explain: bool,
-    },
+    Closure(ClosureCall),
     /// `compare SCRIPT1 SCRIPT2 NET SLOT NODE`: run two scripts and compare what concerns a node in them.
-    Compare {
-        /// The name of the first script.
-        first: Word,
-        /// The name of the second script.
-        second: Word,
-        /// The node, at a slot of a network.
-        subject: Subject,
-        /// Whether a difference is to be explained, and a bad line on the standard error.
-        explain: bool,
-    },
+    Compare(PairCall),
     /// `crowd SCRIPT1 SCRIPT2 NET SLOT NODE`: read two scripts and compare what they submit for a node, and the
     /// answers to it.
-    Crowd {
-        /// The name of the first script.
-        first: Word,
-        /// The name of the second script.
-        second: Word,
-        /// The node, at a slot of a network.
-        subject: Subject,
-        /// Whether a bad line is explained on the standard error.
-        explain: bool,
-    },
+    Crowd(PairCall),
     /// `serve`: host what the lines of the standard input declare, and answer each line as it comes.
-    Serve {
-        /// How many workers the host has; one without it.
-        workers: Option<PoolSize>,
-        /// Whether an emission is followed by the bytes of its envelope in hexadecimal, in place of the words of its
-        /// statement.
-        bytes: bool,
-        /// Whether a bad line is explained on the standard error.
-        explain: bool,
-        /// The name of the file that keeps each line on the disk before it is answered; none is kept without it.
-        journal: Option<Word>,
-        /// From which line on the blocks of that file are printed at the start; none are printed without it. It comes
-        /// with a file alone.
-        from: Option<ReplayFrom>,
-    },
-    /// `compact FILE`: print a shorter journal with the same future.
-    Compact {
-        /// The name of the journal; `-` is the standard input.
-        file: Word,
-    },
+    Serve(ServeCall),
+    /// `compact FILE`: print a shorter journal with the same future. `-` is the standard input.
+    Compact(Word),
     /// `encode FROM SLOT SLICES STATEMENT`: print the bytes of the envelope that these words are.
-    Encode {
-        /// The sender.
-        from: Word,
-        /// The slot.
-        slot: Word,
-        /// The sender's slices.
-        slices: Word,
-        /// The statement.
-        statement: Word,
-    },
-    /// `decode HEX`: print the words of the envelope that bytes are, or their fault.
-    Decode {
-        /// The bytes in lower-case hexadecimal; `-` is none.
-        digits: Word,
-    },
+    Encode(EncodeCall),
+    /// `decode HEX`: print the words of the envelope that bytes in lower-case hexadecimal are, or their fault; `-` is none.
+    Decode(Word),
+}
+
+/// What `table` asks for.
+#[derive(Drop)]
+pub struct TableCall {
+    /// The name of the file; `-` is the standard input.
+    pub file: Word,
+    /// Whether a bad line is explained on the standard error.
+    pub explain: bool,
+}
+
+/// What `run` asks for.
+#[derive(Drop)]
+pub struct RunCall {
+    /// The name of the script; `-` is the standard input.
+    pub script: Word,
+    /// How many workers the pool has; without one the lines are run in order.
+    pub workers: Option<PoolSize>,
+    /// Whether a bad line is explained on the standard error.
+    pub explain: bool,
+}
+
+/// What `closure` asks for.
+#[derive(Drop)]
+pub struct ClosureCall {
+    /// The name of the script; `-` is the standard input.
+    pub script: Word,
+    /// The node, at a slot of a network.
+    pub subject: Subject,
+    /// The form of the report.
+    pub format: Format,
+    /// Whether a bad line is explained on the standard error.
+    pub explain: bool,
+}
+
+/// What `compare` and `crowd` ask for, of two scripts.
+#[derive(Drop)]
+pub struct PairCall {
+    /// The name of the first script.
+    pub first: Word,
+    /// The name of the second script.
+    pub second: Word,
+    /// The node, at a slot of a network.
+    pub subject: Subject,
+    /// Whether a difference is to be explained, where scripts are compared, and a bad line on the standard error.
+    pub explain: bool,
+}
+
+/// What `serve` asks for.
+#[derive(Drop)]
+pub struct ServeCall {
+    /// How many workers the host has; one without it.
+    pub workers: Option<PoolSize>,
+    /// Whether an emission is followed by the bytes of its envelope in hexadecimal, in place of the words of its
+    /// statement.
+    pub bytes: bool,
+    /// Whether a bad line is explained on the standard error.
+    pub explain: bool,
+    /// The name of the file that keeps each line on the disk before it is answered; none is kept without it.
+    pub journal: Option<Word>,
+    /// From which line on the blocks of that file are printed at the start; none are printed without it. It comes
+    /// with a file only.
+    pub from: Option<ReplayFrom>,
+}
+
+/// What `encode` asks for: the four words of an envelope.
+#[derive(Drop)]
+pub struct EncodeCall {
+    /// The sender.
+    pub from: Word,
+    /// The slot.
+    pub slot: Word,
+    /// The sender's slices.
+    pub slices: Word,
+    /// The statement.
+    pub statement: Word,
 }
 
 /// What is answered to words that are no call.
@@ -211,8 +220,14 @@ fn made_call<S: AsStr>(
         Command::Table => table_call(alloc, asked, operands),
         Command::Run => run_call(alloc, asked, operands),
         Command::Closure => closure_call(alloc, asked, operands),
-        Command::Compare => compare_call(alloc, asked, operands),
-        Command::Crowd => crowd_call(alloc, asked, operands),
+        Command::Compare => match pair_call(alloc, asked, operands)? {
+            Some(pair) => Ok(Some(Call::Compare(pair))),
+            None => Ok(None),
+        },
+        Command::Crowd => match pair_call(alloc, asked, operands)? {
+            Some(pair) => Ok(Some(Call::Crowd(pair))),
+            None => Ok(None),
+        },
         Command::Serve => serve_call(alloc, asked, operands),
         Command::Compact => compact_call(alloc, asked, operands),
         Command::Encode => encode_call(alloc, asked, operands),
@@ -232,7 +247,7 @@ fn table_call<S: AsStr>(
         [file] => {
             let file = Word::new(alloc, file.as_str())?;
             let explain = asked.explain;
-            Ok(Some(Call::Table { file, explain }))
+            Ok(Some(Call::Table(TableCall { file, explain })))
         }
         _ => Ok(None),
     }
@@ -251,11 +266,11 @@ fn run_call<S: AsStr>(
             let script = Word::new(alloc, script.as_str())?;
             let workers = asked.workers;
             let explain = asked.explain;
-            Ok(Some(Call::Run {
+            Ok(Some(Call::Run(RunCall {
                 script,
                 workers,
                 explain,
-            }))
+            })))
         }
         _ => Ok(None),
     }
@@ -275,12 +290,12 @@ fn closure_call<S: AsStr>(
                 let script = Word::new(alloc, script.as_str())?;
                 let format = asked.format_or_text();
                 let explain = asked.explain;
-                Ok(Some(Call::Closure {
+                Ok(Some(Call::Closure(ClosureCall {
                     script,
                     subject,
                     format,
                     explain,
-                }))
+                })))
             }
             None => Ok(None),
         },
@@ -289,13 +304,13 @@ fn closure_call<S: AsStr>(
     }
 }
 
-/// The call of `compare` with these operands, if they are two scripts and a subject.
-fn compare_call<S: AsStr>(
+/// What these operands ask for of two scripts, if they are two scripts and a subject.
+fn pair_call<S: AsStr>(
     alloc: Global,
     asked: &Options<'_>,
     operands: &[S],
-) -> Result<Option<Call>, AllocError>
-    ensures { IfOk result (λ call. call ≡ call_of Command.Compare asked.now (map S.text operands.now)) }
+) -> Result<Option<PairCall>, AllocError>
+    ensures { IfOk result (λ pair. pair ≡ pair_asked asked.now (map S.text operands.now)) }
 {
     match operands {
         [first, second, net, slot, node] => match subject_of(net, slot, node) {
@@ -303,35 +318,7 @@ fn compare_call<S: AsStr>(
                 let first = Word::new(alloc, first.as_str())?;
                 let second = Word::new(alloc, second.as_str())?;
                 let explain = asked.explain;
-                Ok(Some(Call::Compare {
-                    first,
-                    second,
-                    subject,
-                    explain,
-                }))
-            }
-            None => Ok(None),
-        },
-        [_, _, _, _, _, _, ..] => Ok(None),
-        _ => Ok(None),
-    }
-}
-
-/// The call of `crowd` with these operands, if they are two scripts and a subject.
-fn crowd_call<S: AsStr>(
-    alloc: Global,
-    asked: &Options<'_>,
-    operands: &[S],
-) -> Result<Option<Call>, AllocError>
-    ensures { IfOk result (λ call. call ≡ call_of Command.Crowd asked.now (map S.text operands.now)) }
-{
-    match operands {
-        [first, second, net, slot, node] => match subject_of(net, slot, node) {
-            Some(subject) => {
-                let first = Word::new(alloc, first.as_str())?;
-                let second = Word::new(alloc, second.as_str())?;
-                let explain = asked.explain;
-                Ok(Some(Call::Crowd {
+                Ok(Some(PairCall {
                     first,
                     second,
                     subject,
@@ -357,13 +344,13 @@ fn serve_call<S: AsStr>(
         [] if asked.lack_journal() => Ok(None),
         [] => {
             let journal = asked.journal_word(alloc)?;
-            Ok(Some(Call::Serve {
+            Ok(Some(Call::Serve(ServeCall {
                 workers: asked.workers,
                 bytes: asked.bytes,
                 explain: asked.explain,
                 journal,
                 from: asked.from,
-            }))
+            })))
         }
         [_, ..] => Ok(None),
     }
@@ -380,7 +367,7 @@ fn compact_call<S: AsStr>(
     match operands {
         [file] => {
             let file = Word::new(alloc, file.as_str())?;
-            Ok(Some(Call::Compact { file }))
+            Ok(Some(Call::Compact(file)))
         }
         _ => Ok(None),
     }
@@ -400,12 +387,12 @@ fn encode_call<S: AsStr>(
             let slot = Word::new(alloc, slot.as_str())?;
             let slices = Word::new(alloc, slices.as_str())?;
             let statement = Word::new(alloc, statement.as_str())?;
-            Ok(Some(Call::Encode {
+            Ok(Some(Call::Encode(EncodeCall {
                 from,
                 slot,
                 slices,
                 statement,
-            }))
+            })))
         }
         [_, _, _, _, _, ..] => Ok(None),
         _ => Ok(None),
@@ -423,7 +410,7 @@ fn decode_call<S: AsStr>(
     match operands {
         [digits] => {
             let digits = Word::new(alloc, digits.as_str())?;
-            Ok(Some(Call::Decode { digits }))
+            Ok(Some(Call::Decode(digits)))
         }
         _ => Ok(None),
     }

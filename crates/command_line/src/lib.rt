@@ -17,7 +17,9 @@ mod replay;
 mod subject;
 mod word;
 
-pub use call::{Call, Usage, read_call};
+pub use call::{
+    Call, ClosureCall, EncodeCall, PairCall, RunCall, ServeCall, TableCall, Usage, read_call,
+};
 pub use pool_size::{MAX_WORKERS, PoolSize};
 pub use replay::ReplayFrom;
 pub use subject::Format;

@@ -30,7 +30,7 @@ pub enum Kind {
     Table,
     /// Those of a script that is run in order.
     Script,
-    /// Those of a script whose events were submitted to a crowd of networks.
+    /// Those of a script that is read for what it submits, as two are that `crowd` compares.
     Submission,
     /// Those of a script that is run on workers.
     Jobs,

@@ -1,20 +1,16 @@
 -- What the commands print.
-use Rattle.std.proofs.Common.{◌≡◌, ℕ, Bool, false, Option, Some, None, inl, refl, subst, sym}
-use Rattle.std.specs.Prelude.{IfSome}
+use Rattle.std.proofs.Common.{◌≡◌, ℕ, Bool, false, Option, inl, subst, sym}
 use Rattle.scripts.specs.Script.{Bytes}
 use Rattle.protocol.specs.Hosts.{History}
 use Rattle.runs.specs.Submitting.{Submitting}
 use Rattle.answers.specs.Comparisons.{IsComparison}
 use Rattle.answers.specs.Crowding.{TellsCrowd}
-use Rattle.runs.specs.Hosting.{new_hosting}
-use Rattle.runs.specs.Running
-use Rattle.scphost.specs.Printing.{HasAnswered, HasRunLines, IsCompared, IsCrowd, IsPerformed, IsPooled, IsPrinted, IsReported}
+use Rattle.scphost.specs.Printing.{HasAnswered, IsCompared, IsCrowd, IsPerformed, IsPooled, IsPrinted, IsReported}
 use Rattle.scphost.specs.Reporting.{IsReport}
 use Rattle.answers.specs.Scripts.{IsSubmittedBy, IsStoryOf, StopsPlan, StopsStories, StopsStory, StopsSubmissions, Story}
 use Rattle.scphost.specs.Stops.{End}
 use Rattle.answers.specs.declared.answer.Answer.{Answer}
 use Rattle.command_line.specs.declared.call.Call.{Call}
-use Rattle.command_line.specs.declared.call.Call.TheVariants.{Run}
 use Rattle.command_line.specs.declared.subject.Format.{Format}
 use Rattle.types.specs.declared.subject.Subject.{Subject}
 
@@ -50,11 +46,3 @@ pub performed-as : (call one : Call) (first second old new : Option Bytes) (end 
     → IsPerformed one first second old new end → IsPerformed call first second old new end
 performed-as call one first second old new end is performed =
     subst (λ x. IsPerformed x first second old new end) (sym is) performed
-
--- a run is one of lines or, on workers, of jobs
-pub run-performed : (script : Bytes) (workers : Option ℕ) (explain : Bool) (first second old new : Option Bytes) (end : End)
-    → (workers ≡ None → HasRunLines Running.Tells Running.RefusesLine new_hosting first old new end)
-    → IfSome workers (λ n. HasAnswered (IsPooled n first) (StopsPlan first) old new end)
-    → IsPerformed (Run script workers explain) first second old new end
-run-performed script None explain first second old new end ran answered = ran refl
-run-performed script (Some n) explain first second old new end ran answered = answered

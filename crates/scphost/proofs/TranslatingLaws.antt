@@ -6,6 +6,7 @@ use Rattle.scripts.specs.Script.{Bytes}
 use Rattle.scripts.specs.declared.run.Stop.TheVariants as stop
 use Rattle.translations.specs.Translations.{DecodesBack, EncodesBack, IsDecoded, IsEncoded}
 use Rattle.answers.specs.declared.answer.Answer.{Answer}
+use Rattle.command_line.specs.declared.call.EncodeCall.{EncodeCall}
 use Rattle.scphost.specs.Printing.{HasAnswered, IsPrinted}
 use Rattle.scphost.specs.Stops.{End}
 use Rattle.scphost.specs.Translating.{IsDecoding, IsEncoding, StopsDecoding, StopsEncoding}
@@ -16,21 +17,27 @@ same_words : (P : Bytes → Bytes → Bytes → Bytes → Type 0) (f i q s from 
 same_words P f i q s from slot slices statement a b c d p =
     subst (λ x. P x slot slices statement) a (subst (λ x. P f x slices statement) b (subst (λ x. P f i x statement) c (subst (P f i q) d p)))
 
-pub has-encoded : (f i q s from slot slices statement : Bytes) (old new : Option Bytes) (end : End) (a : Answer)
-    → f ≡ from → i ≡ slot → q ≡ slices → s ≡ statement → a.differs ≡ false
+pub has-encoded : (f i q s : Bytes) (asked : EncodeCall) (old new : Option Bytes) (end : End) (a : Answer)
+    → f ≡ asked.from → i ≡ asked.slot → q ≡ asked.slices → s ≡ asked.statement → a.differs ≡ false
     → IsEncoded f i q s (string_bytes a.text) → DecodesBack f i q s (string_bytes a.text) → IsPrinted a old new end
-    → HasAnswered (IsEncoding from slot slices statement) (StopsEncoding from slot slices statement) old new end
-has-encoded f i q s from slot slices statement old new end a e g h k differs encoded back printed =
-    same_words (λ f i q s. HasAnswered (IsEncoding f i q s) (StopsEncoding f i q s) old new end) f i q s from slot slices statement e g h k
-    (inl (a, record { differs = differs; encoded = encoded; back = back }, printed))
+    → HasAnswered (IsEncoding asked) (StopsEncoding asked) old new end
+has-encoded f i q s asked old new end a e g h k differs encoded back printed = inl (
+  a,
+  record {
+    differs = differs;
+    encoded = same_words (λ f i q s. IsEncoded f i q s (string_bytes a.text)) f i q s _ _ _ _ e g h k encoded;
+    back = same_words (λ f i q s. DecodesBack f i q s (string_bytes a.text)) f i q s _ _ _ _ e g h k back;
+  },
+  printed,
+)
 
 -- four words spell no envelope
-pub none-encoded : (f i q s from slot slices statement : Bytes) (old : Option Bytes) (end : End)
-    → f ≡ from → i ≡ slot → q ≡ slices → s ≡ statement → ((line : Bytes) → ¬ IsEncoded f i q s line) → end ≡ Err stop.CannotRead
-    → HasAnswered (IsEncoding from slot slices statement) (StopsEncoding from slot slices statement) old old end
-none-encoded f i q s from slot slices statement old end e g h k none is =
-    same_words (λ f i q s. HasAnswered (IsEncoding f i q s) (StopsEncoding f i q s) old old end) f i q s from slot slices statement e g h k
-    (inr (inl (stop.CannotRead, none, is, Keeps-refl old)))
+pub none-encoded : (f i q s : Bytes) (asked : EncodeCall) (old : Option Bytes) (end : End)
+    → f ≡ asked.from → i ≡ asked.slot → q ≡ asked.slices → s ≡ asked.statement → ((line : Bytes) → ¬ IsEncoded f i q s line)
+    → end ≡ Err stop.CannotRead → HasAnswered (IsEncoding asked) (StopsEncoding asked) old old end
+none-encoded f i q s asked old end e g h k none is =
+    let none' = same_words (λ f i q s. (line : Bytes) → ¬ IsEncoded f i q s line) f i q s _ _ _ _ e g h k none in
+    inr (inl (stop.CannotRead, none', is, Keeps-refl old))
 
 pub has-decoded : (word digits : Bytes) (old new : Option Bytes) (end : End) (a : Answer) → word ≡ digits
     → IsDecoded word a.differs (string_bytes a.text) → (a.differs ≡ false → EncodesBack word (string_bytes a.text)) → IsPrinted a old new end

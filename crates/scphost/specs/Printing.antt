@@ -1,5 +1,5 @@
 -- What the commands print, and how they end.
-use Rattle.std.specs.Prelude.{◌≡◌, ◌⊎◌, ℕ, Bool, false, true, not, [], Option, Some, None, Result, Ok, Err, string_bytes}
+use Rattle.std.specs.Prelude.{◌≡◌, ◌⊎◌, ℕ, Bool, false, true, [], Option, Some, None, Result, Ok, Err, string_bytes}
 use Rattle.std.specs.Io.KnownBytes.{Appends, Keeps}
 use Rattle.scripts.specs.Script.{Bytes}
 use Rattle.scripts.specs.Runs.{HasRunScript, Refusing, Telling}
@@ -72,36 +72,33 @@ HasRunLines {S = S} tells refuses start script old new end =
     (ran : Result (Unit {0}) Stop) × (last : S) × IsEndOf ran end
     × HasRunScript longest_script tells refuses start script old new ran last
 
--- whether a call is about one envelope, in words or as bytes
-abbrev pub is_translation : Call → Bool
-is_translation (Encode from slot slices statement) = true
-is_translation (Decode digits) = true
-is_translation _ = false
-
 -- whether a call names the files that it reads
 abbrev pub names_files : Call → Bool
-names_files (Serve workers bytes explain journal from) = false
-names_files call = not (is_translation call)
+names_files (Serve asked) = false
+names_files (Encode asked) = false
+names_files (Decode digits) = false
+names_files _ = true
+
+-- what `run` does with a script: its lines are run in order, or they are jobs of so many workers
+abbrev pub IsRunOn : Option ℕ → Option Bytes → Option Bytes → Option Bytes → End → Type 0
+IsRunOn None script old new end = HasRunLines Running.Tells Running.RefusesLine new_hosting script old new end
+IsRunOn (Some workers) script old new end = HasAnswered (IsPooled workers script) (StopsPlan script) old new end
 
 -- what a call does with its files: it runs the lines of one, prints the answer, or makes one shorter; what is about one
 -- envelope has none, and `serve` is not performed so
 abbrev pub IsPerformed : Call → Option Bytes → Option Bytes → Option Bytes → Option Bytes → End → Type 0
-IsPerformed (Table file explain) first second old new end =
+IsPerformed (Table asked) first second old new end =
     HasRunLines TableLines.Tells TableLines.Refuses None first old new end
-IsPerformed (Run script None explain) first second old new end =
-    HasRunLines Running.Tells Running.RefusesLine new_hosting first old new end
-IsPerformed (Run script (Some workers) explain) first second old new end =
-    HasAnswered (IsPooled workers first) (StopsPlan first) old new end
-IsPerformed (Closure script subject format explain) first second old new end =
-    HasAnswered (IsReported format subject first) (StopsStory false first) old new end
-IsPerformed (Compare one other subject explain) first second old new end =
-    HasAnswered (IsCompared explain subject first second) (StopsStories explain first second) old new end
-IsPerformed (Crowd one other subject explain) first second old new end =
-    HasAnswered (IsCrowd subject first second) (StopsSubmissions first second) old new end
-IsPerformed (Serve workers bytes explain journal from) first second old new end = ⊥
+IsPerformed (Run asked) first second old new end = IsRunOn asked.workers first old new end
+IsPerformed (Closure asked) first second old new end =
+    HasAnswered (IsReported asked.format asked.subject first) (StopsStory false first) old new end
+IsPerformed (Compare asked) first second old new end =
+    HasAnswered (IsCompared asked.explain asked.subject first second) (StopsStories asked.explain first second) old new end
+IsPerformed (Crowd asked) first second old new end =
+    HasAnswered (IsCrowd asked.subject first second) (StopsSubmissions first second) old new end
+IsPerformed (Serve asked) first second old new end = ⊥
 IsPerformed (Compact file) first second old new end = HasMadeShorter first old new end
-IsPerformed (Encode from slot slices statement) first second old new end =
-    HasAnswered (IsEncoding from slot slices statement) (StopsEncoding from slot slices statement) old new end
+IsPerformed (Encode asked) first second old new end = HasAnswered (IsEncoding asked) (StopsEncoding asked) old new end
 IsPerformed (Decode digits) first second old new end =
     HasAnswered (IsDecoding digits) (StopsDecoding digits) old new end
 
@@ -112,25 +109,23 @@ HasRunAsTheyCome {S = S} tells refuses start input old new end =
     (ran : Result (Unit {0}) Stop) × (last : S) × IsEndOf ran end
     × HasRunStream longest_script tells refuses start input old new ran last
 
+-- what `run` does with the standard input: its lines are run as they come, or all of them are jobs of so many workers
+abbrev pub IsRunAsItComes : Option ℕ → Option Bytes → Option Bytes → Option Bytes → End → Type 0
+IsRunAsItComes None input old new end = HasRunAsTheyCome Running.Tells Running.RefusesLine new_hosting input old new end
+IsRunAsItComes (Some workers) input old new end = IsRunOn (Some workers) input old new end
+
 -- what a call does with the standard input: it runs or serves its lines as they come, or is performed on all of it
 abbrev pub IsPerformedAsItComes : Call → Option Bytes → Option Bytes → Option Bytes → End → Type 0
-IsPerformedAsItComes (Table file explain) input old new end =
+IsPerformedAsItComes (Table asked) input old new end =
     HasRunAsTheyCome TableLines.Tells TableLines.Refuses None input old new end
-IsPerformedAsItComes (Run script None explain) input old new end =
-    HasRunAsTheyCome Running.Tells Running.RefusesLine new_hosting input old new end
-IsPerformedAsItComes (Run script (Some workers) explain) input old new end =
-    IsPerformed (Run script (Some workers) explain) input (Some []) old new end
-IsPerformedAsItComes (Closure script subject format explain) input old new end =
-    IsPerformed (Closure script subject format explain) input (Some []) old new end
-IsPerformedAsItComes (Compare one other subject explain) input old new end =
-    IsPerformed (Compare one other subject explain) input (Some []) old new end
-IsPerformedAsItComes (Crowd one other subject explain) input old new end =
-    IsPerformed (Crowd one other subject explain) input (Some []) old new end
-IsPerformedAsItComes (Serve workers bytes explain journal from) input old new end =
-    HasServed bytes journal from input old new end
-IsPerformedAsItComes (Compact file) input old new end = HasMadeShorter input old new end
-IsPerformedAsItComes (Encode from slot slices statement) input old new end =
-    IsPerformed (Encode from slot slices statement) input (Some []) old new end
+IsPerformedAsItComes (Run asked) input old new end = IsRunAsItComes asked.workers input old new end
+IsPerformedAsItComes (Serve asked) input old new end =
+    HasServed asked.bytes asked.journal asked.from input old new end
+IsPerformedAsItComes (Closure asked) input old new end = IsPerformed (Closure asked) input (Some []) old new end
+IsPerformedAsItComes (Compare asked) input old new end = IsPerformed (Compare asked) input (Some []) old new end
+IsPerformedAsItComes (Crowd asked) input old new end = IsPerformed (Crowd asked) input (Some []) old new end
+IsPerformedAsItComes (Compact file) input old new end = IsPerformed (Compact file) input (Some []) old new end
+IsPerformedAsItComes (Encode asked) input old new end = IsPerformed (Encode asked) input (Some []) old new end
 IsPerformedAsItComes (Decode digits) input old new end = IsPerformed (Decode digits) input (Some []) old new end
 
 -- what answers words that are no call: help is printed whole, or a write failed (4); else nothing is printed, and the

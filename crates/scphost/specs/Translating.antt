@@ -5,12 +5,13 @@ use Rattle.scripts.specs.declared.run.Stop.{Stop}
 use Rattle.scripts.specs.declared.run.Stop.TheVariants as stop
 use Rattle.translations.specs.Translations.{DecodesBack, EncodesBack, IsDecoded, IsEncoded}
 use Rattle.answers.specs.declared.answer.Answer.{Answer}
+use Rattle.command_line.specs.declared.call.EncodeCall.{EncodeCall}
 
 -- the answer is the line of the bytes of the envelope that four words spell, from which it is read back
-pub record IsEncoding (from slot slices statement : Bytes) (a : Answer) : Type 0 where
+pub record IsEncoding (asked : EncodeCall) (a : Answer) : Type 0 where
   pub differs : a.differs ≡ false
-  pub encoded : IsEncoded from slot slices statement (string_bytes a.text)
-  pub back : DecodesBack from slot slices statement (string_bytes a.text)
+  pub encoded : IsEncoded asked.from asked.slot asked.slices asked.statement (string_bytes a.text)
+  pub back : DecodesBack asked.from asked.slot asked.slices asked.statement (string_bytes a.text)
 
 -- the answer is the line of the fault of bytes, as a difference, or that of their envelope, of which these bytes are
 -- printed again
@@ -27,8 +28,9 @@ StopsReading Unread stop.NoMemory = Unit {0}
 StopsReading Unread stop.CannotWrite = ⊥
 
 -- the same of four words, which spell no envelope
-abbrev pub StopsEncoding : Bytes → Bytes → Bytes → Bytes → Stop → Type 0
-StopsEncoding from slot slices statement = StopsReading ((line : Bytes) → ¬ IsEncoded from slot slices statement line)
+abbrev pub StopsEncoding : EncodeCall → Stop → Type 0
+StopsEncoding asked =
+    StopsReading ((line : Bytes) → ¬ IsEncoded asked.from asked.slot asked.slices asked.statement line)
 
 -- the same of a word that spells no bytes
 abbrev pub StopsDecoding : Bytes → Stop → Type 0

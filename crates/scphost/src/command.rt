@@ -7,8 +7,8 @@ ghost use Rattle.scphost.specs.Printing.{names_files};
 use crate::explaining::explain_end;
 use crate::outputs::Outputs;
 use crate::perform::{exit_status, perform, perform_stream, print_stop, print_usage};
-use crate::translating::translate;
-use command_line::{Call, read_call};
+use crate::translating::{print_decoded, print_encoded};
+use command_line::{Call, PairCall, read_call};
 use feed::READ_SIZE;
 use scripts::Stop;
 use std::convert::AsStr;
@@ -51,16 +51,15 @@ fn open_and_perform<
     ensures { IsCarriedOut call.now (W.contents outputs.old.out) (W.contents outputs.new.out) result }
 {
     match call {
-        Call::Table { file, .. }
-        | Call::Compact { file }
-        | Call::Run { script: file, .. }
-        | Call::Closure { script: file, .. } => perform_one(rt, call, file.as_str(), outputs),
-        Call::Compare { first, second, .. } | Call::Crowd { first, second, .. } => {
-            perform_two(rt, call, first.as_str(), second.as_str(), outputs)
-        }
-        Call::Encode { .. } | Call::Decode { .. } => translate(rt.alloc(), call, outputs),
+        Call::Table(asked) => perform_one(rt, call, asked.file.as_str(), outputs),
+        Call::Run(asked) => perform_one(rt, call, asked.script.as_str(), outputs),
+        Call::Closure(asked) => perform_one(rt, call, asked.script.as_str(), outputs),
+        Call::Compact(file) => perform_one(rt, call, file.as_str(), outputs),
+        Call::Compare(asked) | Call::Crowd(asked) => perform_two(rt, call, asked, outputs),
+        Call::Encode(words) => print_encoded(rt.alloc(), words, outputs),
+        Call::Decode(digits) => print_decoded(rt.alloc(), digits, outputs),
         // The reader of a pipe asks it for each byte.
-        Call::Serve { .. } => match BufReader::with_capacity(rt.alloc(), READ_SIZE, rt.reader()) {
+        Call::Serve(_) => match BufReader::with_capacity(rt.alloc(), READ_SIZE, rt.reader()) {
             Ok(mut input) => perform_stream(rt, call, &mut input, outputs),
             Err(_) => print_stop(Stop::NoMemory, "", &mut outputs.err),
         },
@@ -92,10 +91,12 @@ fn perform_two<
     R: Files<File = File> + Input + AllocGlobal + Threads + Wait + Sync + Send + Copy + Drop,
     W: Write,
     E: Write,
->(rt: &R, call: &Call, one: &str, other: &str, outputs: &mut Outputs<W, E>) -> Result<bool, Stop>
+>(rt: &R, call: &Call, asked: &PairCall, outputs: &mut Outputs<W, E>) -> Result<bool, Stop>
     requires { IsTrue (names_files call.now) }
     ensures { IsCarriedOut call.now (W.contents outputs.old.out) (W.contents outputs.new.out) result }
 {
+    let one = asked.first.as_str();
+    let other = asked.second.as_str();
     if one == "-" {
         return perform_with_second(rt, call, &mut rt.reader(), other, outputs);
     }

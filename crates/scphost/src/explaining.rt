@@ -3,7 +3,7 @@
 ghost use Rattle.std.specs.Prelude.{◌≡◌};
 
 use crate::outputs::Outputs;
-use command_line::{Call, Word};
+use command_line::{Call, PairCall, RunCall, Word};
 use feed::LONGEST_LINE;
 use reasons::{Kind, line_at, reason_of};
 use scripts::{Stop, read_whole};
@@ -30,7 +30,8 @@ pub fn explain_line<E: Write>(alloc: Global, err: &mut E, number: u64, line: Opt
 }
 
 /// Says on `err` why a line is bad that ended a call, as `FILE:LINE:COLUMN: REASON`, if the call asks for it. The file is
-/// read once more. Where it cannot be read, and without memory, nothing is said.
+/// read once more, and what is no file is not: that is said in place of the reason. Where it cannot be read, and without
+/// memory, nothing is said.
 pub fn explain_end<R: Files<File = File> + AllocGlobal, W: Write, E: Write>(
     rt: &R,
     call: &Call,
@@ -49,49 +50,32 @@ pub fn explain_end<R: Files<File = File> + AllocGlobal, W: Write, E: Write>(
 
 /// The file in which a call came to a bad line, and the kind of its lines, if the call asks for the reason.
 fn file_at_fault(call: &Call, second: bool) -> Option<(Kind, &str)> {
-    match call {
-        Call::Table {
-            file,
-            explain: true,
-        } => Some((Kind::Table, file.as_str())),
-        Call::Run {
-            script,
-            workers: None,
-            explain: true,
-        } => Some((Kind::Script, script.as_str())),
-        Call::Run {
-            script,
-            explain: true,
-            ..
-        } => Some((Kind::Jobs, script.as_str())),
-        Call::Closure {
-            script,
-            explain: true,
-            ..
-        } => Some((Kind::Script, script.as_str())),
-        Call::Compare {
-            first,
-            second: other,
-            explain: true,
-            ..
-        } => Some((Kind::Script, one_of(first, other, second))),
-        Call::Crowd {
-            first,
-            second: other,
-            explain: true,
-            ..
-        } => Some((Kind::Submission, one_of(first, other, second))),
-        _ => None,
+    let (explain, kind, file) = match call {
+        Call::Table(asked) => (asked.explain, Kind::Table, &asked.file),
+        Call::Run(asked) => (asked.explain, kind_of(asked), &asked.script),
+        Call::Closure(asked) => (asked.explain, Kind::Script, &asked.script),
+        Call::Compare(asked) => (asked.explain, Kind::Script, one_of(asked, second)),
+        Call::Crowd(asked) => (asked.explain, Kind::Submission, one_of(asked, second)),
+        Call::Serve(_) | Call::Compact(_) | Call::Encode(_) | Call::Decode(_) => return None,
+    };
+    if explain {
+        Some((kind, file.as_str()))
+    } else {
+        None
     }
 }
 
-/// The second of two words, or the first.
-fn one_of<'a>(first: &'a Word, other: &'a Word, second: bool) -> &'a str {
-    if second {
-        other.as_str()
-    } else {
-        first.as_str()
+/// What the lines of a script are that is run: jobs where there are workers.
+fn kind_of(asked: &RunCall) -> Kind {
+    match asked.workers {
+        None => Kind::Script,
+        Some(_) => Kind::Jobs,
     }
+}
+
+/// The name of the second script, or of the first.
+fn one_of(asked: &PairCall, second: bool) -> &Word {
+    if second { &asked.second } else { &asked.first }
 }
 
 /// Says why the line of a file with a number is bad.
@@ -106,6 +90,17 @@ fn explain_in<R: Files<File = File> + AllocGlobal, E: Write>(
         let _ = writeln!(
             err,
             "-:{number}:1: the standard input is not kept: a file is explained"
+        );
+        return;
+    }
+    let Ok(metadata) = fs::metadata(rt, file) else {
+        return;
+    };
+    // Who reads a pipe that has ended waits for one more to write.
+    if !metadata.is_file() {
+        let _ = writeln!(
+            err,
+            "{file}:{number}:1: a pipe is not kept: a file is explained"
         );
         return;
     }

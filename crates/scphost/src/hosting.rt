@@ -8,7 +8,7 @@ ghost use Rattle.scphost.specs.Stops.{IsEndOfHost, IsEndOfJournal};
 use crate::outputs::Outputs;
 use crate::perform::print_stop;
 use crate::remembering::RememberedHost;
-use command_line::ReplayFrom;
+use command_line::{PoolSize, ReplayFrom, ServeCall};
 use feed::{Fault, Feed, READ_SIZE, compact};
 use journal::{JournalFault, first_open_line, open_journal, resume};
 use scripts::Stop;
@@ -21,7 +21,7 @@ use std::thread::Threads;
 /// How a live host answers: whether envelopes are printed as bytes, whether it is said why a line is bad, and how many
 /// workers its networks are shared out among.
 #[derive(Clone, Copy)]
-pub struct AnswerForm {
+struct AnswerForm {
     pub bytes: bool,
     pub explain: bool,
     pub workers: usize,
@@ -29,7 +29,7 @@ pub struct AnswerForm {
 
 /// The journal of a live host: the name of its file, and from which line on its blocks are printed at the start.
 #[derive(Clone, Copy)]
-pub struct JournalUse<'a> {
+struct JournalUse<'a> {
     pub name: &'a str,
     pub from: Option<ReplayFrom>,
 }
@@ -38,8 +38,45 @@ pub struct JournalUse<'a> {
 /// line is written to `outputs.out` before a further one is waited for, with envelopes as bytes where that is asked for.
 /// Why lines are bad, where that is asked for, and one line on what ended it early go to `outputs.err`.
 ///
-/// The networks are shared out among the workers.
-pub fn serve<A: AllocGlobal + Threads + Wait + Sync, R: BufRead, W: Write, E: Write>(
+/// The networks are shared out among the workers. With a journal each line is on the disk before anything is told of it;
+/// the lines that are there are run first.
+pub fn serve<
+    A: AllocGlobal + Threads + Wait + Sync + Files<File = File>,
+    R: BufRead,
+    W: Write,
+    E: Write,
+>(rt: &A, asked: &ServeCall, input: &mut R, outputs: &mut Outputs<W, E>) -> Result<bool, Stop>
+    ensures { HasServed asked.now.bytes asked.now.journal asked.now.from (R.remaining input.old) (W.contents outputs.old.out) (W.contents outputs.new.out) result }
+{
+    let form = AnswerForm {
+        bytes: asked.bytes,
+        explain: asked.explain,
+        workers: worker_count(asked.workers),
+    };
+    match &asked.journal {
+        None => serve_without_journal(rt, form, input, outputs),
+        Some(name) => {
+            let journal = JournalUse {
+                name: name.as_str(),
+                from: asked.from,
+            };
+            serve_with_journal(rt, form, journal, input, outputs)
+        }
+    }
+}
+
+/// How many workers a live host has: one, if no number is asked for.
+fn worker_count(workers: Option<PoolSize>) -> usize
+    ensures { 0 < result }
+{
+    match workers {
+        Some(workers) => workers.workers() as usize,
+        None => 1,
+    }
+}
+
+/// The same without a journal.
+fn serve_without_journal<A: AllocGlobal + Threads + Wait + Sync, R: BufRead, W: Write, E: Write>(
     rt: &A,
     form: AnswerForm,
     input: &mut R,
@@ -75,7 +112,7 @@ fn serve_by<A: AllocGlobal + Threads + Wait + Sync, R: BufRead, W: Write, E: Wri
 /// The same with a journal, which has each line, on the disk, before anything is told of it. Its lines are run first, up
 /// to its end; what some of them were answered is written again if that is asked for, and then `resumed L`, L being how
 /// many there are.
-pub fn serve_with_journal<
+fn serve_with_journal<
     A: AllocGlobal + Threads + Wait + Sync + Files<File = File>,
     R: BufRead,
     W: Write,

@@ -1,22 +1,18 @@
 //! Carrying out a call: its files are run, and how it ended is answered.
 
-ghost use Rattle.std.specs.Prelude.{◌≡◌, ◌<◌, Err, IfSome, IsTrue, None, false};
-ghost use Rattle.runs.specs.Hosting.{new_hosting};
-ghost use Rattle.runs.specs.Running.{RefusesLine, Tells};
-ghost use Rattle.scphost.specs.Printing.{HasAnswered, HasAnsweredUsage, HasRunLines, IsCompared, IsCrowd, IsPerformed, IsPerformedAsItComes, IsPooled, IsReported, names_files};
+ghost use Rattle.std.specs.Prelude.{◌≡◌, Err, IsTrue, false};
+ghost use Rattle.scphost.specs.Printing.{HasAnswered, HasAnsweredUsage, IsCompared, IsCrowd, IsPerformed, IsPerformedAsItComes, IsPooled, IsReported, IsRunAsItComes, IsRunOn, names_files};
 ghost use Rattle.answers.specs.Scripts.{StopsPlan, StopsStories, StopsStory, StopsSubmissions};
 ghost use Rattle.scphost.specs.Stops.{IsEndOf, status_of_end};
 
-use crate::hosting::{
-    AnswerForm, JournalUse, make_file_shorter, make_shorter, serve, serve_with_journal,
-};
+use crate::hosting::{make_file_shorter, make_shorter, serve};
 use crate::outputs::Outputs;
 use crate::pooling::answer_pool;
 use crate::printing::{print_answer, write_text};
 use crate::reporting::answer_closure;
-use crate::translating::translate;
+use crate::translating::{print_decoded, print_encoded};
 use answers::{FinishedScript, Side, Sides, answer_compare, answer_crowd, read_submission};
-use command_line::{Call, Format, PoolSize, Usage, Word};
+use command_line::{Call, ClosureCall, PairCall, PoolSize, RunCall, Usage, Word};
 use runs::HostRun;
 use scripts::{Stop, run_script, run_stream};
 use std::alloc::Global;
@@ -26,7 +22,6 @@ use std::io::{BufRead, Read, Write};
 use std::sync::Wait;
 use std::thread::Threads;
 use tables::TableRun;
-use types::Subject;
 
 /// The status of a call that was carried out.
 pub const DONE: u8 = 0;
@@ -45,7 +40,7 @@ pub const NO_WRITE: u8 = 4;
 
 /// Carries out a call on the files that it names, in their order, of which the second is empty
 /// where it names one, and answers how it ended: whether what it compared differs, or what stopped it. A call that names
-/// none is for [`perform_stream`], or for [`translate`].
+/// none is for [`perform_stream`].
 ///
 /// What the call prints goes to `outputs.out`, and one line on what ended it early to `outputs.err`. Of `table` and
 /// `run` what lines before a bad one printed is written by then; `closure`, `compare`, `crowd` and `compact`
@@ -68,86 +63,19 @@ pub fn perform<
     ensures { IsPerformed call.now (R.remaining first.old) (T.remaining second.old) (W.contents outputs.old.out) (W.contents outputs.new.out) result }
 {
     match call {
-        Call::Table { file, .. } => {
+        Call::Table(asked) => {
             let mut run = TableRun::new();
             let ran = run_script(rt.alloc(), &mut run, first, &mut outputs.out);
             drop(run);
-            print_end(ran, file.as_str(), &mut outputs.err)
+            print_end(ran, asked.file.as_str(), &mut outputs.err)
         }
-        Call::Run {
-            script,
-            workers,
-            ..
-        } => perform_run(rt, *workers, script, first, outputs),
-        Call::Closure {
-            script,
-            subject,
-            format,
-            ..
-        } => {
-            let request = ClosureRequest {
-                file: script,
-                subject,
-                format: *format,
-            };
-            perform_closure(rt.alloc(), &request, first, outputs)
-        }
-        Call::Compare {
-            first: one,
-            second: other,
-            subject,
-            explain,
-        } => {
-            let request = CompareRequest {
-                first: one,
-                second: other,
-                subject,
-                explain: *explain,
-            };
-            perform_compare(rt.alloc(), &request, first, second, outputs)
-        }
-        Call::Crowd {
-            first: one,
-            second: other,
-            subject,
-            ..
-        } => {
-            let request = CrowdRequest {
-                first: one,
-                second: other,
-                subject,
-            };
-            perform_crowd(rt.alloc(), &request, first, second, outputs)
-        }
-        Call::Serve { .. } | Call::Encode { .. } | Call::Decode { .. } => unreachable!(),
-        Call::Compact { file } => make_file_shorter(rt, file.as_str(), first, outputs),
+        Call::Run(asked) => perform_run(rt, asked, first, outputs),
+        Call::Closure(asked) => perform_closure(rt.alloc(), asked, first, outputs),
+        Call::Compare(asked) => perform_compare(rt.alloc(), asked, first, second, outputs),
+        Call::Crowd(asked) => perform_crowd(rt.alloc(), asked, first, second, outputs),
+        Call::Compact(file) => make_file_shorter(rt, file.as_str(), first, outputs),
+        Call::Serve(_) | Call::Encode(_) | Call::Decode(_) => unreachable!(),
     }
-}
-
-/// What `closure` asks for: whom a subject depends on after the script of a file, in a form.
-#[derive(Clone, Copy)]
-struct ClosureRequest<'a> {
-    file: &'a Word,
-    subject: &'a Subject,
-    format: Format,
-}
-
-/// What `compare` asks for: what concerns a subject in the scripts of two files, and whether a difference is to be
-/// explained.
-#[derive(Clone, Copy)]
-struct CompareRequest<'a> {
-    first: &'a Word,
-    second: &'a Word,
-    subject: &'a Subject,
-    explain: bool,
-}
-
-/// What `crowd` asks for: what the scripts of two files submit for a subject.
-#[derive(Clone, Copy)]
-struct CrowdRequest<'a> {
-    first: &'a Word,
-    second: &'a Word,
-    subject: &'a Subject,
 }
 
 /// Runs the lines of a script in order, or as jobs of so many workers.
@@ -156,25 +84,18 @@ fn perform_run<
     R: Read,
     W: Write,
     E: Write,
->(
-    rt: &A,
-    workers: Option<PoolSize>,
-    file: &Word,
-    script: &mut R,
-    outputs: &mut Outputs<W, E>,
-) -> Result<bool, Stop>
-    ensures ran { workers ≡ None → HasRunLines Tells RefusesLine new_hosting (R.remaining script.old) (W.contents outputs.old.out) (W.contents outputs.new.out) result }
-    ensures pooled { IfSome workers (λ n. HasAnswered (IsPooled n (R.remaining script.old)) (StopsPlan (R.remaining script.old)) (W.contents outputs.old.out) (W.contents outputs.new.out) result) }
+>(rt: &A, asked: &RunCall, script: &mut R, outputs: &mut Outputs<W, E>) -> Result<bool, Stop>
+    ensures { IsRunOn asked.now.workers (R.remaining script.old) (W.contents outputs.old.out) (W.contents outputs.new.out) result }
 {
-    match workers {
+    match asked.workers {
         None => {
             let alloc = rt.alloc();
             let mut run = HostRun::new(alloc);
             let ran = run_script(alloc, &mut run, script, &mut outputs.out);
             drop(run);
-            print_end(ran, file.as_str(), &mut outputs.err)
+            print_end(ran, asked.script.as_str(), &mut outputs.err)
         }
-        Some(workers) => perform_pool(rt, workers, file, script, outputs),
+        Some(workers) => perform_pool(rt, workers, &asked.script, script, outputs),
     }
 }
 
@@ -204,18 +125,18 @@ fn perform_pool<
 /// Runs a script without printing, and prints the report of the subject.
 fn perform_closure<R: Read, W: Write, E: Write>(
     alloc: Global,
-    request: &ClosureRequest<'_>,
+    asked: &ClosureCall,
     script: &mut R,
     outputs: &mut Outputs<W, E>,
 ) -> Result<bool, Stop>
-    ensures { HasAnswered (IsReported request.now.format request.now.subject.now (R.remaining script.old))
+    ensures { HasAnswered (IsReported asked.now.format asked.now.subject (R.remaining script.old))
         (StopsStory false (R.remaining script.old)) (W.contents outputs.old.out) (W.contents outputs.new.out) result }
 {
     let finished = match FinishedScript::read_and_run(alloc, script, false) {
         Ok(finished) => finished,
-        Err(stop) => return print_stop(stop, request.file.as_str(), &mut outputs.err),
+        Err(stop) => return print_stop(stop, asked.script.as_str(), &mut outputs.err),
     };
-    let answered = answer_closure(alloc, &finished, request.subject, request.format);
+    let answered = answer_closure(alloc, &finished, &asked.subject, asked.format);
     drop(finished);
     match answered {
         Ok(answer) => print_answer(&answer, outputs),
@@ -226,38 +147,38 @@ fn perform_closure<R: Read, W: Write, E: Write>(
 /// Runs a script without printing, then another one, and prints how they compare for the subject.
 fn perform_compare<R: Read, T: Read, W: Write, E: Write>(
     alloc: Global,
-    request: &CompareRequest<'_>,
+    asked: &PairCall,
     first: &mut R,
     second: &mut T,
     outputs: &mut Outputs<W, E>,
 ) -> Result<bool, Stop>
-    ensures { HasAnswered (IsCompared request.now.explain request.now.subject.now (R.remaining first.old) (T.remaining second.old))
-        (StopsStories request.now.explain (R.remaining first.old) (T.remaining second.old))
+    ensures { HasAnswered (IsCompared asked.now.explain asked.now.subject (R.remaining first.old) (T.remaining second.old))
+        (StopsStories asked.now.explain (R.remaining first.old) (T.remaining second.old))
         (W.contents outputs.old.out) (W.contents outputs.new.out) result }
 {
-    let first = match FinishedScript::read_and_run(alloc, first, request.explain) {
+    let first = match FinishedScript::read_and_run(alloc, first, asked.explain) {
         Ok(finished) => finished,
-        Err(stop) => return print_stop(stop, request.first.as_str(), &mut outputs.err),
+        Err(stop) => return print_stop(stop, asked.first.as_str(), &mut outputs.err),
     };
     outputs.second = true;
-    let second = match FinishedScript::read_and_run(alloc, second, request.explain) {
+    let second = match FinishedScript::read_and_run(alloc, second, asked.explain) {
         Ok(finished) => finished,
         Err(stop) => {
             drop(first);
-            return print_stop(stop, request.second.as_str(), &mut outputs.err);
+            return print_stop(stop, asked.second.as_str(), &mut outputs.err);
         }
     };
     let sides = Sides {
         one: Side {
-            file: request.first.as_str(),
+            file: asked.first.as_str(),
             script: &first,
         },
         other: Side {
-            file: request.second.as_str(),
+            file: asked.second.as_str(),
             script: &second,
         },
     };
-    let answered = answer_compare(alloc, &sides, request.subject, request.explain);
+    let answered = answer_compare(alloc, &sides, &asked.subject, asked.explain);
     drop(second);
     drop(first);
     match answered {
@@ -269,32 +190,32 @@ fn perform_compare<R: Read, T: Read, W: Write, E: Write>(
 /// Runs a script for what it submits, then another one, and prints how the answers compare for the subject.
 fn perform_crowd<R: Read, T: Read, W: Write, E: Write>(
     alloc: Global,
-    request: &CrowdRequest<'_>,
+    asked: &PairCall,
     first: &mut R,
     second: &mut T,
     outputs: &mut Outputs<W, E>,
 ) -> Result<bool, Stop>
-    ensures { HasAnswered (IsCrowd request.now.subject.now (R.remaining first.old) (T.remaining second.old))
+    ensures { HasAnswered (IsCrowd asked.now.subject (R.remaining first.old) (T.remaining second.old))
         (StopsSubmissions (R.remaining first.old) (T.remaining second.old))
         (W.contents outputs.old.out) (W.contents outputs.new.out) result }
 {
     let first = match read_submission(alloc, first) {
         Ok(run) => run,
-        Err(stop) => return print_stop(stop, request.first.as_str(), &mut outputs.err),
+        Err(stop) => return print_stop(stop, asked.first.as_str(), &mut outputs.err),
     };
     outputs.second = true;
     let second = match read_submission(alloc, second) {
         Ok(run) => run,
         Err(stop) => {
             drop(first);
-            return print_stop(stop, request.second.as_str(), &mut outputs.err);
+            return print_stop(stop, asked.second.as_str(), &mut outputs.err);
         }
     };
     let answered = answer_crowd(
         alloc,
         first.submission(),
         second.submission(),
-        request.subject,
+        &asked.subject,
     );
     drop(second);
     drop(first);
@@ -317,65 +238,39 @@ pub fn perform_stream<
     ensures { IsPerformedAsItComes call.now (R.remaining input.old) (W.contents outputs.old.out) (W.contents outputs.new.out) result }
 {
     match call {
-        Call::Table { file, .. } => {
+        Call::Table(asked) => {
             let mut run = TableRun::new();
             let ran = run_stream(rt.alloc(), &mut run, input, &mut outputs.out);
             drop(run);
-            print_end(ran, file.as_str(), &mut outputs.err)
+            print_end(ran, asked.file.as_str(), &mut outputs.err)
         }
-        Call::Run {
-            script,
-            workers: None,
-            ..
-        } => {
-            let mut run = HostRun::new(rt.alloc());
-            let ran = run_stream(rt.alloc(), &mut run, input, &mut outputs.out);
-            drop(run);
-            print_end(ran, script.as_str(), &mut outputs.err)
+        Call::Run(asked) => perform_run_as_it_comes(rt, asked, input, outputs),
+        Call::Serve(asked) => serve(rt, asked, input, outputs),
+        Call::Compact(file) => make_shorter(rt, file.as_str(), input, outputs),
+        Call::Closure(_) | Call::Compare(_) | Call::Crowd(_) => {
+            perform(rt, call, input, &mut io::empty(), outputs)
         }
-        Call::Run {
-            workers: Some(_),
-            ..
-        }
-        | Call::Closure { .. }
-        | Call::Compare { .. }
-        | Call::Crowd { .. } => { perform(rt, call, input, &mut io::empty(), outputs) }
-        Call::Serve {
-            workers,
-            bytes,
-            explain,
-            journal,
-            from,
-        } => {
-            let form = AnswerForm {
-                bytes: *bytes,
-                explain: *explain,
-                workers: worker_count(*workers),
-            };
-            match journal {
-                None => serve(rt, form, input, outputs),
-                Some(name) => {
-                    let journal = JournalUse {
-                        name: name.as_str(),
-                        from: *from,
-                    };
-                    serve_with_journal(rt, form, journal, input, outputs)
-                }
-            }
-        }
-        Call::Compact { file } => make_shorter(rt, file.as_str(), input, outputs),
-        Call::Encode { .. } | Call::Decode { .. } => translate(rt.alloc(), call, outputs),
+        Call::Encode(words) => print_encoded(rt.alloc(), words, outputs),
+        Call::Decode(digits) => print_decoded(rt.alloc(), digits, outputs),
     }
 }
 
-/// How many workers a live host has: one, if no number is asked for.
-fn worker_count(workers: Option<PoolSize>) -> usize
-    ensures { 0 < result }
+/// Runs the lines of a script as they come, or all of them as jobs of so many workers.
+fn perform_run_as_it_comes<
+    A: AllocGlobal + Threads + Wait + Sync + Send + Copy + Drop,
+    R: BufRead,
+    W: Write,
+    E: Write,
+>(rt: &A, asked: &RunCall, input: &mut R, outputs: &mut Outputs<W, E>) -> Result<bool, Stop>
+    ensures { IsRunAsItComes asked.now.workers (R.remaining input.old) (W.contents outputs.old.out) (W.contents outputs.new.out) result }
 {
-    match workers {
-        Some(workers) => workers.workers() as usize,
-        None => 1,
+    if asked.workers.is_some() {
+        return perform_run(rt, asked, input, outputs);
     }
+    let mut run = HostRun::new(rt.alloc());
+    let ran = run_stream(rt.alloc(), &mut run, input, &mut outputs.out);
+    drop(run);
+    print_end(ran, asked.script.as_str(), &mut outputs.err)
 }
 
 /// Answers words that are no call: prints the text where it belongs, and gives the exit status.

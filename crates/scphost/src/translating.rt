@@ -1,82 +1,32 @@
 //! Envelopes in words and as bytes.
 
-ghost use Rattle.std.specs.Prelude.{◌≡◌, Err, IsTrue, None};
-ghost use Rattle.scphost.specs.Printing.{HasAnswered, IsPerformed, is_translation};
+ghost use Rattle.std.specs.Prelude.{◌≡◌, Err};
+ghost use Rattle.scphost.specs.Printing.{HasAnswered};
 ghost use Rattle.scphost.specs.Translating.{IsDecoding, IsEncoding, StopsDecoding, StopsEncoding};
 
 use crate::outputs::Outputs;
 use crate::perform::print_stop;
 use crate::printing::print_answer;
 use answers::Answer;
-use command_line::{Call, Word};
+use command_line::{EncodeCall, Word};
 use scripts::{Stop, name_of, number_of, slices_of};
 use std::alloc::{AllocError, Global};
 use std::io::Write;
 use translations::{Decoded, decode_digits, encode_words};
 
-/// Carries out `encode` or `decode`, and answers how it ended: whether bytes have a fault, or what stopped it.
-pub fn translate<W: Write, E: Write>(
-    alloc: Global,
-    call: &Call,
-    outputs: &mut Outputs<W, E>,
-) -> Result<bool, Stop>
-    requires { IsTrue (is_translation call.now) }
-    ensures { IsPerformed call.now None None (W.contents outputs.old.out) (W.contents outputs.new.out) result }
-{
-    match call {
-        Call::Encode {
-            from,
-            slot,
-            slices,
-            statement,
-        } => {
-            let words = EnvelopeWords {
-                from,
-                slot,
-                slices,
-                statement,
-            };
-            print_encoded(alloc, &words, outputs)
-        }
-        Call::Decode { digits } => print_decoded(alloc, digits, outputs),
-        Call::Table { .. }
-        | Call::Run { .. }
-        | Call::Closure { .. }
-        | Call::Compare { .. }
-        | Call::Crowd { .. }
-        | Call::Serve { .. }
-        | Call::Compact { .. } => unreachable!(),
-    }
-}
-
-/// The four words of an envelope.
-#[derive(Clone, Copy)]
-struct EnvelopeWords<'a> {
-    /// The sender.
-    from: &'a Word,
-    /// The slot.
-    slot: &'a Word,
-    /// The sender's slices.
-    slices: &'a Word,
-    /// The statement.
-    statement: &'a Word,
-}
-
 /// Prints the bytes of the envelope that four words spell. Words that spell none cannot be read: it is said on
 /// `outputs.err` which of them is wrong.
-fn print_encoded<W: Write, E: Write>(
+pub fn print_encoded<W: Write, E: Write>(
     alloc: Global,
-    words: &EnvelopeWords<'_>,
+    words: &EncodeCall,
     outputs: &mut Outputs<W, E>,
 ) -> Result<bool, Stop>
-    ensures { HasAnswered (IsEncoding words.now.from.now words.now.slot.now words.now.slices.now words.now.statement.now)
-        (StopsEncoding words.now.from.now words.now.slot.now words.now.slices.now words.now.statement.now)
-        (W.contents outputs.old.out) (W.contents outputs.new.out) result }
+    ensures { HasAnswered (IsEncoding words.now) (StopsEncoding words.now) (W.contents outputs.old.out) (W.contents outputs.new.out) result }
 {
-    let from = bytes_of(words.from);
-    let slot = bytes_of(words.slot);
-    let slices = bytes_of(words.slices);
-    let statement = bytes_of(words.statement);
+    let from = bytes_of(&words.from);
+    let slot = bytes_of(&words.slot);
+    let slices = bytes_of(&words.slices);
+    let statement = bytes_of(&words.statement);
     match encode_words(alloc, from, slot, slices, statement) {
         Ok(Some(text)) => {
             let answer = Answer {
@@ -95,7 +45,7 @@ fn print_encoded<W: Write, E: Write>(
 
 /// Prints the words of the envelope that bytes in hexadecimal spell, or the fault of the bytes, and says whether they have
 /// one. A word that is no such bytes cannot be read, which is said on `outputs.err`.
-fn print_decoded<W: Write, E: Write>(
+pub fn print_decoded<W: Write, E: Write>(
     alloc: Global,
     digits: &Word,
     outputs: &mut Outputs<W, E>,
@@ -131,18 +81,15 @@ fn bytes_of(word: &Word) -> &[u8]
 
 /// Which of four words that spell no envelope is wrong, with the name of its operand: the first that does not have its form,
 /// else the statement, which breaks a rule.
-fn wrong_word<'a>(alloc: Global, words: &EnvelopeWords<'a>) -> (&'static str, &'a str) {
-    let from = words.from;
-    let slot = words.slot;
-    let slices = words.slices;
-    if name_of(bytes_of(from)).is_none() {
-        return ("<FROM>", from.as_str());
+fn wrong_word<'a>(alloc: Global, words: &'a EncodeCall) -> (&'static str, &'a str) {
+    if name_of(bytes_of(&words.from)).is_none() {
+        return ("<FROM>", words.from.as_str());
     }
-    if number_of(bytes_of(slot)).is_none() {
-        return ("<SLOT>", slot.as_str());
+    if number_of(bytes_of(&words.slot)).is_none() {
+        return ("<SLOT>", words.slot.as_str());
     }
-    match slices_of(alloc, bytes_of(slices)) {
-        Ok(None) => ("<SLICES>", slices.as_str()),
+    match slices_of(alloc, bytes_of(&words.slices)) {
+        Ok(None) => ("<SLICES>", words.slices.as_str()),
         _ => ("<STATEMENT>", words.statement.as_str()),
     }
 }

@@ -1,4 +1,4 @@
-use Rattle.scphost.proofs.PrintingLaws.{performed-as, run-performed}
+use Rattle.scphost.proofs.PrintingLaws.{performed-as}
 use Rattle.scphost.proofs.perform.perform.Goals as goal
 
 pub returns-in-Closure : goal.returns-in-Closure
@@ -12,7 +12,3 @@ returns-in-Compare g c = performed-as _ _ _ _ _ _ _ c.in-Compare.is c.perform_co
 
 pub returns-in-Crowd : goal.returns-in-Crowd
 returns-in-Crowd g c = performed-as _ _ _ _ _ _ _ c.in-Crowd.is c.perform_crowd.ensures
-
-pub returns-in-Run : goal.returns-in-Run
-returns-in-Run g c = performed-as _ _ _ _ _ _ _ c.in-Run.is
-    (run-performed c.in-Run.script _ _ _ _ _ _ _ c.perform_run.ensures.ran c.perform_run.ensures.pooled)
