@@ -25,7 +25,7 @@ pub fn read_slices(alloc: Global, reader: &mut Reader, version: u8) -> Result<Ne
     Ok(slices)
 }
 
-/// Slices with no more levels of inner sets than so many.
+/// Slices with at most `levels` levels of inner sets.
 #[tactic(auto, unfolding(crate::specs::Reading::nested_at))]
 fn read_nested(alloc: Global, reader: &mut Reader, levels: usize) -> Result<Nested, CodecError>
     requires { levels ≤ most_levels }
@@ -36,7 +36,7 @@ fn read_nested(alloc: Global, reader: &mut Reader, levels: usize) -> Result<Nest
     Ok(Nested::of(alloc, set)?)
 }
 
-/// A threshold, a count and so many members, with so many levels of inner sets left.
+/// A threshold, a count and as many members, with at most `levels` levels of inner sets.
 #[cycle(tree)]
 #[tactic(auto, unfolding(crate::specs::Reading::set_with))]
 fn read_set(
@@ -72,7 +72,6 @@ fn read_header(reader: &mut Reader) -> Result<(u8, u8), Fault>
     Ok((threshold, count))
 }
 
-/// So many members.
 #[cycle(tree)]
 fn read_members(
     alloc: Global,
@@ -84,7 +83,7 @@ fn read_members(
     ensures read { Gives (λ x. (members_of x.items, reader.new)) result (members_at (inner_at levels) count seen.old reader.old) }
     ensures names { IfOk result (λ x. seen.new ≡ seen.old ++ names_in (members_of x.items)) }
 {
-    let mut members = Vec::new(alloc);
+    let mut members = Vec::with_capacity(alloc, count as usize)?;
     for _ in 0..count {
         let member = read_member(alloc, reader, levels, seen)?;
         members.push(member)?;
@@ -92,7 +91,7 @@ fn read_members(
     Ok(members)
 }
 
-/// A name or an inner set, where a level is left for one.
+/// A name or an inner set, if a level is left for one.
 #[cycle(tree)]
 #[tactic(auto, unfolding(crate::specs::Reading::member_at, crate::specs::Reading::inner_at))]
 fn read_member(

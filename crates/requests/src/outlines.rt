@@ -70,7 +70,7 @@ impl Outline {
         self.roster.is_none() && is_allowed(roster)
     }
 
-    /// One node more. It is a bad line where the network has a node of that name, or 256 nodes.
+    /// Adds a node. The line is bad if the network has a node of that name, or 256 nodes.
     pub fn host(&mut self, name: NodeId, slices: Nested) -> Result<(), LineError>
         ensures hosted { OnOk result (self.new ≡ with_node self.old name slices) }
         ensures taken { OnOk result (takes_node (Some self.old) name ≡ true) }
@@ -79,6 +79,7 @@ impl Outline {
         if self.nodes.len() >= MAX_NODES || has_node(&self.nodes, &name) {
             return Err(LineError::Bad);
         }
+        let slices = shared_with(self.nodes.last(), slices);
         match self.nodes.push(HostedNode::new(name, slices)) {
             Ok(()) => Ok(()),
             // Memory: the list has no room.
@@ -86,8 +87,8 @@ impl Outline {
         }
     }
 
-    /// Its roster. It is a bad line where there is one already, and where the configuration refuses it: a
-    /// name stands twice on it, it has more than 1,024 names, or a share is above 2^40.
+    /// Adds a roster. The line is bad if there is one already, or if the configuration refuses it: a name stands twice
+    /// on it, it has more than 1,024 names, or a share is above 2^40.
     pub fn reserve(&mut self, roster: Reservation) -> Result<(), LineError>
         ensures reserved { OnOk result (self.new ≡ with_roster self.old roster.names.items roster.shares) }
         ensures taken { OnOk result (takes_roster (Some self.old) roster.names.items roster.shares ≡ true) }
@@ -121,7 +122,7 @@ impl Outline {
         self.budgets
     }
 
-    /// How many openings and closings its roster reserves; `None` where it has no roster.
+    /// How many openings and closings its roster reserves; `None` if it has no roster.
     pub fn opens(&self) -> Option<u64>
         ensures { result ≡ option_map (λ r. r.1.opens) self.now.roster }
     {
@@ -131,8 +132,7 @@ impl Outline {
         }
     }
 
-    /// The configuration of the network of this number that has been declared. It is a bad line where no node
-    /// has been.
+    /// The configuration of the network of this number that has been declared. The line is bad if no node has been.
     pub fn config(self, number: u32) -> Result<NetConfig, LineError>
         ensures config { IfOk result (IsConfigOf number self) }
         ensures bad { result ≡ Err LineError.Bad → self.nodes ≡ [] }
@@ -158,6 +158,26 @@ impl Outline {
     }
 }
 
+/// The slices, which are those that this node has if they are the same. Most nodes of a network have the same ones, and so
+/// they are kept once.
+fn shared_with(node: Option<&HostedNode>, slices: Nested) -> Nested
+    ensures { result ≡ slices }
+{
+    let Some(node) = node else {
+        return slices;
+    };
+    if !node.slices().is_same(&slices) {
+        return slices;
+    }
+    match node.slices().try_copy() {
+        Ok(shared) => {
+            drop(slices);
+            shared
+        }
+        Err(_) => slices,
+    }
+}
+
 /// The configuration takes the roster.
 fn is_allowed(roster: &Reservation) -> bool
     ensures { result ≡ is_roster roster.now.names.items roster.now.shares }
@@ -173,14 +193,12 @@ fn is_allowed(roster: &Reservation) -> bool
         && all_differ(&roster.names)
 }
 
-/// A node has the name.
 fn has_node(nodes: &[HostedNode], name: &NodeId) -> bool
     ensures { result ≡ list_any (λ hosted. hosted.name == name.now) nodes.now }
 {
     nodes.iter().any(|node| *node.name() == *name)
 }
 
-/// No name stands twice.
 fn all_differ(names: &[NodeId]) -> bool
     ensures { result ≡ names_differ names.now }
 {
@@ -190,7 +208,6 @@ fn all_differ(names: &[NodeId]) -> bool
     }
 }
 
-/// The name is among them.
 fn has_name(names: &[NodeId], name: &NodeId) -> bool
     ensures { result ≡ list_any (λ w. w == name.now) names.now }
 {

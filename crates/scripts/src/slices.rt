@@ -25,7 +25,7 @@ pub fn slices_of(alloc: Global, word: &[u8]) -> Result<Option<Nested>, AllocErro
     Nested::new(alloc, set)
 }
 
-/// The set at the front of a text, with no more levels of inner sets than so many, and the rest.
+/// The set at the front of a text, with at most `levels` levels of inner sets, and the rest.
 #[cycle(reading)]
 fn set_at(
     alloc: Global,
@@ -76,7 +76,11 @@ fn members_at(
         members.push(member)?;
         match after {
             [b',', more @ ..] => rest = more,
-            [b']', more @ ..] => return Ok(Some((members, more))),
+            [b']', more @ ..] => {
+                // They are kept as long as a node or an envelope has them, and mostly are few.
+                members.shrink_to_fit();
+                return Ok(Some((members, more)));
+            }
             _ => return Ok(None),
         }
     }
@@ -105,7 +109,7 @@ fn member_at(
     }
 }
 
-/// The set at the front of a text and the rest, where there may be so many levels of sets.
+/// The inner set at the front of a text, and the rest. It and the sets in it may have `levels` levels.
 #[cycle(reading)]
 fn inner_at(
     alloc: Global,
@@ -120,7 +124,7 @@ fn inner_at(
     }
 }
 
-/// Adds the slices. Where memory is wanting, a part may have been added.
+/// Adds the slices. If it is out of memory, a part may have been added.
 pub fn push_slices(text: &mut String, slices: &Nested) -> Result<(), AllocError>
     ensures { OnOk result (string_bytes text.new ≡ string_bytes text.old ++ text_of_slices slices.now) }
 {

@@ -7,7 +7,7 @@ use Rattle.codec.proofs.trees.+tree.Goals as goal
 
 pub read_members-returns-in_err-member-clause-read : goal.read_members-returns-in_err-member-clause-read
 read_members-returns-in_err-member-clause-read t c =
-    let p = err_from_is_err_and c.from_residual.result c.from_residual.ensures.1 in
+    let p = err_from_is_err_and c.from_residual-in_err-member.result c.from_residual-in_err-member.ensures.1 in
     rw (p.1, p.2) (ends (inner_at c.args.levels) c.in_err-member.field-0.0 (members_of c.loop.members.items) c.args.count c.loop.counter c.loop.seen c.loop.reader (members_at (inner_at c.args.levels) c.args.count c.args.seen.now c.args.reader.now) c.loop-test.true c.in_err-member.ensures.read c.loop.invariant.read)
 
 pub read_members-loop-preserved : goal.read_members-loop-preserved

@@ -1,4 +1,4 @@
-use Rattle.std.proofs.Common.{rules, ◌≡◌, subst}
+use Rattle.std.proofs.Common.{rules, ◌≡◌, ◌∙◌, subst}
 use Rattle.std.specs.Prelude.{IfOk, option_map}
 use Rattle.scripts.specs.Fronts.{inner_front}
 use Rattle.scripts.proofs.FrontLaws.{read_more, read_last, read_wrong, inner_levels, set_read}
@@ -11,7 +11,7 @@ pub members_at-loop-rest-preserved : goal.members_at-loop-rest-preserved
 members_at-loop-rest-preserved t c = read_more (inner_front c.args.levels) _ _ _ _ _ _ (search rules) (search rules) c.in_ok-push.ensures.items (search rules) (search rules) c.loop-rest.invariant
 
 pub members_at-returns-in-93 : goal.members_at-returns-in-93
-members_at-returns-in-93 t c = read_last (inner_front c.args.levels) _ _ _ _ _ _ (search rules) (search rules) c.in_ok-push.ensures.items (search rules) (search rules) c.loop-rest.invariant
+members_at-returns-in-93 t c = read_last (inner_front c.args.levels) _ _ _ _ _ _ (search rules) (search rules) (c.shrink_to_fit.ensures.items ∙ c.in_ok-push.ensures.items) (search rules) (search rules) c.loop-rest.invariant
 
 pub members_at-returns-in_default-after : goal.members_at-returns-in_default-after
 members_at-returns-in_default-after t c = read_wrong (inner_front c.args.levels) _ _ c.in-Some.after.now c.in-Some.member _ (search rules) (search rules) (λ some. search rules) (λ some. search rules) c.loop-rest.invariant
