@@ -16,9 +16,9 @@ pub enum Statement {
         voted: Values,
         accepted: Values,
     },
-    /// The ballot that the sender votes to prepare, the highest that it accepts as prepared, the
-    /// counter below which it accepts all ballots as aborted, the counter of its highest confirmed
-    /// ballot, and the least counter for which it votes to commit (both 0 where there is none).
+    /// The ballot that the sender votes to prepare, the highest that it accepts as prepared, and the counter below
+    /// which it accepts all ballots as aborted. Then the counter of its highest confirmed ballot, and the least counter
+    /// for which it votes to commit; both are 0 if there is none.
     Prepare {
         ballot: Ballot,
         prepared: Option<Ballot>,
@@ -52,8 +52,8 @@ impl Statement {
         }
     }
 
-    /// A copy, which shares the bytes of each value. An error says that memory is short, or that a value
-    /// has too many owners.
+    /// A copy, which shares the bytes of each value. An error says that it is out of memory, or that a value has too
+    /// many owners.
     pub fn try_copy(&self, alloc: Global) -> Result<Statement, AllocError>
         ensures { IfOk result (λ s. s ≡ self.now) }
     {
@@ -101,99 +101,42 @@ impl Statement {
         ensures { IsTrue result ↔ self.now ≡ other.now }
     {
         match self {
-            Statement::Nominate { voted, accepted } => other.nominates(voted, accepted),
+            Statement::Nominate { voted, accepted } => matches!(
+                other,
+                Statement::Nominate { voted: votes, accepted: accepts }
+                    if voted.is_same(votes) && accepted.is_same(accepts)
+            ),
             Statement::Prepare {
                 ballot,
                 prepared,
                 aborted_counter,
                 high_counter,
                 commit_counter,
-            } => {
-                let counters = (*aborted_counter, *high_counter, *commit_counter);
-                other.prepares(ballot, prepared, counters)
-            }
+            } => matches!(
+                other,
+                Statement::Prepare { ballot: b, prepared: p, aborted_counter: a, high_counter: h, commit_counter: c }
+                    if ballot.is_same(b) && is_same(prepared, p) && *aborted_counter == *a
+                        && *high_counter == *h && *commit_counter == *c
+            ),
             Statement::Commit {
                 ballot,
                 prepared_counter,
                 high_counter,
                 commit_counter,
-            } => other.commits(ballot, (*prepared_counter, *high_counter, *commit_counter)),
+            } => matches!(
+                other,
+                Statement::Commit { ballot: b, prepared_counter: p, high_counter: h, commit_counter: c }
+                    if ballot.is_same(b) && *prepared_counter == *p
+                        && *high_counter == *h && *commit_counter == *c
+            ),
             Statement::Externalize {
                 commit,
                 high_counter,
-            } => other.externalizes(commit, *high_counter),
-        }
-    }
-
-    /// Whether it is the NOMINATE of these sets.
-    fn nominates(&self, sought_voted: &Values, sought_accepted: &Values) -> bool
-        ensures { IsTrue result ↔ Statement.Nominate sought_voted.now sought_accepted.now ≡ self.now }
-    {
-        match self {
-            Statement::Nominate { voted, accepted } => {
-                sought_voted.is_same(voted) && sought_accepted.is_same(accepted)
-            }
-            _ => false,
-        }
-    }
-
-    /// Whether it is the PREPARE of these fields, whose counters are in message order.
-    fn prepares(
-        &self,
-        sought_ballot: &Ballot,
-        sought_prepared: &Option<Ballot>,
-        sought_counters: (u32, u32, u32),
-    ) -> bool
-        ensures { IsTrue result ↔ Statement.Prepare sought_ballot.now sought_prepared.now sought_counters.0 sought_counters.1 sought_counters.2 ≡ self.now }
-    {
-        match self {
-            Statement::Prepare {
-                ballot,
-                prepared,
-                aborted_counter,
-                high_counter,
-                commit_counter,
-            } => {
-                sought_ballot.is_same(ballot)
-                    && is_same(sought_prepared, prepared)
-                    && sought_counters.0 == *aborted_counter
-                    && sought_counters.1 == *high_counter
-                    && sought_counters.2 == *commit_counter
-            }
-            _ => false,
-        }
-    }
-
-    /// Whether it is the COMMIT of these fields, whose counters are in message order.
-    fn commits(&self, sought_ballot: &Ballot, sought_counters: (u32, u32, u32)) -> bool
-        ensures { IsTrue result ↔ Statement.Commit sought_ballot.now sought_counters.0 sought_counters.1 sought_counters.2 ≡ self.now }
-    {
-        match self {
-            Statement::Commit {
-                ballot,
-                prepared_counter,
-                high_counter,
-                commit_counter,
-            } => {
-                sought_ballot.is_same(ballot)
-                    && sought_counters.0 == *prepared_counter
-                    && sought_counters.1 == *high_counter
-                    && sought_counters.2 == *commit_counter
-            }
-            _ => false,
-        }
-    }
-
-    /// Whether it is the EXTERNALIZE of these fields.
-    fn externalizes(&self, sought_commit: &Ballot, sought_high_counter: u32) -> bool
-        ensures { IsTrue result ↔ Statement.Externalize sought_commit.now sought_high_counter ≡ self.now }
-    {
-        match self {
-            Statement::Externalize {
-                commit,
-                high_counter,
-            } => sought_commit.is_same(commit) && sought_high_counter == *high_counter,
-            _ => false,
+            } => matches!(
+                other,
+                Statement::Externalize { commit: c, high_counter: h }
+                    if commit.is_same(c) && *high_counter == *h
+            ),
         }
     }
 
