@@ -7,6 +7,7 @@ use Rattle.std.proofs.Common.{arith}
 use Rattle.std.proofs.lemmas.Bool.Decides.{nat_tests}
 use Rattle.scripts.specs.Script.{AreFields, Bytes, is_field, IsSkipped}
 use Rattle.scripts.proofs.ScriptLemmas.{both_true}
+use Rattle.shards.specs.Asked.{cut_at_spaces}
 
 not-space : (b : ℕ) → is_ascii_graphic b ≡ true → (b == 32) ≡ false
 not-space b e = grind (arith, nat_tests)
@@ -36,12 +37,6 @@ cut field (next ∷ more) e =
     let both = both_true (is_field field) (list_all is_field (next ∷ more)) e in
     first-field field (join_with_byte 32 (next ∷ more)) (graphic field both.0) ∙ ap (λ fields. field ∷ fields) (cut next more both.1)
 
--- a line has fields in one way
-fields-by-cut : (line : Bytes) (fields : List Bytes) → (line ≡ [] → ⊥) → AreFields line fields → slice_split (λ b. b == 32) line ≡ fields
-fields-by-cut line [] some are = absurd (some (sym are.0))
-fields-by-cut line (field ∷ more) some are = ap (slice_split (λ b. b == 32)) (sym are.0) ∙ cut field more are.1
-
-pub fields_are_one : (line : Bytes) (fields others : List Bytes) → (IsSkipped line → ⊥) → AreFields line fields → AreFields line others → fields ≡ others
-fields_are_one line fields others whole are also =
-    let some : line ≡ [] → ⊥ = λ none. whole (subst IsSkipped (sym none) (refl, refl)) in
-    sym (fields-by-cut line fields some are) ∙ fields-by-cut line others some also
+pub fields_by_cut : (line : Bytes) (fields : List Bytes) → (IsSkipped line → ⊥) → AreFields line fields → cut_at_spaces line ≡ fields
+fields_by_cut line [] whole are = absurd (whole (subst IsSkipped are.0 (refl, refl)))
+fields_by_cut line (field ∷ more) whole are = ap cut_at_spaces (sym are.0) ∙ cut field more are.1

@@ -1,5 +1,6 @@
 -- Which network a line names.
-use Rattle.std.specs.Prelude.{◌≡◌, ℕ, Bool, true, false, List, [], ◌∷◌, codes, Option, Some, None}
+use Rattle.std.specs.Prelude.{◌≡◌, ◌==◌, ℕ, Bool, true, false, List, [], ◌∷◌, codes, Option, Some, option_and_then, slice_get}
+use Rattle.std.specs.List.{slice_split}
 use Rattle.scripts.specs.Script.{Bytes}
 use Rattle.scripts.specs.Words.{word_counter}
 use Rattle.protocol.specs.Networks.{Budgets}
@@ -9,10 +10,13 @@ use Rattle.requests.specs.declared.ask.Ask.{Ask}
 use Rattle.requests.specs.declared.ask.Ask.TheVariants as ask
 use Rattle.requests.specs.declared.request.Declaration.TheVariants as declaration
 
+-- what stands between the spaces (32) of a line
+abbrev pub cut_at_spaces : Bytes → List Bytes
+cut_at_spaces line = slice_split (λ byte. byte == 32) line
+
 -- the number that the second field spells
 abbrev pub network_in : List Bytes → Option ℕ
-network_in (word ∷ number ∷ fields) = word_counter number
-network_in fields = None
+network_in fields = option_and_then word_counter (slice_get fields 1)
 
 -- what a line asks for, it asks of the network whose number is its second field
 abbrev pub AskedNetworksAreNamed : Type 0

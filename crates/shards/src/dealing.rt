@@ -1,9 +1,9 @@
 //! To which shard a line goes.
 
-ghost use Rattle.std.specs.Prelude.{◌≡◌, ◌<◌, IfOk, map, option_map, true};
+ghost use Rattle.std.specs.Prelude.{◌≡◌, ◌<◌, IfOk, option_map, slice_get, true};
 ghost use Rattle.feed.specs.Served.{reply_of};
-ghost use Rattle.shards.specs.Asked.{is_net, network_in};
-ghost use Rattle.shards.specs.Dealing.{AreFieldsDealt, IsAnsweredInVain, IsDealt, IsNetLine};
+ghost use Rattle.shards.specs.Asked.{cut_at_spaces, is_net, network_in};
+ghost use Rattle.shards.specs.Dealing.{IsAnsweredInVain, IsDealt, IsNetLine};
 
 use feed::{Answer, LineServer};
 use requests::ask_of;
@@ -18,64 +18,47 @@ pub(crate) struct Dealt {
     pub declares: bool,
 }
 
-/// To which of so many shards a line goes: that of the network that it names, or the first if it names none. An error says
-/// that memory is short.
-pub(crate) fn deal(alloc: Global, line: Option<&[u8]>, count: usize) -> Result<Dealt, AllocError>
+/// To which of so many shards a line goes: that of the network that it names, or the first if it names none. Only its first
+/// two fields are looked at, since the shard reads the line as a whole.
+pub(crate) fn deal(line: Option<&[u8]>, count: usize) -> Dealt
     requires { 0 < count }
-    ensures dealt { IfOk result (IsDealt count (option_map (λ bytes. bytes.now) line.entry)) }
-    ensures net { IfOk result (λ dealt. dealt.declares ≡ true → IsNetLine (option_map (λ bytes. bytes.now) line.entry)) }
+    ensures dealt { IsDealt count (option_map (λ bytes. bytes.now) line.entry) result }
+    ensures net { result.declares ≡ true → IsNetLine (option_map (λ bytes. bytes.now) line.entry) }
 {
-    let nowhere = Dealt {
-        place: 0,
-        declares: false,
-    };
-    let Some(line) = line else {
-        return Ok(nowhere);
-    };
-    match fields_of(alloc, line) {
-        Ok(Some(fields)) => {
-            let dealt = deal_fields(fields.as_slice(), count);
-            drop(fields);
-            Ok(dealt)
-        }
-        Ok(None) | Err(LineError::Bad) => Ok(nowhere),
-        Err(LineError::NoMemory) => Err(AllocError),
-    }
-}
-
-/// To which of so many shards a line with these fields goes.
-fn deal_fields(fields: &[&[u8]], count: usize) -> Dealt
-    requires { 0 < count }
-    ensures { AreFieldsDealt count (map (λ field. field.now) fields.now) result }
-{
-    let place = match network_in(fields) {
-        Some(network) => network as usize % count,
-        None => 0,
-    };
-    Dealt {
-        place,
-        declares: is_net(fields),
+    match line {
+        Some(line) => Dealt {
+            place: network_in(line).unwrap_or(0) as usize % count,
+            declares: is_net(line),
+        },
+        None => Dealt {
+            place: 0,
+            declares: false,
+        },
     }
 }
 
 /// The number of the network that is named.
-fn network_in(fields: &[&[u8]]) -> Option<u32>
-    ensures { result ≡ network_in (map (λ field. field.now) fields.now) }
+fn network_in(line: &[u8]) -> Option<u32>
+    ensures { result ≡ network_in (cut_at_spaces line.now) }
 {
-    match fields {
-        [_, number, ..] => counter_of(number),
-        _ => None,
-    }
+    counter_of(field_at(line, 1)?)
 }
 
 /// Whether the first field is `net`.
-fn is_net(fields: &[&[u8]]) -> bool
-    ensures { result ≡ is_net (map (λ field. field.now) fields.now) }
+fn is_net(line: &[u8]) -> bool
+    ensures { result ≡ is_net (cut_at_spaces line.now) }
 {
-    match fields {
-        [word, ..] => *word == b"net".as_slice(),
-        [] => false,
+    match field_at(line, 0) {
+        Some(word) => word == b"net".as_slice(),
+        None => false,
     }
+}
+
+/// What stands at a place between the spaces of a line.
+fn field_at(line: &[u8], place: usize) -> Option<&[u8]>
+    ensures { option_map (λ field. field.now) result ≡ slice_get (cut_at_spaces line.now) place }
+{
+    line.split(|byte| *byte == b' ').nth(place)
 }
 
 /// The answer to a line that begins with `net` where as many networks are declared as may be: it is bad, whatever it asks
@@ -89,12 +72,15 @@ pub(crate) fn answer_in_vain(
     ensures { IfOk result (λ answer. IsAnsweredInVain number (option_map (λ bytes. bytes.now) line.entry) (reply_of answer)) }
 {
     let Some(line) = line else { unreachable!() };
-    let Ok(Some(fields)) = fields_of(alloc, line) else {
-        // Memory: it has fields.
-        return Err(AllocError);
-    };
-    let asked = ask_of(alloc, fields.as_slice());
-    drop(fields);
-    drop(asked?);
-    LiveHost::new(alloc, false).serve(alloc, number, None)
+    match fields_of(alloc, line) {
+        Ok(Some(fields)) => {
+            let asked = ask_of(alloc, fields.as_slice());
+            drop(fields);
+            drop(asked?);
+            LiveHost::new(alloc, false).serve(alloc, number, None)
+        }
+        Ok(None) => unreachable!(),
+        Err(LineError::Bad) => LiveHost::new(alloc, false).serve(alloc, number, None),
+        Err(LineError::NoMemory) => Err(AllocError),
+    }
 }

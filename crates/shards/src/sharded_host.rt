@@ -124,20 +124,14 @@ fn places_of(alloc: Global, lines: &[KeptLine], count: usize) -> Option<Vec<usiz
     requires { 0 < count }
     ensures { IfSome result (λ places. ArePlaced count (map given_of lines.now) places.items) }
 {
-    let mut places = Vec::new(alloc);
+    let mut places = Vec::with_capacity(alloc, lines.len()).ok()?;
     for line in lines {
-        let Ok(dealt) = deal(alloc, line.given(), count) else {
-            drop(places);
-            return None;
-        };
+        let dealt = deal(line.given(), count);
         if dealt.declares {
             drop(places);
             return None;
         }
-        let Ok(()) = places.push(dealt.place) else {
-            drop(places);
-            return None;
-        };
+        places.push_reserved(dealt.place);
     }
     Some(places)
 }
@@ -244,7 +238,7 @@ impl LineServer for ShardedHost {
             // Memory: there was none for a line before.
             return Err(AllocError);
         }
-        let dealt = deal(alloc, line, self.shards.len())?;
+        let dealt = deal(line, self.shards.len());
         if !has_room(dealt, &self.shards) {
             return answer_in_vain(alloc, number, line);
         }

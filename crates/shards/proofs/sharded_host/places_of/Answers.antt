@@ -9,6 +9,9 @@ pub loop-line-preserved : goal.loop-line-preserved
 loop-line-preserved c =
     let k = c.loop-line.line-index in
     let l : k < length c.args.lines.now = search rules in
-    let dealt = subst (λ v. IsDealt c.args.count v c.in-Ok.dealt) c.given.ensures c.in-Ok.ensures.dealt in
-    subst (ArePlaced c.args.count (map given_of (take (k + 1) c.args.lines.now))) (sym c.in-Ok-push.ensures.items)
-    (placed_next c.args.count c.args.lines.now k c.line-item.result c.loop-line.places.items c.in-Ok.dealt l (sym c.line-item.is) c.loop-line.invariant dealt c.if-dealt.false)
+    let dealt = subst (λ v. IsDealt c.args.count v c.deal-dealt.result) c.given.ensures c.deal-dealt.ensures.dealt in (
+      search rules,
+      search rules,
+      subst (ArePlaced c.args.count (map given_of (take (k + 1) c.args.lines.now))) (sym c.push_reserved.ensures.items)
+          (placed_next c.args.count c.args.lines.now k c.line-item.result c.loop-line.places.items c.deal-dealt.result l (sym c.line-item.is) c.loop-line.invariant.2 dealt c.if-dealt.false),
+    )
