@@ -41,8 +41,9 @@ use Rattle.requests.specs.Requests.{AreAllowed, AsksNode, AsksRoster, IsNode, Is
 use Rattle.requests.specs.Telling.{Allowed, HasNoNode, IsBadOrder, IsBadRequest, IsBadToAsk, IsBare, Refuses, RefusesOrder, is_unserved, may_apply}
 use Rattle.runs.specs.Followed.{also_followed}
 use Rattle.runs.specs.Hosting.{Hosting, IsBegun, logs_joined}
-use Rattle.runs.specs.Running.{BadLinesTellNothing}
-use Rattle.runs.specs.Running.Tells.{declared, declared_served, answered, settled, delivered, dropped}
+use Rattle.runs.specs.declared.outcome.Outcome.{Outcome}
+use Rattle.runs.specs.declared.outcome.Outcome.TheVariants.{Declared, Answer, Answers, Settled}
+use Rattle.runs.specs.Running.{BadLinesTellNothing, Does}
 use Rattle.runs.specs.Submitting.{BadLinesSubmitNothing, IsDeclared, Submitting, declared_once, no_settling}
 use Rattle.runs.specs.Submitting.Submits.{declares as submits_declaration, submits}
 use Rattle.runs.specs.Plans.{Plan}
@@ -283,16 +284,21 @@ not-bad-to-ask : (b : Bool) (ws : Waiting) (g : ℕ) → b ≡ true → ¬ HasNo
 not-bad-to-ask true ws g is nodes bad = nodes bad
 not-bad-to-ask false ws g is nodes bad = false≢true is
 
+-- what is done is no bad order
+done-is-not-bad : (g : ℕ) (o : Order) (old new : Hosting) (outcome : Outcome) → Does g o old outcome new → ¬ IsBadOrder old.waiting old.named g o
+done-is-not-bad g (order.Request (Declare d)) old new Declared h bad = false≢true (sym bad ∙ h.taken)
+done-is-not-bad g (order.Request (Apply e)) old new (Answer r) h bad = not-bad-to-ask (may_apply old.named g e) old.waiting g h.0 (begun-has-nodes g old h.1.0 h.1.1) bad
+done-is-not-bad g (order.Request (Settle i)) old new (Settled j ended) h bad =
+    not-bad-to-ask (not (is_in old.named.served g)) old.waiting g (ap not h.0) (begun-has-nodes g old h.1.0 h.1.1) bad
+done-is-not-bad g (order.Serve b) old new Declared h bad = false≢true (sym bad ∙ h.taken)
+done-is-not-bad g (order.ForAll bytes) old new (Answers rs) h bad =
+    not-bad-to-ask (not (is_unserved old.waiting old.named g)) old.waiting g (ap not h.0) (begun-has-nodes g old h.1.0 h.1.1) bad
+done-is-not-bad g order.Drop old new (Answer r) h bad = false≢true (sym h.0 ∙ bad)
+done-is-not-bad g o old new outcome h bad = absurd h
+
 pub bad_lines_tell_nothing : BadLinesTellNothing
-bad_lines_tell_nothing old new fields printed bad (declared g d ordered h) = not-bad-order old.waiting old.named fields g (order.Request (Declare d)) ordered (λ k. false≢true (sym k ∙ h.taken)) bad
-bad_lines_tell_nothing old new fields printed bad (declared_served g b ordered h) = not-bad-order old.waiting old.named fields g (order.Serve b) ordered (λ k. false≢true (sym k ∙ h.taken)) bad
-bad_lines_tell_nothing old new fields printed bad (answered g e ordered may h) =
-    not-bad-order old.waiting old.named fields g (order.Request (Apply e)) ordered (not-bad-to-ask (may_apply old.named g e) old.waiting g may (begun-has-nodes g old h.0 h.2)) bad
-bad_lines_tell_nothing old new fields printed bad (settled g i ordered may h) =
-    not-bad-order old.waiting old.named fields g (order.Request (Settle i)) ordered (not-bad-to-ask (not (is_in old.named.served g)) old.waiting g (ap not may) (begun-has-nodes g old h.0 h.2)) bad
-bad_lines_tell_nothing old new fields printed bad (delivered g bytes rs ordered may h) =
-    not-bad-order old.waiting old.named fields g (order.ForAll bytes) ordered (not-bad-to-ask (not (is_unserved old.waiting old.named g)) old.waiting g (ap not may) (begun-has-nodes g old h.0 h.1)) bad
-bad_lines_tell_nothing old new fields printed bad (dropped g ordered may h) = not-bad-order old.waiting old.named fields g order.Drop ordered (λ k. false≢true (sym may ∙ k)) bad
+bad_lines_tell_nothing old new fields printed bad (g, outcome, (o, ordered, done), said) =
+    not-bad-order old.waiting old.named fields g o ordered (done-is-not-bad g o old new outcome done) bad
 
 pub bad_lines_submit_nothing : BadLinesSubmitNothing
 bad_lines_submit_nothing old new fields printed bad (submits_declaration h named history) = taken no_settling old.waiting old.named fields new.waiting h bad

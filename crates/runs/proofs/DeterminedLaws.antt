@@ -23,7 +23,6 @@ use Rattle.hoststep.specs.Logs.{IsRefused, Log, with_entry}
 use Rattle.world.specs.Worlds.{IsAnsweredAt, items_of, log_at, logs_set, logs_without}
 use Rattle.requests.specs.Naming.{IsForgotten, IsWithout, Named, is_in, named_with, served_with, with_number}
 use Rattle.requests.specs.Outlines.{IsRevised, Outlined, Waiting, waiting_at, waiting_set, waiting_without, with_roster}
-use Rattle.requests.specs.Ordering.{Orders}
 use Rattle.requests.specs.Preparing.{Prepares}
 use Rattle.requests.specs.Taking.{is_declared, takes, takes_roster}
 use Rattle.requests.specs.declared.order.Order.{Order}
@@ -36,15 +35,16 @@ use Rattle.runs.specs.Emissions.{OpenSlot, OpenSlots, at_number, changed_at, fir
 use Rattle.runs.specs.Followed.{Followed, IsUnfollowed, after_turn, also_followed, followed_with, names_at, open_slot, turn_of, waiting}
 use Rattle.runs.specs.Hosting.{Hosting, IsApplied, IsBegun, logs_joined, noted_answer}
 use Rattle.runs.specs.Joining.{NetworkIsNamedAt}
-use Rattle.runs.specs.Running.{IsDeclaredSo, Tells}
-use Rattle.runs.specs.Running.Tells.{answered, declared, declared_served, delivered, dropped, settled}
+use Rattle.runs.specs.declared.outcome.Outcome.{Outcome}
+use Rattle.runs.specs.declared.outcome.Outcome.TheVariants.{Declared, Answer, Answers, Settled}
+use Rattle.runs.specs.Running.{Does, IsCarriedOut, IsDeclaredSo}
 use Rattle.runs.specs.ServedNetworks.{AllIsHeard as AllHeard, AreAllDelivered, AreDelivered, AreDeliveredTo, AreTold, IsDropped, IsHeardAt, IsHeardByOthers, IsHeardOf, IsServed}
 use Rattle.runs.specs.ServedNetworks.AreDelivered.{next_node, none_left}
 use Rattle.runs.specs.ServedNetworks.AreTold.{all_told, one_told}
 use Rattle.runs.specs.Settling.{AreHandedOn, HasSettled, HasSettledAt, IsHanded, IsHeardBy, handed_over, hearing, others}
 use Rattle.runs.specs.Settling.AreHandedOn.{cut_short, none_waits, one_waits}
 use Rattle.runs.specs.Settling.IsHeardBy.{by_all, by_one, refused}
-use Rattle.runs.specs.Unprinted.{HadMemory, IsPutUnprinted, IsSettledUnprinted}
+use Rattle.runs.specs.Unprinted.{HadMemory}
 use Rattle.runs.proofs.BadLines.{IsOfWords, two-orders}
 use Rattle.runs.proofs.Configured.{one-config}
 use Rattle.runs.proofs.NumberedRows.{at-changed, at-inserted, has-inserted, is-at}
@@ -320,10 +320,10 @@ one-delivery-to-all g bytes old other new last rs ss a h k m n =
     one-delivery-to g bytes (names_at old.followed g) old other new last rs ss a h
     (subst (λ (x : Option (List ℕ)). AreDeliveredTo g bytes x other ss last) (sym (names-alike g old.followed other.followed a.followed)) k) m n
 
-one-drop : (b c : Bool) (g : ℕ) (old other new last : Hosting) (text words : Bytes) → b ≡ c → AreAlike old other → IsDropped b g old text new → IsDropped c g other words last → AreAlike new last
-one-drop b c g old other new last text words same a h k = go b h (subst (λ (x : Bool). IsDropped x g other words last) (sym same) k)
+one-drop : (b c : Bool) (g : ℕ) (old other new last : Hosting) (r s : Result (List Out) Refusal) → b ≡ c → AreAlike old other → IsDropped b g old r new → IsDropped c g other s last → AreAlike new last
+one-drop b c g old other new last r s same a h k = go b h (subst (λ (x : Bool). IsDropped x g other s last) (sym same) k)
   where
-    go : (x : Bool) → IsDropped x g old text new → IsDropped x g other words last → AreAlike new last
+    go : (x : Bool) → IsDropped x g old r new → IsDropped x g other s last → AreAlike new last
     go false h k = subst (λ (x : Hosting × Hosting). AreAlike x.0 x.1) (λ i. (sym h.1 i, sym k.1 i)) a
     go true h k = record {
       waiting = h.1.waiting ∙ (ap (λ ws. waiting_without ws g) a.waiting ∙ sym k.1.waiting);
@@ -377,45 +377,32 @@ one-declaration g d m n old other new last a same h k = record {
 
 -- ---- a line
 
--- what a line does to the networks that orders this of the network of a number, where memory is enough
-abbrev Does : ℕ → Order → Hosting → Hosting → Type 0
-Does g (order.Request (Declare d)) old new = IsDeclaredSo g d old.named old new
-Does g (order.Request (Apply e)) old new = IsPutUnprinted g e old new
-Does g (order.Request (Settle slot)) old new = IsSettledUnprinted g slot old new
-Does g (order.Serve b) old new = IsDeclaredSo g (Net b) (served_with g old.named) old new
-Does g (order.ForAll bytes) old new =
-    (begun : Hosting) × (rs : List (Result (Vec Out Global) Refusal)) × IsBegun g old begun × AreAllDelivered g bytes begun rs new × All (λ r. r ≢ Err NoMemory) rs
-Does g order.Drop old new = (text : Bytes) × IsDropped (is_declared old.waiting old.named g) g old text new
-
--- a line that is run does what it orders
-does-order : (old new : Hosting) (fields : List Bytes) (printed : Option Bytes) (told : Tells old fields printed new) → HadMemory told
-    → (g : ℕ) × (o : Order) × Orders fields g o × Does g o old new
-does-order old new fields printed (declared g d ordered h) memory = (g, order.Request (Declare d), ordered, h)
-does-order old new fields printed (declared_served g b ordered h) memory = (g, order.Serve b, ordered, h)
-does-order old new fields printed (answered g e ordered may put) memory = (g, order.Request (Apply e), ordered, (put.0, put.1, put.2, put.3, memory))
-does-order old new fields printed (settled g slot ordered may done) memory = (g, order.Request (Settle slot), ordered, (done.0, done.1, done.2, done.3, memory))
-does-order old new fields printed (delivered g bytes rs ordered may done) memory = (g, order.ForAll bytes, ordered, (done.0, rs, done.1, done.2, memory))
-does-order old new fields printed (dropped {text = text} g ordered may done) memory = (g, order.Drop, ordered, (text, done))
-
 declared-alike : (g : ℕ) (old other : Hosting) → AreAlike old other → is_declared old.waiting old.named g ≡ is_declared other.waiting other.named g
 declared-alike g old other a = λ i. is_some (waiting_at (a.waiting i) g) || a.named.running g i
 
-one-order : (g : ℕ) (o : Order) (old other new last : Hosting) → AreAlike old other → Does g o old new → Does g o other last → AreAlike new last
-one-order g (order.Request (Declare d)) old other new last a h k = one-declaration g d old.named other.named old other new last a a.named h k
-one-order g (order.Request (Apply e)) old other new last a h k =
-    one-serving g e h.1 k.1 h.0 k.0 new last (one-beginning g old other h.0 k.0 a h.2 k.2) h.3 k.3 h.4 k.4
-one-order g (order.Request (Settle slot)) old other new last a h k =
-    one-settling g slot h.0 k.0 new last h.1 k.1 (one-beginning g old other h.0 k.0 a h.2 k.2) h.3 k.3 h.4 k.4
-one-order g (order.Serve b) old other new last a h k =
+one-order : (g : ℕ) (o : Order) (outcome also : Outcome) (old other new last : Hosting) → Does g o old outcome new → Does g o other also last → HadMemory outcome → HadMemory also → AreAlike old other → AreAlike new last
+one-order g (order.Request (Declare d)) Declared Declared old other new last h k m n a = one-declaration g d old.named other.named old other new last a a.named h k
+one-order g (order.Request (Apply e)) (Answer r) (Answer s) old other new last h k m n a =
+    one-serving g e r s h.1.0 k.1.0 new last (one-beginning g old other h.1.0 k.1.0 a h.1.1 k.1.1) h.1.2 k.1.2 m n
+one-order g (order.Request (Settle slot)) (Settled i ended) (Settled j also) old other new last h k m n a =
+    one-settling g slot h.1.0 k.1.0 new last ended also (one-beginning g old other h.1.0 k.1.0 a h.1.1 k.1.1) h.1.2 k.1.2 m n
+one-order g (order.Serve b) Declared Declared old other new last h k m n a =
     one-declaration g (Net b) (served_with g old.named) (served_with g other.named) old other new last a (served-alike g old.named other.named a.named) h k
-one-order g (order.ForAll bytes) old other new last a h k =
-    one-delivery-to-all g bytes h.0 k.0 new last h.1 k.1 (one-beginning g old other h.0 k.0 a h.2 k.2) h.3 k.3 h.4 k.4
-one-order g order.Drop old other new last a h k =
-    one-drop (is_declared old.waiting old.named g) (is_declared other.waiting other.named g) g old other new last h.0 k.0 (declared-alike g old other a) a h.1 k.1
+one-order g (order.ForAll bytes) (Answers rs) (Answers ss) old other new last h k m n a =
+    one-delivery-to-all g bytes h.1.0 k.1.0 new last rs.items ss.items (one-beginning g old other h.1.0 k.1.0 a h.1.1 k.1.1) h.1.2 k.1.2 m n
+one-order g order.Drop (Answer r) (Answer s) old other new last h k m n a =
+    one-drop (is_declared old.waiting old.named g) (is_declared other.waiting other.named g) g old other new last (items_of r) (items_of s) (declared-alike g old other a) a h.1 k.1
+one-order g (order.Request (Declare d)) Declared also old other new last h k m n a = absurd k
+one-order g (order.Request (Apply e)) (Answer r) also old other new last h k m n a = absurd k
+one-order g (order.Request (Settle slot)) (Settled i ended) also old other new last h k m n a = absurd k
+one-order g (order.Serve b) Declared also old other new last h k m n a = absurd k
+one-order g (order.ForAll bytes) (Answers rs) also old other new last h k m n a = absurd k
+one-order g order.Drop (Answer r) also old other new last h k m n a = absurd k
+one-order g o outcome also old other new last h k m n a = absurd h
 
 -- what a roster does, each other does with the same names and shares
-does-roster : (g : ℕ) (old new : Hosting) → IsOfWords (λ r. Does g (order.Request r) old new)
-does-roster g old new d e names shares h = record {
+does-roster : (g : ℕ) (old new : Hosting) (outcome : Outcome) → IsOfWords (λ r. Does g (order.Request r) old outcome new)
+does-roster g old new Declared d e names shares h = record {
   taken = sym taken-too ∙ h.taken;
   prepared = subst (λ (x : List ℕ × Shares). IsRevised g (λ o. with_roster o x.0 x.1) old.waiting new.waiting) (λ i. (names i, shares i)) h.prepared;
   named_is = h.named_is;
@@ -425,12 +412,11 @@ does-roster g old new d e names shares h = record {
   where
     taken-too : takes old.waiting old.named g (Roster d) ≡ takes old.waiting old.named g (Roster e)
     taken-too = λ i. not (is_in old.named.numbers g) && takes_roster (waiting_at old.waiting g) (names i) (shares i)
+does-roster g old new outcome d e names shares h = absurd h
 
--- what is told is determined
-pub one-told : (old other new last : Hosting) (fields : List Bytes) (p q : Option Bytes) (told : Tells old fields p new) (also : Tells other fields q last)
-    → AreAlike old other → HadMemory told → HadMemory also → AreAlike new last
-one-told old other new last fields p q told also a m n =
-    let (g, o, ordered, h) = does-order old new fields p told m in
-    let (k, d, same, does) = does-order other last fields q also n in
-    two-orders (λ x y. Does x y old new → AreAlike new last) (λ x r s names shares so h. so (does-roster x old new s r (sym names) (sym shares) h)) fields (Some (g, o)) (Some (k, d)) ordered same
-    (λ h. one-order k d old other new last a h does) h
+-- a line is of one network, and what it does is determined
+pub one-told : (old other new last : Hosting) (fields : List Bytes) (g k : ℕ) (outcome also : Outcome) → IsCarriedOut g fields old outcome new → IsCarriedOut k fields other also last
+    → HadMemory outcome → HadMemory also → AreAlike old other → (g ≡ k) × AreAlike new last
+one-told old other new last fields g k outcome also (o, ordered, h) (d, same, does) m n a =
+    two-orders (λ x y. Does x y old outcome new → (x ≡ k) × AreAlike new last) (λ x r s names shares so h. so (does-roster x old new outcome s r (sym names) (sym shares) h)) fields (Some (g, o))
+    (Some (k, d)) ordered same (λ h. (refl, one-order k d outcome also old other new last h does m n a)) h

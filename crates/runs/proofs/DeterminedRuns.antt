@@ -1,14 +1,12 @@
 -- What the lines of a script that prints nothing do is determined, and what its end does.
-use Rattle.std.proofs.Common.{◌≡◌, ◌∙◌, ℕ, List, [], ◌∷◌, Option, Some, Ok, Err, inl, inr, refl, sym, subst}
+use Rattle.std.proofs.Common.{◌≡◌, ◌∙◌, ℕ, List, Ok, Err, inl, inr, refl, sym, subst}
 use Rattle.std.specs.Prelude.{Result}
 use Rattle.scripts.specs.Script.{Bytes}
 use Rattle.scripts.specs.Runs.{Passes, Runs}
 use Rattle.scripts.specs.Runs.Passes.{skipped, told}
-use Rattle.scripts.specs.Words.{word_counter}
 use Rattle.scripts.specs.declared.run.Stop.{Stop}
 use Rattle.hoststep.specs.Logs.{Log}
 use Rattle.requests.specs.Outlines.{Outlined, Waiting}
-use Rattle.requests.specs.Telling.{NamesNet}
 use Rattle.runs.specs.Determined.{AreAlike, BecomeAlike, EndsDoOneThing, LinesDoOneThing, RunsDoOneThing}
 use Rattle.runs.specs.Hosting.{Hosting, logs_joined}
 use Rattle.runs.specs.Joining.{HasJoined, HaveJoined}
@@ -21,21 +19,10 @@ use Rattle.runs.proofs.OneCut.{one-fields}
 pub alike : (h : Hosting) → AreAlike h h
 alike h = record { waiting = refl; named = record { numbers = λ g. refl; running = λ g. refl; served = λ g. refl }; followed = λ g. refl; logs = refl }
 
-one-some : {A : Type 0} (o : Option A) (a b : A) → o ≡ Some a → o ≡ Some b → a ≡ b
-one-some o a b e f = let g : Some a ≡ Some b = sym e ∙ f in cc
-
--- a line names one network
-one-net : (fields : List Bytes) (g k : ℕ) → NamesNet fields g → NamesNet fields k → g ≡ k
-one-net [] g k h j = absurd h
-one-net (word ∷ []) g k h j = absurd h
-one-net (word ∷ number ∷ fields) g k h j = one-some (word_counter number) g k h j
-
 pub lines_do_one_thing : LinesDoOneThing
-lines_do_one_thing one other new last fields p q a h k =
-    let becomes : AreAlike new.hosting last.hosting =
-    one-told one.hosting other.hosting new.hosting last.hosting fields h.2.printed k.2.printed h.2.told k.2.told a h.2.had_memory k.2.had_memory in
-    let net : h.0 ≡ k.0 = one-net fields h.0 k.0 h.2.names k.2.names in
-    (becomes, λ same. h.3 ∙ ((λ i. trace_after (net i) (becomes.logs i) (same i)) ∙ sym k.3))
+lines_do_one_thing one other new last fields p q a (g, outcome, done, silent, memory, trace) (k, also, does, quiet, had, traced) =
+    let becomes = one-told one.hosting other.hosting new.hosting last.hosting fields g k outcome also done does memory had a in
+    (becomes.1, λ same. trace ∙ ((λ i. trace_after (becomes.0 i) (becomes.1.logs i) (same i)) ∙ sym traced))
 
 one-passing : (one other new last : Unprinted) (line p q : Bytes) → AreAlike one.hosting other.hosting → Passes TellsUnprinted one line p new → Passes TellsUnprinted other line q last
     → BecomeAlike one other new last

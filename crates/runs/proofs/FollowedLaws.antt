@@ -3,12 +3,6 @@ use Rattle.std.proofs.Common.{◌≡◌, ◌∙◌, ◌==◌, ◌||◌, ◌&&◌
 use Rattle.std.specs.Prelude.{Result, Vec, option_map}
 use Rattle.std.specs.Global.{Global}
 use Rattle.std.proofs.lemmas.Bool.{and_parts, eqb-true, false≢true, lt-ltb, ltb-true, not-true, or_parts}
-use Rattle.std.specs.List.{enumerate_from}
-use Rattle.scripts.specs.Script.{Bytes}
-use Rattle.scripts.specs.Runs.{Passes, Runs}
-use Rattle.scripts.specs.Runs.Passes.{skipped, told}
-use Rattle.scripts.specs.Runs.Runs.{ends, next, bad, short}
-use Rattle.scripts.specs.declared.run.Stop.{Stop}
 use Rattle.types.specs.declared.event.Event.{Event}
 use Rattle.types.specs.declared.event.Event.TheVariants as event
 use Rattle.types.specs.declared.event.Out.{Out}
@@ -25,33 +19,26 @@ use Rattle.hoststep.specs.Logs.{Log, with_entry}
 use Rattle.std.specs.BTreeMap.{is_at}
 use Rattle.std.specs.Map.{remove_entry}
 use Rattle.std.specs.Ordering.{nat_cmp}
-use Rattle.types.specs.Statements.{Sent}
 use Rattle.world.specs.Worlds.{IsAnsweredAt, items_of, log_at, logs_set, logs_with, logs_without}
 use Rattle.world.proofs.Histories.{has-number}
 use Rattle.world.proofs.Leaving.{at-left}
 use Rattle.hoststep.proofs.Growing.{run-grows}
 use Rattle.requests.specs.Outlines.{Outlined, IsConfigOf, IsRevised, Waiting, fresh, waiting_at, waiting_without}
-use Rattle.runs.specs.Emissions.{OpenSlot, OpenSlots, at_number, changed_at, first_emitted, handed_on}
-use Rattle.runs.specs.Followed.{Followed, IsUnfollowed, also_followed, followed_with, names_at, turn_of, after_turn, with_handed}
+use Rattle.runs.specs.Emissions.{OpenSlot, OpenSlots, at_number, changed_at, handed_on}
+use Rattle.runs.specs.Followed.{Followed, IsUnfollowed, also_followed, followed_with, turn_of, after_turn, with_handed}
 use Rattle.runs.specs.Hosting.{Hosting, IsApplied, IsBegun, logs_joined, noted_answer, new_hosting}
 use Rattle.runs.specs.Joining.{NetworkIsNamedAt}
 use Rattle.requests.specs.Naming.{IsForgotten, Named, is_in, named_with, served_with}
 use Rattle.requests.specs.Preparing.{Prepares}
-use Rattle.runs.specs.Running.{IsDeclaredSo, RefusesLine, Tells}
-use Rattle.runs.specs.Running.Tells.{declared, declared_served, answered, settled, delivered, dropped}
-use Rattle.runs.specs.ServedNetworks.{AllIsHeard as heard, AreDelivered, AreDeliveredTo, AreTold, IsDropped, IsHeardAt, IsHeardByOthers, IsHeardOf, IsServed}
-use Rattle.runs.specs.ServedNetworks.AreDelivered.{next_node, none_left}
-use Rattle.runs.specs.ServedNetworks.AreTold.{all_told, one_told}
-use Rattle.runs.specs.Settling.{AreHandedOn, HasSettledAt, IsHeardBy, handed_over, hearing}
-use Rattle.runs.specs.Settling.IsHeardBy.{by_all, by_one, refused}
-use Rattle.runs.specs.Settling.AreHandedOn.{none_waits, one_waits, cut_short}
-use Rattle.requests.specs.Taking.{declared_count, is_declared, takes}
-use Rattle.network.specs.declared.plan.Emission.{Emission}
+use Rattle.runs.specs.Running.{IsDeclaredSo}
+use Rattle.runs.specs.ServedNetworks.{IsTakenBack}
+use Rattle.requests.specs.Taking.{declared_count, takes}
 use Rattle.requests.specs.declared.request.Declaration.{Declaration}
 use Rattle.requests.specs.declared.request.Declaration.TheVariants.{Net, Node, Roster}
 use Rattle.runs.specs.ByJournals.{AreFollowed, AreSlotsAt, AreSlotsBy, FollowsJournals, HaveRoom, IsSlotBy, LinesFollowJournals, RunsFollowJournals}
 use Rattle.runs.proofs.NumberedRows.{at-changed, at-inserted, at-removed, at-set, equal-flip, has-inserted, is-at, keys-inserted, length-inserted, length-removed, length-set, once-changed, once-inserted, once-removed, once-set}
 use Rattle.runs.proofs.NetsByEntries.{slots-next, turn_in}
+use Rattle.runs.proofs.Keeping.{EventsKeep, LinesKeep, at-slot, line-keeps, runs-keep, served-keeps, settled-keeps}
 
 -- ---- journals by number
 
@@ -376,61 +363,8 @@ handed-follows g slot logs f s j =
     go true (Some l) None h = h
     go true (Some l) (Some m) h = (h.0, slots-handed l.config l.entries slot m h.1)
 
-pub heard-follows : (g slot : ℕ) (e : Emission) (us : List ℕ) (old new : Hosting) (ended : Option Refusal) → FollowsJournals old → IsHeardBy g slot e us old ended new → FollowsJournals new
-heard-follows g slot e us old new ended s by_all = s
-heard-follows g slot e us old new ended s (by_one {u = u} outs answer rest) = heard-follows g slot e _ _ new ended (applied-follows g (hearing slot u e) (Ok outs) old _ s answer) rest
-heard-follows g slot e us old new ended s (refused {u = u} r answer) = applied-follows g (hearing slot u e) (Err r) old new s answer
-
-pub over-follows : (g slot : ℕ) (ended : Option Refusal) (h : Hosting) → FollowsJournals h → FollowsJournals (handed_over g slot ended h)
-over-follows g slot None h s = record { room = s.room; slots = handed-follows g slot h.logs h.followed s.slots }
-over-follows g slot (Some r) h s = s
-
-handed-on-follows : (g slot : ℕ) (names : List ℕ) (old new : Hosting) (ended : Option Refusal) → FollowsJournals old → AreHandedOn g slot names old ended new → FollowsJournals new
-handed-on-follows g slot names old new ended s (none_waits none) = s
-handed-on-follows g slot names old new ended s (one_waits e waits h rest) =
-    handed-on-follows g slot names _ new ended (subst FollowsJournals (sym h.2) (over-follows g slot None h.0 (heard-follows g slot e _ old h.0 None s h.1))) rest
-handed-on-follows g slot names old new ended s (cut_short e r waits h) =
-    subst FollowsJournals (sym h.2) (over-follows g slot (Some r) h.0 (heard-follows g slot e _ old h.0 (Some r) s h.1))
-
-settled-follows : (g slot : ℕ) (names : Option (List ℕ)) (o : Option OpenSlot) (old new : Hosting) (ended : Option Refusal) → FollowsJournals old → HasSettledAt g slot names o old ended new → FollowsJournals new
-settled-follows g slot None o old new ended s h = subst FollowsJournals (sym h.0) s
-settled-follows g slot (Some names) None old new ended s h = subst FollowsJournals (sym h.0) s
-settled-follows g slot (Some names) (Some o) old new ended s h = handed-on-follows g slot names old new ended s h
-
--- ---- a served network
-
-pub told-follows : (g slot : ℕ) (e : Emission) (us : List ℕ) (old new : Hosting) → FollowsJournals old → AreTold g slot e us old new → FollowsJournals new
-told-follows g slot e us old new s all_told = s
-told-follows g slot e us old new s (one_told ended heard memory rest) = told-follows g slot e _ _ new (heard-follows g slot e _ old _ ended s heard) rest
-
-pub all-heard-follows : (g slot : ℕ) (names : List ℕ) (old new : Hosting) → FollowsJournals old → heard g slot names old new → FollowsJournals new
-all-heard-follows g slot names old new s (heard.none_waits none) = s
-all-heard-follows g slot names old new s (heard.one_waits e is each rest) =
-    all-heard-follows g slot names _ new (over-follows g slot None _ (told-follows g slot e names old _ s each)) rest
-
-heard-of-follows : (b : Bool) (g : ℕ) (r : Result (List Out) Refusal) (old new : Hosting) → FollowsJournals old → IsHeardOf b g r old new → FollowsJournals new
-heard-of-follows false g r old new s h = subst FollowsJournals (sym h) s
-heard-of-follows true g (Err r) old new s h = subst FollowsJournals (sym h) s
-heard-of-follows true g (Ok outs) old new s h = at (first_emitted outs) h
-  where
-    by : (slot : ℕ) (names : Option (List ℕ)) → IsHeardByOthers g slot names old new → FollowsJournals new
-    by slot None k = subst FollowsJournals (sym k) s
-    by slot (Some names) k = all-heard-follows g slot names old new s k
-
-    at : (e : Option Sent) → IsHeardAt g e old new → FollowsJournals new
-    at None k = subst FollowsJournals (sym k) s
-    at (Some e) k = by e.slot (names_at old.followed g) k
-
-pub served-follows : (g : ℕ) (e : Event) (r : Result (Vec Out Global) Refusal) (old new : Hosting) → FollowsJournals old → IsServed g e r old new → FollowsJournals new
-served-follows g e r old new s h = heard-of-follows (is_in old.named.served g) g (items_of r) h.0 new (applied-follows g e r old h.0 s h.1) h.2
-
-delivered-follows : (g : ℕ) (bytes : Bytes) (us : List ℕ) (old new : Hosting) (rs : List (Result (Vec Out Global) Refusal)) → FollowsJournals old → AreDelivered g bytes us old rs new → FollowsJournals new
-delivered-follows g bytes us old new rs s none_left = s
-delivered-follows g bytes us old new rs s (next_node {u = u} r one rest) = delivered-follows g bytes _ _ new _ (served-follows g (event.Deliver u bytes) r old _ s one) rest
-
-all-delivered-follows : (g : ℕ) (bytes : Bytes) (names : Option (List ℕ)) (old new : Hosting) (rs : List (Result (Vec Out Global) Refusal)) → FollowsJournals old → AreDeliveredTo g bytes names old rs new → FollowsJournals new
-all-delivered-follows g bytes None old new rs s h = subst FollowsJournals (sym h.0) s
-all-delivered-follows g bytes (Some names) old new rs s h = delivered-follows g bytes names old new rs s h
+pub events-follow : EventsKeep FollowsJournals
+events-follow = record { applied = applied-follows; over = λ g slot h s. record { room = s.room; slots = handed-follows g slot h.logs h.followed s.slots } }
 
 -- ---- a network that is taken back
 
@@ -492,11 +426,10 @@ module _ (g : ℕ) (old : Hosting) (n : Named) (f : Followed) (s : FollowsJourna
       go true e = subst (λ (o : Option OpenSlots). AreSlotsAt None o) (sym (ap (at_number f) (sym (eqb-true g j e)) ∙ followed.gone)) tt
       go false e = subst (λ (o : Option OpenSlots). AreSlotsAt (log_at old.logs j) o) (sym (followed.others j (is-at g j ∙ e))) (s.slots j)
 
-dropped-follows : (b : Bool) (g : ℕ) (old new : Hosting) (text : Bytes) → FollowsJournals old → IsDropped b g old text new → FollowsJournals new
-dropped-follows false g old new text s h = subst FollowsJournals (sym h.1) s
-dropped-follows true g old new text s h = record {
-  room = subst (λ (x : Waiting × List Log). HaveRoom x.0 new.named x.1) (λ i. (sym h.1.waiting i, sym h.1.logs i)) (room-without g old new.named new.followed s h.1.named h.1.followed);
-  slots = subst (λ (x : List Log). AreFollowed x new.followed) (sym h.1.logs) (slots-without g old new.named new.followed s h.1.named h.1.followed);
+taken-back-follows : (g : ℕ) (old new : Hosting) → FollowsJournals old → IsTakenBack g old new → FollowsJournals new
+taken-back-follows g old new s h = record {
+  room = subst (λ (x : Waiting × List Log). HaveRoom x.0 new.named x.1) (λ i. (sym h.waiting i, sym h.logs i)) (room-without g old new.named new.followed s h.named h.followed);
+  slots = subst (λ (x : List Log). AreFollowed x new.followed) (sym h.logs) (slots-without g old new.named new.followed s h.named h.followed);
 }
 
 -- ---- a line, and all lines
@@ -510,14 +443,16 @@ declared-follows g d n old new s room h = record {
   slots = subst (λ (x : List Log × Followed). AreFollowed x.0 x.1) (λ i. (sym h.logs i, sym h.followed i)) s.slots;
 }
 
-pub line-follows : (old new : Hosting) (fields : List Bytes) (printed : Option Bytes) → FollowsJournals old → Tells old fields printed new → FollowsJournals new
-line-follows old new fields printed s (declared g d ordered h) = declared-follows g d old.named old new s (declared-room g d old.waiting new.waiting old.named old.logs h.taken h.prepared s.room) h
-line-follows old new fields printed s (declared_served g b ordered h) =
-    declared-follows g (Net b) (served_with g old.named) old new s (served-room g new.waiting old.named old.logs (declared-room g (Net b) old.waiting new.waiting old.named old.logs h.taken h.prepared s.room)) h
-line-follows old new fields printed s (answered g e ordered may put) = served-follows g e put.1 put.0 new (begun-follows g old put.0 s put.2) put.3
-line-follows old new fields printed s (settled g slot ordered may done) = settled-follows g slot _ _ done.0 new done.1 (begun-follows g old done.0 s done.2) done.3
-line-follows old new fields printed s (delivered g bytes rs ordered may done) = all-delivered-follows g bytes (names_at done.0.followed g) done.0 new rs (begun-follows g old done.0 s done.1) done.2
-line-follows old new fields printed s (dropped g ordered may done) = dropped-follows (is_declared old.waiting old.named g) g old new _ s done
+pub lines-follow : LinesKeep FollowsJournals
+lines-follow = record {
+  begun = begun-follows;
+  declared = λ g d old new s h. declared-follows g d old.named old new s (declared-room g d old.waiting new.waiting old.named old.logs h.taken h.prepared s.room) h;
+  serves = λ g b old new s h.
+      declared-follows g (Net b) (served_with g old.named) old new s (served-room g new.waiting old.named old.logs (declared-room g (Net b) old.waiting new.waiting old.named old.logs h.taken h.prepared s.room)) h;
+  served = served-keeps FollowsJournals events-follow;
+  settled = λ g slot ended old new plain s h. settled-keeps FollowsJournals g slot (at-slot FollowsJournals events-follow g slot) _ _ old new ended s h;
+  taken_back = taken-back-follows;
+}
 
 pub first-follows : FollowsJournals new_hosting
 first-follows = record {
@@ -526,17 +461,7 @@ first-follows = record {
 }
 
 pub lines_follow_journals : LinesFollowJournals
-lines_follow_journals = (first-follows, line-follows)
-
-pub passed-follows : (s t : Hosting) (line written : Bytes) → FollowsJournals s → Passes Tells s line written t → FollowsJournals t
-passed-follows s t line written h (skipped empty) = h
-passed-follows s t line written h (told runs are tells) = line-follows s t _ _ h tells
-
-runs-follow : (s t : Hosting) (lines : List (ℕ × Bytes)) (printed : Bytes) (end : Result (Unit {0}) Stop) → FollowsJournals s → end ≡ Ok tt → Runs Tells RefusesLine s lines printed end t → FollowsJournals t
-runs-follow s t lines printed end h ok ends = h
-runs-follow s t lines printed end h ok (next passes more) = runs-follow _ t _ _ end (passed-follows s _ _ _ h passes) ok more
-runs-follow s t lines printed end h ok (bad fails) = absurd (no-ok _ _ (sym ok))
-runs-follow s t lines printed end h ok short = absurd (no-ok _ _ (sym ok))
+lines_follow_journals = (first-follows, line-keeps FollowsJournals lines-follow)
 
 pub runs_follow_journals : RunsFollowJournals
-runs_follow_journals text before after new run = runs-follow new_hosting new (enumerate_from 1 run.lines) run.printed (Ok tt) first-follows refl run.ran
+runs_follow_journals text before after new run = runs-keep FollowsJournals lines-follow text before after new first-follows run

@@ -1,9 +1,9 @@
 pub mod BadLines
 mod Hearings
+mod Keeping
 mod JoiningLaws
 mod Origins
 mod Places
-mod UnprintedLines
 mod NumberedRows
 mod SlotsByEntries
 mod OutsAtPlaces

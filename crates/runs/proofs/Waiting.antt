@@ -2,18 +2,12 @@
 use Rattle.std.proofs.Common.{◌≡◌, ◌∙◌, ◌==◌, ◌⊎◌, ◌||◌, ℕ, Bool, true, false, not, nat_lt, List, [], Option, Some, None, Ok, Err, is_some, if◌then◌else◌, inl, inr, refl, sym, ap, subst}
 use Rattle.std.specs.Prelude.{Result, Vec, fold, option_and_then, option_map}
 use Rattle.std.specs.Global.{Global}
-use Rattle.std.specs.List.{enumerate_from}
 use Rattle.std.proofs.lemmas.Bool.{eqb-true, false≢true, not-true, and_parts, or_parts}
-use Rattle.scripts.specs.Script.{Bytes}
-use Rattle.scripts.specs.Runs.{Passes, Runs}
-use Rattle.scripts.specs.Runs.Passes.{skipped, told}
-use Rattle.scripts.specs.Runs.Runs.{ends, next, bad, short}
-use Rattle.scripts.specs.declared.run.Stop.{Stop}
 use Rattle.types.specs.Statements.{Sent}
 use Rattle.types.specs.declared.event.Event.{Event}
-use Rattle.types.specs.declared.event.Event.TheVariants as event
 use Rattle.types.specs.declared.event.Out.{Out}
 use Rattle.types.specs.declared.event.Refusal.{Refusal}
+use Rattle.protocol.specs.Networks.{Budgets}
 use Rattle.protocol.specs.Networks.Step.{Hears}
 use Rattle.protocol.specs.Hosts.{Config, new_net}
 use Rattle.protocol.specs.Runs.{state_of}
@@ -22,28 +16,25 @@ use Rattle.network.specs.declared.plan.Emission.{Emission}
 use Rattle.hoststep.specs.Logs.{Log}
 use Rattle.world.specs.Worlds.{IsAnsweredAt, items_of, log_at}
 use Rattle.requests.specs.declared.request.Declaration.{Declaration}
+use Rattle.requests.specs.declared.request.Declaration.TheVariants.{Net}
 use Rattle.requests.specs.Naming.{Named, is_in, named_with, served_with}
 use Rattle.requests.specs.Outlines.{Outlined, waiting_at}
-use Rattle.requests.specs.Taking.{declared_count, is_declared}
+use Rattle.requests.specs.Taking.{declared_count, is_declared, takes}
 use Rattle.runs.specs.declared.followed.Turn.{Turn}
 use Rattle.runs.specs.declared.followed.Turn.TheVariants.{Opens, Closes, Within}
-use Rattle.runs.specs.Emissions.{OpenSlot, OpenSlots, at_number, changed_at, first_emitted, given_out, given_out_by, handed_on, just_opened, waits}
-use Rattle.runs.specs.Followed.{Followed, after_turn, also_followed, names_at, turn_of, waiting, with_handed}
+use Rattle.runs.specs.Emissions.{OpenSlots, at_number, changed_at, first_emitted, given_out, given_out_by, handed_on, just_opened, waits}
+use Rattle.runs.specs.Followed.{Followed, after_turn, also_followed, turn_of, waiting, with_handed}
 use Rattle.runs.specs.Hosting.{Hosting, IsApplied, IsBegun, logs_joined, new_hosting, noted_answer}
 use Rattle.runs.specs.Joining.{NetworkIsNamedAt}
-use Rattle.runs.specs.Settling.{AreHandedOn, HasSettledAt, IsHeardBy, handed_over, hearing}
-use Rattle.runs.specs.Settling.IsHeardBy.{by_all, by_one, refused}
-use Rattle.runs.specs.Settling.AreHandedOn.{none_waits, one_waits, cut_short}
-use Rattle.runs.specs.ServedNetworks.{AllIsHeard as heard, AreDelivered, AreDeliveredTo, AreTold, IsDropped, IsHeardAt, IsHeardByOthers, IsHeardOf, IsServed}
-use Rattle.runs.specs.ServedNetworks.AreDelivered.{next_node, none_left}
-use Rattle.runs.specs.ServedNetworks.AreTold.{all_told, one_told}
-use Rattle.runs.specs.Running.{IsDeclaredSo, RefusesLine, Tells}
-use Rattle.runs.specs.Running.Tells.{declared, declared_served, answered, settled, delivered, dropped}
+use Rattle.runs.specs.Settling.{HasSettled, hearing}
+use Rattle.runs.specs.ServedNetworks.{AllIsHeard as heard, IsHeardAt, IsHeardByOthers, IsHeardOf, IsServed, IsTakenBack}
+use Rattle.runs.specs.Running.{IsDeclaredSo}
 use Rattle.runs.specs.ByJournals.{AreSlotsAt, FollowsJournals, LinesLeaveNothing, NothingWaits, RunsLeaveNothing, StandOnce}
 use Rattle.runs.proofs.NumberedRows.{at-changed, at-inserted, at-removed, has-inserted, is-at}
 use Rattle.runs.proofs.OutsAtPlaces.{IsGivenBy, effect-given, run-in-place}
 use Rattle.runs.proofs.NetsByEntries.{first-from}
-use Rattle.runs.proofs.FollowedLaws.{applied-follows, begun-follows, heard-follows, over-follows, passed-follows, first-follows, served-follows, told-follows}
+use Rattle.runs.proofs.FollowedLaws.{applied-follows, events-follow, first-follows, lines-follow}
+use Rattle.runs.proofs.Keeping.{EventsKeep, HearingsKeep, LinesKeep, all-heard-keeps, at-slot, line-keeps, runs-keep, served-keeps, settled-keeps}
 
 -- what waits at a slot, by the slots of the network
 abbrev waits_in : Option OpenSlots → ℕ → Option Emission
@@ -133,37 +124,30 @@ handed-leaves g slot j i f apart none = ap (λ (m : Option OpenSlots). waits_in 
     go true is (inl other) = absurd (false≢true (sym other ∙ is))
     go true is (inr other) = within (at_number f j) other none
 
-heard-leaves : (g slot : ℕ) (e : Emission) (us : List ℕ) (old new : Hosting) (ended : Option Refusal) (j i : ℕ) → FollowsJournals old → IsApart g slot j i → IsHeardBy g slot e us old ended new
-    → waiting old.followed j i ≡ None → waiting new.followed j i ≡ None
-heard-leaves g slot e us old new ended j i s apart by_all none = none
-heard-leaves g slot e us old new ended j i s apart (by_one {u = u} {now = now} outs answer rest) none =
-    heard-leaves g slot e _ now new ended j i (applied-follows g (hearing slot u e) (Ok outs) old now s answer) apart rest
-    (applied-leaves g (hearing slot u e) (Ok outs) old now j i s answer else_where none)
+-- what is kept of open slots is what the journals have, and nothing waits at that slot of that network
+abbrev NoneAt : ℕ → ℕ → Hosting → Type 0
+NoneAt j i h = FollowsJournals h × (waiting h.followed j i ≡ None)
+
+heard-leaves : (g slot j i : ℕ) → IsApart g slot j i → (u : ℕ) (e : Emission) (r : Result (Vec Out Global) Refusal) (old new : Hosting) → NoneAt j i old → IsApplied g (hearing slot u e) r old new → NoneAt j i new
+heard-leaves g slot j i apart u e r old new p h =
+    (applied-follows g (hearing slot u e) r old new p.0 h, applied-leaves g (hearing slot u e) r old new j i p.0 h (else_where r h apart) p.1)
   where
-    else_where : (os : List Out) → ◌≡◌ {A = Result (List Out) Refusal} (Ok outs.items) (Ok os) → IsElsewhere g os j i
-    else_where os is = by apart
-      where
-        same : outs.items ≡ os
-        same = cc
+    else_where : (r : Result (Vec Out Global) Refusal) → IsApplied g (hearing slot u e) r old new → IsApart g slot j i → (os : List Out) → items_of r ≡ Ok os → IsElsewhere g os j i
+    else_where (Err x) h apart os is = absurd (no-answer os x (sym is))
+    else_where (Ok outs) h (inl other) os is = inl other
+    else_where (Ok outs) h (inr other) os is =
+        let same : outs.items ≡ os = cc in
+        inr (λ x first. ap (λ k. k == i) (heard-there g slot u e old new outs x h (ap first_emitted same ∙ first)) ∙ other)
 
-        by : IsApart g slot j i → IsElsewhere g os j i
-        by (inl other) = inl other
-        by (inr other) = inr (λ x first. ap (λ k. k == i) (heard-there g slot u e old now outs x answer (ap first_emitted same ∙ first)) ∙ other)
-heard-leaves g slot e us old new ended j i s apart (refused {u = u} r answer) none =
-    applied-leaves g (hearing slot u e) (Err r) old new j i s answer (λ os is. absurd (no-answer os r (sym is))) none
-
-told-leaves : (g slot : ℕ) (e : Emission) (us : List ℕ) (old new : Hosting) (j i : ℕ) → FollowsJournals old → IsApart g slot j i → AreTold g slot e us old new
-    → waiting old.followed j i ≡ None → waiting new.followed j i ≡ None
-told-leaves g slot e us old new j i s apart all_told none = none
-told-leaves g slot e us old new j i s apart (one_told ended heard memory rest) none =
-    told-leaves g slot e _ _ new j i (heard-follows g slot e _ old _ ended s heard) apart rest (heard-leaves g slot e _ old _ ended j i s apart heard none)
+hearings-leave : (g slot j i : ℕ) → IsApart g slot j i → HearingsKeep (NoneAt j i) g slot
+hearings-leave g slot j i apart = record {
+  hears = heard-leaves g slot j i apart;
+  over = λ h p. (events-follow.over g slot h p.0, handed-leaves g slot j i h.followed apart p.1);
+}
 
 all-heard-leaves : (g slot : ℕ) (names : List ℕ) (old new : Hosting) (j i : ℕ) → FollowsJournals old → IsApart g slot j i → heard g slot names old new
     → waiting old.followed j i ≡ None → waiting new.followed j i ≡ None
-all-heard-leaves g slot names old new j i s apart (heard.none_waits nothing) none = none
-all-heard-leaves g slot names old new j i s apart (heard.one_waits {now = now} e is each rest) none =
-    all-heard-leaves g slot names (handed_over g slot None now) new j i (over-follows g slot None now (told-follows g slot e names old now s each)) apart rest
-    (handed-leaves g slot j i now.followed apart (told-leaves g slot e names old now j i s apart each none))
+all-heard-leaves g slot names old new j i s apart h none = (all-heard-keeps (NoneAt j i) g slot (hearings-leave g slot j i apart) names old new (s, none) h).1
 
 -- at the slot itself nothing waits when all is heard
 all-heard-ends : (g slot : ℕ) (names : List ℕ) (old new : Hosting) → heard g slot names old new → waiting new.followed g slot ≡ None
@@ -172,40 +156,12 @@ all-heard-ends g slot names old new (heard.one_waits e is each rest) = all-heard
 
 -- ---- which networks are served
 
-heard-named : (g slot : ℕ) (e : Emission) (us : List ℕ) (old new : Hosting) (ended : Option Refusal) → IsHeardBy g slot e us old ended new → new.named ≡ old.named
-heard-named g slot e us old new ended by_all = refl
-heard-named g slot e us old new ended (by_one outs answer rest) = heard-named g slot e _ _ new ended rest ∙ answer.2.1
-heard-named g slot e us old new ended (refused r answer) = answer.2.1
+-- the numbers are these
+abbrev AreNamed : Named → Hosting → Type 0
+AreNamed n h = h.named ≡ n
 
-told-named : (g slot : ℕ) (e : Emission) (us : List ℕ) (old new : Hosting) → AreTold g slot e us old new → new.named ≡ old.named
-told-named g slot e us old new all_told = refl
-told-named g slot e us old new (one_told ended heard memory rest) = told-named g slot e _ _ new rest ∙ heard-named g slot e _ old _ ended heard
-
-all-heard-named : (g slot : ℕ) (names : List ℕ) (old new : Hosting) → heard g slot names old new → new.named ≡ old.named
-all-heard-named g slot names old new (heard.none_waits nothing) = refl
-all-heard-named g slot names old new (heard.one_waits {now = now} e is each rest) = all-heard-named g slot names (handed_over g slot None now) new rest ∙ told-named g slot e names old now each
-
-besides-named : (g slot : ℕ) (names : Option (List ℕ)) (old new : Hosting) → IsHeardByOthers g slot names old new → new.named ≡ old.named
-besides-named g slot None old new h = ap (λ (x : Hosting). x.named) h
-besides-named g slot (Some names) old new h = all-heard-named g slot names old new h
-
-heard-at-named : (g : ℕ) (e : Option Sent) (old new : Hosting) → IsHeardAt g e old new → new.named ≡ old.named
-heard-at-named g None old new h = ap (λ (x : Hosting). x.named) h
-heard-at-named g (Some e) old new h = besides-named g e.slot (names_at old.followed g) old new h
-
-heard-of-named : (b : Bool) (g : ℕ) (r : Result (List Out) Refusal) (old new : Hosting) → IsHeardOf b g r old new → new.named ≡ old.named
-heard-of-named false g r old new h = ap (λ (x : Hosting). x.named) h
-heard-of-named true g (Err r) old new h = ap (λ (x : Hosting). x.named) h
-heard-of-named true g (Ok os) old new h = heard-at-named g (first_emitted os) old new h
-
-served-named : (g : ℕ) (e : Event) (r : Result (Vec Out Global) Refusal) (old new : Hosting) → IsServed g e r old new → new.named ≡ old.named
-served-named g e r old new h = heard-of-named (is_in old.named.served g) g (items_of r) h.0 new h.2 ∙ h.1.2.1
-
-handed-on-named : (g slot : ℕ) (names : List ℕ) (old new : Hosting) (ended : Option Refusal) → AreHandedOn g slot names old ended new → new.named ≡ old.named
-handed-on-named g slot names old new ended (none_waits none) = refl
-handed-on-named g slot names old new ended (one_waits {now = now} e is h rest) =
-    handed-on-named g slot names now new ended rest ∙ (ap (λ (x : Hosting). x.named) h.2 ∙ heard-named g slot e _ old h.0 None h.1)
-handed-on-named g slot names old new ended (cut_short e r is h) = ap (λ (x : Hosting). x.named) h.2 ∙ heard-named g slot e _ old h.0 (Some r) h.1
+events-name : (n : Named) → EventsKeep (AreNamed n)
+events-name n = record { applied = λ g e r old new same h. h.2.1 ∙ same; over = λ g slot h same. same }
 
 -- ---- a served network and others
 
@@ -271,35 +227,13 @@ module _ (g : ℕ) (e : Event) (r : Result (Vec Out Global) Refusal) (old now : 
 
 served-leaves : (g : ℕ) (e : Event) (r : Result (Vec Out Global) Refusal) (old new : Hosting) → FollowsJournals old → NothingWaits old → IsServed g e r old new → NothingWaits new
 served-leaves g e r old new s nothing h j i is =
-    of-answer g e r old h.0 s nothing h.1 new j i (ap (λ (n : Named). is_in n.served j) (sym (served-named g e r old new h)) ∙ is) (items_of r) refl (is_in old.named.served g) refl h.2
+    of-answer g e r old h.0 s nothing h.1 new j i (ap (λ (n : Named). is_in n.served j) (sym (served-keeps (AreNamed old.named) (events-name old.named) g e r old new refl h)) ∙ is) (items_of r) refl (is_in old.named.served g) refl h.2
 
-delivered-leaves : (g : ℕ) (bytes : Bytes) (us : List ℕ) (old new : Hosting) (rs : List (Result (Vec Out Global) Refusal)) → FollowsJournals old → NothingWaits old → AreDelivered g bytes us old rs new → NothingWaits new
-delivered-leaves g bytes us old new rs s nothing none_left = nothing
-delivered-leaves g bytes us old new rs s nothing (next_node {u = u} r one rest) =
-    delivered-leaves g bytes _ _ new _ (served-follows g (event.Deliver u bytes) r old _ s one) (served-leaves g (event.Deliver u bytes) r old _ s nothing one) rest
-
-all-delivered-leaves : (g : ℕ) (bytes : Bytes) (names : Option (List ℕ)) (old new : Hosting) (rs : List (Result (Vec Out Global) Refusal)) → FollowsJournals old → NothingWaits old → AreDeliveredTo g bytes names old rs new → NothingWaits new
-all-delivered-leaves g bytes None old new rs s nothing h = subst NothingWaits (sym h.0) nothing
-all-delivered-leaves g bytes (Some names) old new rs s nothing h = delivered-leaves g bytes names old new rs s nothing h
-
--- ---- a line that settles
-
-handed-on-leaves : (g slot : ℕ) (names : List ℕ) (old new : Hosting) (ended : Option Refusal) (j i : ℕ) → FollowsJournals old → (g == j) ≡ false → AreHandedOn g slot names old ended new
-    → waiting old.followed j i ≡ None → waiting new.followed j i ≡ None
-handed-on-leaves g slot names old new ended j i s other (none_waits none) w = w
-handed-on-leaves g slot names old new ended j i s other (one_waits {now = now} e is h rest) w =
-    handed-on-leaves g slot names now new ended j i (subst FollowsJournals (sym h.2) (over-follows g slot None h.0 (heard-follows g slot e _ old h.0 None s h.1))) other rest
-    (ap (λ (x : Hosting). waiting x.followed j i) h.2 ∙ handed-leaves g slot j i h.0.followed (inl other) (heard-leaves g slot e _ old h.0 None j i s (inl other) h.1 w))
-handed-on-leaves g slot names old new ended j i s other (cut_short e r is h) w =
-    ap (λ (x : Hosting). waiting x.followed j i) h.2 ∙ heard-leaves g slot e _ old h.0 (Some r) j i s (inl other) h.1 w
-
-settled-leaves : (g slot : ℕ) (names : Option (List ℕ)) (o : Option OpenSlot) (old new : Hosting) (ended : Option Refusal) → FollowsJournals old → NothingWaits old → is_in old.named.served g ≡ false
-    → HasSettledAt g slot names o old ended new → NothingWaits new
-settled-leaves g slot None o old new ended s nothing plain h = subst NothingWaits (sym h.0) nothing
-settled-leaves g slot (Some names) None old new ended s nothing plain h = subst NothingWaits (sym h.0) nothing
-settled-leaves g slot (Some names) (Some o) old new ended s nothing plain h = λ j i is.
-    let before : is_in old.named.served j ≡ true = ap (λ (n : Named). is_in n.served j) (sym (handed-on-named g slot names old new ended h)) ∙ is in
-    handed-on-leaves g slot names old new ended j i s (another old.named.served g j plain before) h (nothing j i before)
+settled-leaves : (g slot : ℕ) (ended : Option Refusal) (old new : Hosting) → FollowsJournals old → NothingWaits old → is_in old.named.served g ≡ false → HasSettled g slot old ended new → NothingWaits new
+settled-leaves g slot ended old new s nothing plain h j i is =
+    let named : new.named ≡ old.named = settled-keeps (AreNamed old.named) g slot (at-slot (AreNamed old.named) (events-name old.named) g slot) _ _ old new ended refl h in
+    let before : is_in old.named.served j ≡ true = ap (λ (n : Named). is_in n.served j) (sym named) ∙ is in
+    (settled-keeps (NoneAt j i) g slot (hearings-leave g slot j i (inl (another old.named.served g j plain before))) _ _ old new ended (s, nothing j i before) h).1
 
 -- ---- other lines
 
@@ -317,22 +251,14 @@ begun-leaves g old new nothing h = go (waiting_at old.waiting g) h.0 h.1
         by j c true i w = refl
         by j c false i w = w
 
-begun-served : (g j : ℕ) (old new : Hosting) → IsBegun g old new → is_in new.named.served j ≡ is_in old.named.served j
-begun-served g j old new h = go (waiting_at old.waiting g) h.1
+taken-back-leaves : (g : ℕ) (old new : Hosting) → NothingWaits old → IsTakenBack g old new → NothingWaits new
+taken-back-leaves g old new nothing h j i is = go (g == j) refl
   where
-    go : (o : Option Outlined) → new.named ≡ named_with g o old.named → is_in new.named.served j ≡ is_in old.named.served j
-    go None named = ap (λ (n : Named). is_in n.served j) named
-    go (Some d) named = ap (λ (n : Named). is_in n.served j) named
-
-dropped-leaves : (b : Bool) (g : ℕ) (old new : Hosting) (text : Bytes) → NothingWaits old → IsDropped b g old text new → NothingWaits new
-dropped-leaves false g old new text nothing h = subst NothingWaits (sym h.1) nothing
-dropped-leaves true g old new text nothing h = λ j i is. go j i is (g == j) refl
-  where
-    go : (j i : ℕ) → is_in new.named.served j ≡ true → (b : Bool) → (g == j) ≡ b → waiting new.followed j i ≡ None
-    go j i is true k = absurd (false≢true (sym h.1.named.served.gone ∙ (ap (is_in new.named.served) (eqb-true g j k) ∙ is)))
-    go j i is false k =
-        ap (λ (m : Option OpenSlots). waits_in m i) (h.1.followed.others j (is-at g j ∙ k))
-        ∙ nothing j i (sym (h.1.named.served.others j (is-at g j ∙ k)) ∙ is)
+    go : (b : Bool) → (g == j) ≡ b → waiting new.followed j i ≡ None
+    go true k = absurd (false≢true (sym h.named.served.gone ∙ (ap (is_in new.named.served) (eqb-true g j k) ∙ is)))
+    go false k =
+        ap (λ (m : Option OpenSlots). waits_in m i) (h.followed.others j (is-at g j ∙ k))
+        ∙ nothing j i (sym (h.named.served.others j (is-at g j ∙ k)) ∙ is)
 
 declared-leaves : (g : ℕ) (d : Declaration) (old new : Hosting) → NothingWaits old → IsDeclaredSo g d old.named old new → NothingWaits new
 declared-leaves g d old new nothing h = λ j i is.
@@ -353,39 +279,29 @@ declared-served-leaves g old new s nothing fresh named followed = λ j i is.
         subst (λ n. waiting old.followed n i ≡ None) (eqb-true g j k) (not-followed (log_at old.logs g) (at_number old.followed g) i (s.room.joined g ∙ fresh) (s.slots g))
     go j i is false k = nothing j i (sym (ap (λ b. b || is_in old.named.served j) k) ∙ is)
 
-line-leaves : (old new : Hosting) (fields : List Bytes) (printed : Option Bytes) → FollowsJournals old → NothingWaits old → Tells old fields printed new → NothingWaits new
-line-leaves old new fields printed s nothing (declared g d ordered h) = declared-leaves g d old new nothing h
-line-leaves old new fields printed s nothing (declared_served g b ordered h) = declared-served-leaves g old new s nothing not-running h.named_is h.followed
-  where
-    not-running : is_in old.named.running g ≡ false
-    not-running =
-        let taken = and_parts (not (is_declared old.waiting old.named g)) (nat_lt (declared_count old.waiting old.named) 4096) h.taken in
-        (or_parts (is_some (waiting_at old.waiting g)) (is_in old.named.running g) (not-true (is_declared old.waiting old.named g) taken.0)).1
-line-leaves old new fields printed s nothing (answered g e ordered may put) = served-leaves g e put.1 put.0 new (begun-follows g old put.0 s put.2) (begun-leaves g old put.0 nothing put.2) put.3
-line-leaves old new fields printed s nothing (settled g slot ordered may done) =
-    settled-leaves g slot _ _ done.0 new done.1 (begun-follows g old done.0 s done.2) (begun-leaves g old done.0 nothing done.2) (begun-served g g old done.0 done.2 ∙ may) done.3
-line-leaves old new fields printed s nothing (delivered g bytes rs ordered may done) =
-    all-delivered-leaves g bytes (names_at done.0.followed g) done.0 new rs (begun-follows g old done.0 s done.1) (begun-leaves g old done.0 nothing done.1) done.2
-line-leaves old new fields printed s nothing (dropped g ordered may done) = dropped-leaves (is_declared old.waiting old.named g) g old new _ nothing done
+new-is-not-running : (g : ℕ) (ws : List (ℕ × Outlined)) (n : Named) (b : Budgets) → takes ws n g (Net b) ≡ true → is_in n.running g ≡ false
+new-is-not-running g ws n b h =
+    let taken = and_parts (not (is_declared ws n g)) (nat_lt (declared_count ws n) 4096) h in
+    (or_parts (is_some (waiting_at ws g)) (is_in n.running g) (not-true (is_declared ws n g) taken.0)).1
+
+abbrev LeavesNothing : Hosting → Type 0
+LeavesNothing h = FollowsJournals h × NothingWaits h
+
+lines-leave : LinesKeep LeavesNothing
+lines-leave = record {
+  begun = λ g old new p h. (lines-follow.begun g old new p.0 h, begun-leaves g old new p.1 h);
+  declared = λ g d old new p h. (lines-follow.declared g d old new p.0 h, declared-leaves g d old new p.1 h);
+  serves = λ g b old new p h. (lines-follow.serves g b old new p.0 h, declared-served-leaves g old new p.0 p.1 (new-is-not-running g old.waiting old.named b h.taken) h.named_is h.followed);
+  served = λ g e r old new p h. (lines-follow.served g e r old new p.0 h, served-leaves g e r old new p.0 p.1 h);
+  settled = λ g slot ended old new plain p h. (lines-follow.settled g slot ended old new plain p.0 h, settled-leaves g slot ended old new p.0 p.1 plain h);
+  taken_back = λ g old new p h. (lines-follow.taken_back g old new p.0 h, taken-back-leaves g old new p.1 h);
+}
 
 first-leaves : NothingWaits new_hosting
 first-leaves g i is = refl
 
 pub lines_leave_nothing : LinesLeaveNothing
-lines_leave_nothing = (first-leaves, line-leaves)
-
-no-stop : {A B : Type 0} (x : A) (y : B) → ◌≡◌ {A = Result A B} (Ok x) (Err y) → ⊥
-no-stop x y h = cc
-
-passed-leaves : (s t : Hosting) (line written : Bytes) → FollowsJournals s → NothingWaits s → Passes Tells s line written t → NothingWaits t
-passed-leaves s t line written h nothing (skipped empty) = nothing
-passed-leaves s t line written h nothing (told runs are tells) = line-leaves s t _ _ h nothing tells
-
-runs-leave : (s t : Hosting) (lines : List (ℕ × Bytes)) (printed : Bytes) (end : Result (Unit {0}) Stop) → FollowsJournals s → NothingWaits s → end ≡ Ok tt → Runs Tells RefusesLine s lines printed end t → NothingWaits t
-runs-leave s t lines printed end h nothing ok ends = nothing
-runs-leave s t lines printed end h nothing ok (next passes more) = runs-leave _ t _ _ end (passed-follows s _ _ _ h passes) (passed-leaves s _ _ _ h nothing passes) ok more
-runs-leave s t lines printed end h nothing ok (bad fails) = absurd (no-stop _ _ (sym ok))
-runs-leave s t lines printed end h nothing ok short = absurd (no-stop _ _ (sym ok))
+lines_leave_nothing = (first-leaves, λ old new fields printed s nothing tells. (line-keeps LeavesNothing lines-leave old new fields printed (s, nothing) tells).1)
 
 pub runs_leave_nothing : RunsLeaveNothing
-runs_leave_nothing text before after new run = runs-leave new_hosting new (enumerate_from 1 run.lines) run.printed (Ok tt) first-follows first-leaves refl run.ran
+runs_leave_nothing text before after new run = (runs-keep LeavesNothing lines-leave text before after new (first-follows, first-leaves) run).1

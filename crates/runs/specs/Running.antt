@@ -2,23 +2,27 @@
 use Rattle.std.specs.Prelude.{◌≡◌, ℕ, true, false, List, Option, Some, None, Result, Vec}
 use Rattle.std.specs.Global.{Global}
 use Rattle.scripts.specs.Script.{Bytes}
-use Rattle.types.specs.declared.event.Event.{Event}
 use Rattle.types.specs.declared.event.Out.{Out}
 use Rattle.types.specs.declared.event.Refusal.{Refusal}
-use Rattle.protocol.specs.Networks.{Budgets}
 use Rattle.requests.specs.declared.request.Declaration.{Declaration}
 use Rattle.requests.specs.declared.request.Declaration.TheVariants.{Net}
 use Rattle.requests.specs.declared.request.Request.TheVariants.{Declare, Apply, Settle}
+use Rattle.requests.specs.declared.order.Order.{Order}
 use Rattle.requests.specs.declared.order.Order.TheVariants as order
 use Rattle.requests.specs.Naming.{Named, is_in, served_with}
 use Rattle.requests.specs.Ordering.{Orders}
 use Rattle.requests.specs.Preparing.{Prepares}
+use Rattle.requests.specs.Replies.{reply_text}
 use Rattle.requests.specs.Taking.{is_declared, takes}
 use Rattle.requests.specs.Telling.{BadLinesAreUntold, RefusesOrder, is_unserved, may_apply}
+use Rattle.world.specs.Worlds.{items_of}
+use Rattle.runs.specs.declared.outcome.Outcome.{Outcome}
+use Rattle.runs.specs.declared.outcome.Outcome.TheVariants.{Declared, Answer, Answers, Settled}
+use Rattle.runs.specs.Followed.{Followed, open_slot}
 use Rattle.runs.specs.Hosting.{Hosting, IsBegun}
 use Rattle.runs.specs.ReplyLines.{lines_of}
 use Rattle.runs.specs.ServedNetworks.{AreAllDelivered, IsDropped, IsPut}
-use Rattle.runs.specs.Settling.{IsSettled}
+use Rattle.runs.specs.Settling.{IsSettled, line_of}
 
 -- a declaration of the network of a number is taken, and nothing of the networks that joined changes; the numbers are these
 -- from then on
@@ -33,33 +37,39 @@ pub record IsDeclaredSo (g : ℕ) (d : Declaration) (named : Named) (old new : H
 abbrev pub IsPutToAll : ℕ → Bytes → Hosting → List (Result (Vec Out Global) Refusal) → Hosting → Type 0
 IsPutToAll g bytes old rs new = (begun : Hosting) × IsBegun g old begun × AreAllDelivered g bytes begun rs new
 
--- what a line tells. A declaration that is taken prints nothing and names nothing; one with the word `served` says
--- moreover that the network is. An event is put to its network, and the answer is printed; what others hear of it in a
--- served network prints nothing. A line that settles hands on what nodes have emitted, and prints the first refusal, or
--- what has been decided. Bytes for all nodes of a served network come to each of them, and each answer is printed. A served
--- network that is dropped is taken back.
-pub data Tells : Hosting → List Bytes → Option Bytes → Hosting → Type 0 where
-  declared : {old new : Hosting} {fields : List Bytes} (g : ℕ) (d : Declaration)
-      → Orders fields g (order.Request (Declare d)) → IsDeclaredSo g d old.named old new → Tells old fields None new
-  declared_served : {old new : Hosting} {fields : List Bytes} (g : ℕ) (b : Budgets)
-      → Orders fields g (order.Serve b) → IsDeclaredSo g (Net b) (served_with g old.named) old new
-      → Tells old fields None new
-  answered : {old new : Hosting} {fields : List Bytes} {text : Bytes} (g : ℕ) (e : Event)
-      → Orders fields g (order.Request (Apply e)) → may_apply old.named g e ≡ true
-      → IsPut g e old text new
-      → Tells old fields (Some text) new
-  settled : {old new : Hosting} {fields : List Bytes} {text : Bytes} (g slot : ℕ)
-      → Orders fields g (order.Request (Settle slot)) → is_in old.named.served g ≡ false
-      → IsSettled g slot old text new
-      → Tells old fields (Some text) new
-  delivered : {old new : Hosting} {fields : List Bytes} (g : ℕ) (bytes : Bytes)
-      (rs : List (Result (Vec Out Global) Refusal)) → Orders fields g (order.ForAll bytes)
-      → is_unserved old.waiting old.named g ≡ false → IsPutToAll g bytes old rs new
-      → Tells old fields (Some (lines_of rs)) new
-  dropped : {old new : Hosting} {fields : List Bytes} {text : Bytes} (g : ℕ) → Orders fields g order.Drop
-      → is_unserved old.waiting old.named g ≡ false
-      → IsDropped (is_declared old.waiting old.named g) g old text new
-      → Tells old fields (Some text) new
+-- what a line does that orders this of the network of a number, and what comes of it. A declaration that is taken names
+-- nothing; one with the word `served` says moreover that the network is. An event is put to its network. A line that
+-- settles hands on what nodes have emitted. Bytes for all nodes of a served network come to each of them. A served network
+-- that is dropped is taken back.
+abbrev pub Does : ℕ → Order → Hosting → Outcome → Hosting → Type 0
+Does g (order.Request (Declare d)) old Declared new = IsDeclaredSo g d old.named old new
+Does g (order.Request (Apply e)) old (Answer r) new = (may_apply old.named g e ≡ true) × IsPut g e old r new
+Does g (order.Request (Settle slot)) old (Settled i ended) new =
+    (is_in old.named.served g ≡ false) × IsSettled g slot old ended new × (i ≡ slot)
+Does g (order.Serve b) old Declared new = IsDeclaredSo g (Net b) (served_with g old.named) old new
+Does g (order.ForAll bytes) old (Answers rs) new =
+    (is_unserved old.waiting old.named g ≡ false) × IsPutToAll g bytes old rs.items new
+Does g order.Drop old (Answer r) new =
+    (is_unserved old.waiting old.named g ≡ false) × IsDropped (is_declared old.waiting old.named g) g old (items_of r) new
+Does g o old outcome new = ⊥
+
+-- a line with these fields does what it orders of the network of a number, and this comes of it
+abbrev pub IsCarriedOut : ℕ → List Bytes → Hosting → Outcome → Hosting → Type 0
+IsCarriedOut g fields old outcome new = (o : Order) × Orders fields g o × Does g o old outcome new
+
+-- what is printed of what came of a line, by what is followed after it: of a declaration nothing, of an event its answer, and
+-- of bytes for all nodes each answer; of a slot that settles the first refusal, or what has been decided. What others
+-- hear of an event in a served network prints nothing.
+abbrev pub printed_of : Outcome → ℕ → Followed → Option Bytes
+printed_of Declared g f = None
+printed_of (Answer r) g f = Some (reply_text (items_of r))
+printed_of (Answers rs) g f = Some (lines_of rs.items)
+printed_of (Settled slot ended) g f = Some (line_of ended (open_slot f g slot))
+
+-- what a line tells: what it orders is done, and what comes of it printed
+abbrev pub Tells : Hosting → List Bytes → Option Bytes → Hosting → Type 0
+Tells old fields printed new =
+    (g : ℕ) × (outcome : Outcome) × IsCarriedOut g fields old outcome new × (printed ≡ printed_of outcome g new.followed)
 
 -- a line is bad in a script of networks
 abbrev pub RefusesLine : Hosting → List Bytes → Type 0

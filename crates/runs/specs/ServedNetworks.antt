@@ -1,5 +1,5 @@
 -- What events of a served network do, and what others hear of them.
-use Rattle.std.specs.Prelude.{◌≡◌, ◌≢◌, ℕ, Bool, true, false, List, [], ◌∷◌, Option, Some, None, Result, Ok, Err, Vec, codes}
+use Rattle.std.specs.Prelude.{◌≡◌, ◌≢◌, ℕ, Bool, true, false, List, [], ◌∷◌, Option, Some, None, Result, Ok, Err, Vec}
 use Rattle.std.specs.Global.{Global}
 use Rattle.scripts.specs.Script.{Bytes}
 use Rattle.types.specs.Statements.{Sent}
@@ -14,7 +14,6 @@ use Rattle.requests.specs.Naming.{IsForgotten, is_in}
 use Rattle.requests.specs.Outlines.{waiting_without}
 use Rattle.runs.specs.Emissions.{first_emitted}
 use Rattle.runs.specs.Followed.{IsUnfollowed, names_at, waiting}
-use Rattle.requests.specs.Replies.{IsReply, refusal_text}
 use Rattle.runs.specs.Hosting.{Hosting, IsApplied, IsBegun}
 use Rattle.runs.specs.Settling.{IsHeardBy, handed_over, others}
 
@@ -58,11 +57,9 @@ abbrev pub IsServed : ℕ → Event → Result (Vec Out Global) Refusal → Host
 IsServed g e r old new =
     (now : Hosting) × IsApplied g e r old now × IsHeardOf (is_in old.named.served g) g (items_of r) now new
 
--- an event is put to the network of a number, which it may be the first to name, and the answer is printed
-abbrev pub IsPut : ℕ → Event → Hosting → Bytes → Hosting → Type 0
-IsPut g e old text new =
-    (begun : Hosting) × (r : Result (Vec Out Global) Refusal) × IsBegun g old begun × IsServed g e r begun new
-    × IsReply (items_of r) text
+-- an event is put to the network of a number, which it may be the first to name, and answered
+abbrev pub IsPut : ℕ → Event → Hosting → Result (Vec Out Global) Refusal → Hosting → Type 0
+IsPut g e old r new = (begun : Hosting) × IsBegun g old begun × IsServed g e r begun new
 
 -- ---- bytes for all nodes
 
@@ -93,7 +90,7 @@ pub record IsTakenBack (g : ℕ) (old new : Hosting) : Type 0 where
   pub followed : IsUnfollowed g old.followed new.followed
   pub logs : new.logs ≡ logs_without g old.logs
 
--- the network of a number is taken back, if lines have declared it; else that is the refusal
-abbrev pub IsDropped : Bool → ℕ → Hosting → Bytes → Hosting → Type 0
-IsDropped false g old text new = (text ≡ refusal_text NoSuchNetwork) × (new ≡ old)
-IsDropped true g old text new = (text ≡ codes "ok") × IsTakenBack g old new
+-- the network of a number is taken back, if lines have declared it, and nothing is given out; else that is the refusal
+abbrev pub IsDropped : Bool → ℕ → Hosting → Result (List Out) Refusal → Hosting → Type 0
+IsDropped false g old r new = (r ≡ Err NoSuchNetwork) × (new ≡ old)
+IsDropped true g old r new = (r ≡ Ok []) × IsTakenBack g old new

@@ -92,8 +92,6 @@ abbrev pub HasSettled : ℕ → ℕ → Hosting → Option Refusal → Hosting �
 HasSettled g slot old ended new =
     HasSettledAt g slot (names_at old.followed g) (open_slot old.followed g slot) old ended new
 
--- a slot of a network settles, by a line that may be the first that names it, and what came of it is printed
-abbrev pub IsSettled : ℕ → ℕ → Hosting → Bytes → Hosting → Type 0
-IsSettled g slot old text new =
-    (begun : Hosting) × (ended : Option Refusal) × IsBegun g old begun × HasSettled g slot begun ended new
-    × (text ≡ line_of ended (open_slot new.followed g slot))
+-- a slot of a network settles, by a line that may be the first that names it, with what ended it
+abbrev pub IsSettled : ℕ → ℕ → Hosting → Option Refusal → Hosting → Type 0
+IsSettled g slot old ended new = (begun : Hosting) × IsBegun g old begun × HasSettled g slot begun ended new

@@ -1,20 +1,14 @@
 -- Lines of scripts that are run for what becomes of the networks, and print nothing.
-use Rattle.std.specs.Prelude.{◌≡◌, ◌≢◌, ◌==◌, ◌&&◌, ◌++◌, ◌+◌, ℕ, Bool, not, nat_lt, length, All, List, [], ◌∷◌, Option, Some, None, Result, Err, Vec, unwrap_or, if◌then◌else◌}
-use Rattle.std.specs.Global.{Global}
+use Rattle.std.specs.Prelude.{◌≡◌, ◌≢◌, ◌==◌, ◌&&◌, ◌++◌, ◌+◌, ℕ, Bool, not, nat_lt, length, All, List, [], ◌∷◌, Option, Some, None, Err, unwrap_or, if◌then◌else◌}
 use Rattle.std.specs.List.{list_any}
 use Rattle.scripts.specs.Script.{Bytes}
-use Rattle.types.specs.declared.event.Event.{Event}
-use Rattle.types.specs.declared.event.Out.{Out}
-use Rattle.types.specs.declared.event.Refusal.{Refusal}
 use Rattle.types.specs.declared.event.Refusal.TheVariants.{NoMemory}
 use Rattle.hoststep.specs.Logs.{Log}
 use Rattle.world.specs.Worlds.{log_at}
-use Rattle.runs.specs.Hosting.{Hosting, IsBegun, IsFinished}
-use Rattle.runs.specs.Running.{RefusesLine, Tells}
-use Rattle.runs.specs.Running.Tells.{declared, declared_served, answered, settled, delivered, dropped}
-use Rattle.runs.specs.ServedNetworks.{IsServed}
-use Rattle.runs.specs.Settling.{HasSettled}
-use Rattle.requests.specs.Telling.{NamesNet}
+use Rattle.runs.specs.declared.outcome.Outcome.{Outcome}
+use Rattle.runs.specs.declared.outcome.Outcome.TheVariants.{Declared, Answer, Answers, Settled}
+use Rattle.runs.specs.Hosting.{Hosting, IsFinished}
+use Rattle.runs.specs.Running.{IsCarriedOut, RefusesLine}
 
 -- for each line that was run, in order, the network that it names, and how many entries the journal of that one has
 -- after it
@@ -26,36 +20,13 @@ pub record Unprinted : Type 0 where
   pub hosting : Hosting
   pub trace : Option Trace
 
--- no event of a line that is told was refused for want of memory: none that it asks for, and no hearing where it settles.
--- (Those that follow an event of a served network never were.)
-abbrev pub HadMemory : {old new : Hosting} {fields : List Bytes} {printed : Option Bytes}
-    → Tells old fields printed new → Type 0
-HadMemory (declared g d asked done) = Unit {0}
-HadMemory (declared_served g b asked done) = Unit {0}
-HadMemory (answered g e asked may put) = put.1 ≢ Err NoMemory
-HadMemory (settled g slot asked may done) = done.1 ≢ Some NoMemory
-HadMemory (delivered g bytes rs asked may done) = All (λ r. r ≢ Err NoMemory) rs
-HadMemory (dropped g asked may done) = Unit {0}
-
--- the line names the network of a number, and the networks after it are those after it in a script whose answers are
--- printed, where no event of the line was refused for want of memory
-pub record IsRunBy (g : ℕ) (fields : List Bytes) (old new : Hosting) : Type 0 where
-  pub names : NamesNet fields g
-  pub printed : Option Bytes
-  pub told : Tells old fields printed new
-  pub had_memory : HadMemory told
-
--- an event is put to the network of a number, whatever it answers but that memory is short
-abbrev pub IsPutUnprinted : ℕ → Event → Hosting → Hosting → Type 0
-IsPutUnprinted g e old new =
-    (begun : Hosting) × (r : Result (Vec Out Global) Refusal) × IsBegun g old begun × IsServed g e r begun new
-    × (r ≢ Err NoMemory)
-
--- a slot of the network of a number is to settle, whatever ends it but that memory is short
-abbrev pub IsSettledUnprinted : ℕ → ℕ → Hosting → Hosting → Type 0
-IsSettledUnprinted g slot old new =
-    (begun : Hosting) × (ended : Option Refusal) × IsBegun g old begun × HasSettled g slot begun ended new
-    × (ended ≢ Some NoMemory)
+-- no event of a line was refused for want of memory, by what came of it: none that it asks for, and no hearing where it
+-- settles. (Those that follow an event of a served network never were.)
+abbrev pub HadMemory : Outcome → Type 0
+HadMemory Declared = Unit {0}
+HadMemory (Answer r) = r ≢ Err NoMemory
+HadMemory (Answers rs) = All (λ r. r ≢ Err NoMemory) rs.items
+HadMemory (Settled slot ended) = ended ≢ Some NoMemory
 
 -- how many entries a journal has
 abbrev pub entries_in : Option Log → ℕ
@@ -67,10 +38,12 @@ abbrev pub trace_after : ℕ → List Log → Option Trace → Option Trace
 trace_after g logs None = None
 trace_after g logs (Some t) = Some (t ++ (g, entries_in (log_at logs g)) ∷ [])
 
--- what a line tells where nothing is printed
+-- what a line tells where nothing is printed: what it orders is done as in a script whose answers are printed, no event of it
+-- was refused for want of memory, and the trace has it
 abbrev pub TellsUnprinted : Unprinted → List Bytes → Option Bytes → Unprinted → Type 0
-TellsUnprinted old fields printed new = (g : ℕ) × (printed ≡ None) × IsRunBy g fields old.hosting new.hosting
-    × (new.trace ≡ trace_after g new.hosting.logs old.trace)
+TellsUnprinted old fields printed new =
+    (g : ℕ) × (outcome : Outcome) × IsCarriedOut g fields old.hosting outcome new.hosting × (printed ≡ None)
+    × HadMemory outcome × (new.trace ≡ trace_after g new.hosting.logs old.trace)
 
 -- a line is bad in a script that prints nothing, as in one whose answers are printed
 abbrev pub RefusesUnprinted : Unprinted → List Bytes → Type 0

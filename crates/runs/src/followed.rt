@@ -1,7 +1,6 @@
 //! The open slots of the networks of a script that run.
 
-ghost use Rattle.std.specs.Prelude.{◌≡◌, ◌<◌, ◌^◌, [], IfOk, IfSome, OnOk, is_some, option_map, string_bytes};
-ghost use Rattle.runs.specs.Emissions.{at_number};
+ghost use Rattle.std.specs.Prelude.{◌≡◌, ◌<◌, ◌^◌, [], IfOk, IfSome, OnOk, option_map, string_bytes};
 ghost use Rattle.runs.specs.Followed.{IsUnfollowed, followed_with, handed_at, names_at, followed_after, open_slot, turn_of, waiting, with_handed};
 ghost use Rattle.runs.specs.SettledLines.{settled_text};
 

@@ -1,29 +1,20 @@
 //! What runs the lines of a script of networks.
 
-ghost use Rattle.std.specs.Prelude.{◌≡◌, ◌≢◌, ◌<◌, ◌^◌, ◌∷◌, ◌++◌, [], All, Err, IfOk, IfSome, List, None, Ok, OnOk, Result, Some, Vec, false, is_some, map, option_map, string_bytes, true};
-ghost use Rattle.std.specs.Global.{Global};
+ghost use Rattle.std.specs.Prelude.{◌≡◌, ◌<◌, ◌^◌, ◌∷◌, [], Err, IfOk, IfSome, OnOk, is_some, map, option_map, string_bytes};
 ghost use Rattle.types.specs.declared.event.Event.TheVariants.{Hear};
-ghost use Rattle.types.specs.declared.event.Out.{Out};
-ghost use Rattle.types.specs.declared.event.Refusal.{Refusal};
-ghost use Rattle.types.specs.declared.event.Refusal.TheVariants.{NoMemory};
 ghost use Rattle.runs.specs.ByJournals.{KeptAreFound, LinesFollowJournals, LinesLeaveNothing, RunsFollowJournals, RunsLeaveNothing};
 ghost use Rattle.runs.specs.Followed.{handed_at, names_at, open_slot, waiting};
 ghost use Rattle.runs.specs.Hosting.{IsApplied, IsBegun, IsFinished, new_hosting};
-ghost use Rattle.runs.specs.ReplyLines.{lines_of};
-ghost use Rattle.runs.specs.ServedNetworks.{IsDropped, IsPut, IsTakenBack};
-ghost use Rattle.runs.specs.Unprinted.{IsPutUnprinted, IsRunBy, IsSettledUnprinted};
-ghost use Rattle.scripts.specs.Script.{Bytes as Text};
-ghost use Rattle.runs.specs.Running.{BadLinesTellNothing, IsPutToAll, RefusesLine, Tells};
-ghost use Rattle.requests.specs.Ordering.{Orders};
-ghost use Rattle.runs.specs.Settling.{AreHandedOn, HandedOnIsCounted, HasSettled, HeardWaitsOn, IsHanded, IsHeardBy, IsSettled, line_of, others};
-ghost use Rattle.requests.specs.Naming.{is_in};
-ghost use Rattle.requests.specs.Taking.{is_declared};
-ghost use Rattle.requests.specs.Telling.{HasNoNode, IsBadOrder, is_hearing as hears, is_unserved, may_apply};
+ghost use Rattle.runs.specs.ServedNetworks.{IsTakenBack};
+ghost use Rattle.runs.specs.Running.{BadLinesTellNothing, Does, IsCarriedOut, RefusesLine, printed_of};
+ghost use Rattle.runs.specs.Settling.{AreHandedOn, HandedOnIsCounted, HasSettled, HeardWaitsOn, IsHanded, IsHeardBy, others};
+ghost use Rattle.requests.specs.Telling.{HasNoNode, IsBadOrder, is_hearing as hears, may_apply};
 ghost use Rattle.requests.specs.declared.order.Order.TheVariants as order;
 ghost use Rattle.requests.specs.declared.request.Request.TheVariants.{Apply, Settle};
 
 use crate::followed::turn_of;
 use crate::nets::Nets;
+use crate::outcome::Outcome;
 use crate::replies::{replies, reply};
 use envstore::BoxShelf;
 use network::Emission;
@@ -67,8 +58,8 @@ impl HostRun {
         }
     }
 
-    /// The journals of the networks that an event has named, and after [`HostRun::finish`] of all that are
-    /// declared with nodes.
+    /// The journals of the networks that an event has named and no `drop` has taken back, and after
+    /// [`HostRun::finish`] of all that are declared with nodes.
     pub fn world(&self) -> &World<BoxShelf>
         ensures { result.now ≡ self.now.logs }
     {
@@ -84,111 +75,102 @@ impl HostRun {
         self.nets.finish(&mut self.world)
     }
 
-    /// Runs a line without saying what it answers, and gives the number of the network that it names. Where an
-    /// event of the line, or a hearing that follows, is refused for want of memory, memory is short.
-    pub(crate) fn run_unprinted(
+    /// Runs a line: the number of the network that it names, and what comes of it.
+    pub(crate) fn carry_out(
         &mut self,
         alloc: Global,
         fields: &[&[u8]],
-    ) -> Result<u32, LineError>
-        ensures told { IfOk result (λ g. IsRunBy g (map (λ field. field.now) fields.now) self.old self.new) }
+    ) -> Result<(u32, Outcome), LineError>
+        ensures done { IfOk result (λ r. IsCarriedOut r.0 (map (λ field. field.now) fields.now) self.old r.1 self.new) }
         ensures bad { result ≡ Err LineError.Bad → RefusesLine self.old (map (λ field. field.now) fields.now) }
     {
         let (number, order) = order_of(alloc, fields)?;
         match order {
-            Order::Request(request) => {
-                self.request_unprinted(alloc, number, request)?;
-                Ok(number)
-            }
+            Order::Request(request) => Ok((number, self.request(alloc, number, request)?)),
             Order::Serve(budgets) => {
                 self.nets.serve(number, budgets)?;
-                Ok(number)
+                Ok((number, Outcome::Declared))
             }
-            Order::ForAll(bytes) => {
-                self.put_to_all_unprinted(alloc, number, bytes)?;
-                Ok(number)
-            }
-            Order::Drop => {
-                let _line = self.take_back(alloc, number)?;
-                Ok(number)
-            }
+            Order::ForAll(bytes) => Ok((number, self.put_to_all(alloc, number, &bytes)?)),
+            Order::Drop => Ok((number, self.take_back(alloc, number)?)),
         }
     }
 
-    /// What lines may ask of any network, without saying what is answered.
-    fn request_unprinted(
+    /// What comes of what lines may ask of any network.
+    fn request(
         &mut self,
         alloc: Global,
         number: u32,
         request: Request,
-    ) -> Result<(), LineError>
-        ensures told { OnOk result ((fields : List Text) → Orders fields number (order.Request request) → IsRunBy number fields self.old self.new) }
+    ) -> Result<Outcome, LineError>
+        ensures done { IfOk result (λ outcome. Does number (order.Request request) self.old outcome self.new) }
         ensures bad { result ≡ Err LineError.Bad → IsBadOrder self.old.waiting self.old.named number (order.Request request) }
     {
         match request {
-            Request::Apply(event) => {
-                self.put(alloc, number, event)?;
-                Ok(())
-            }
-            Request::Settle(slot) => {
-                self.settle_unprinted(alloc, number, slot)?;
-                Ok(())
-            }
+            Request::Apply(event) => Ok(self.put(alloc, number, event)?),
+            Request::Settle(slot) => Ok(self.settle(alloc, number, slot)?),
             Request::Declare(declaration) => {
                 self.nets.prepare(number, declaration)?;
-                Ok(())
+                Ok(Outcome::Declared)
             }
         }
     }
 
-    /// Puts an event to the network of a number, whatever it answers but that memory is short.
-    fn put(&mut self, alloc: Global, number: u32, event: Event) -> Result<(), LineError>
-        ensures may { OnOk result (may_apply self.old.named number event ≡ true) }
-        ensures told { OnOk result (IsPutUnprinted number event self.old self.new) }
+    /// An event is put to the network of a number. It is a bad line where lines may not ask for it.
+    fn put(&mut self, alloc: Global, number: u32, event: Event) -> Result<Outcome, LineError>
+        ensures done { IfOk result (λ outcome. Does number (order.Request (Apply event)) self.old outcome self.new) }
         ensures bad { result ≡ Err LineError.Bad → IsBadOrder self.old.waiting self.old.named number (order.Request (Apply event)) }
     {
         if !self.may_apply(number, &event) {
             return Err(LineError::Bad);
         }
         self.begin(number)?;
-        let answer = self.serve(alloc, number, event)?;
-        but_for_memory(answer.err())?;
-        Ok(())
+        Ok(Outcome::Answer(self.serve(alloc, number, event)?))
     }
 
-    /// Hands on what was emitted at a slot of the network of a number, whatever ends it but that memory is
-    /// short.
-    fn settle_unprinted(&mut self, alloc: Global, number: u32, slot: u64) -> Result<(), LineError>
-        ensures may { OnOk result (is_in self.old.named.served number ≡ false) }
-        ensures told { OnOk result (IsSettledUnprinted number slot self.old self.new) }
+    /// A slot of the network of a number is to settle. It is a bad line where the network is served.
+    fn settle(&mut self, alloc: Global, number: u32, slot: u64) -> Result<Outcome, LineError>
+        ensures done { IfOk result (λ outcome. Does number (order.Request (Settle slot)) self.old outcome self.new) }
         ensures bad { result ≡ Err LineError.Bad → IsBadOrder self.old.waiting self.old.named number (order.Request (Settle slot)) }
     {
         if self.nets.is_served(number) {
             return Err(LineError::Bad);
         }
         self.begin(number)?;
-        let ended = self.settle(alloc, number, slot)?;
-        but_for_memory(ended)?;
-        Ok(())
+        Ok(Outcome::Settled(slot, self.hand_on_waiting(alloc, number, slot)?))
     }
 
-    /// Puts bytes to all nodes of the network of a number, whatever they answer but that memory is short.
-    fn put_to_all_unprinted(
+    /// Bytes come to all nodes of the network of a number. It is a bad line where the network is declared and not served,
+    /// and where it has no node.
+    fn put_to_all(
         &mut self,
         alloc: Global,
         number: u32,
-        bytes: Bytes,
-    ) -> Result<(), LineError>
-        ensures may { OnOk result (is_unserved self.old.waiting self.old.named number ≡ false) }
-        ensures told { OnOk result ((rs : List (Result (Vec Out Global) Refusal)) × IsPutToAll number bytes self.old rs self.new × All (λ r. r ≢ Err NoMemory) rs) }
-        ensures bad { result ≡ Err LineError.Bad → IsBadOrder self.old.waiting self.old.named number (order.ForAll bytes) }
+        bytes: &Bytes,
+    ) -> Result<Outcome, LineError>
+        ensures done { IfOk result (λ outcome. Does number (order.ForAll bytes.now) self.old outcome self.new) }
+        ensures bad { result ≡ Err LineError.Bad → IsBadOrder self.old.waiting self.old.named number (order.ForAll bytes.now) }
     {
-        let answers = self.put_to_all(alloc, number, &bytes)?;
-        drop(bytes);
-        let had_memory = had_memory(&answers);
-        drop(answers);
-        had_memory?;
-        Ok(())
+        if self.nets.is_unserved(number) {
+            return Err(LineError::Bad);
+        }
+        self.begin(number)?;
+        Ok(Outcome::Answers(self.deliver_to_all(alloc, number, bytes)?))
+    }
+
+    /// The network of a number is to be taken back. It is a bad line where it is declared and not served.
+    fn take_back(&mut self, alloc: Global, number: u32) -> Result<Outcome, LineError>
+        ensures done { IfOk result (λ outcome. Does number order.Drop self.old outcome self.new) }
+        ensures bad { result ≡ Err LineError.Bad → IsBadOrder self.old.waiting self.old.named number order.Drop }
+    {
+        if self.nets.is_unserved(number) {
+            return Err(LineError::Bad);
+        }
+        if !self.nets.is_declared(number) {
+            return Ok(Outcome::Answer(Err(Refusal::NoSuchNetwork)));
+        }
+        self.forget(number);
+        Ok(Outcome::Answer(Ok(Vec::new(alloc))))
     }
 
     /// Readies the network of a number for an event that names it: where it is declared and this is the
@@ -219,104 +201,6 @@ impl HostRun {
         !(self.nets.is_served(number) && is_hearing(event))
     }
 
-    /// What lines may ask of any network: the line that is printed, if there is one.
-    fn request(
-        &mut self,
-        alloc: Global,
-        number: u32,
-        request: Request,
-    ) -> Result<Option<String>, LineError>
-        ensures told { IfOk result (λ printed. (fields : List Text) → Orders fields number (order.Request request) → Tells self.old fields (option_map string_bytes printed) self.new) }
-        ensures bad { result ≡ Err LineError.Bad → IsBadOrder self.old.waiting self.old.named number (order.Request request) }
-    {
-        match request {
-            Request::Apply(event) => Ok(Some(self.answer(alloc, number, event)?)),
-            Request::Settle(slot) => Ok(Some(self.settle_line(alloc, number, slot)?)),
-            Request::Declare(declaration) => {
-                self.nets.prepare(number, declaration)?;
-                Ok(None)
-            }
-        }
-    }
-
-    /// The line that is printed of an event of the network of a number.
-    fn answer(&mut self, alloc: Global, number: u32, event: Event) -> Result<String, LineError>
-        ensures may { OnOk result (may_apply self.old.named number event ≡ true) }
-        ensures told { IfOk result (λ text. IsPut number event self.old (string_bytes text) self.new) }
-        ensures bad { result ≡ Err LineError.Bad → IsBadOrder self.old.waiting self.old.named number (order.Request (Apply event)) }
-    {
-        if !self.may_apply(number, &event) {
-            return Err(LineError::Bad);
-        }
-        self.begin(number)?;
-        let answer = self.serve(alloc, number, event)?;
-        Ok(reply(alloc, &answer)?)
-    }
-
-    /// The line that is printed of a slot of the network of a number that is to settle.
-    fn settle_line(&mut self, alloc: Global, number: u32, slot: u64) -> Result<String, LineError>
-        ensures may { OnOk result (is_in self.old.named.served number ≡ false) }
-        ensures told { IfOk result (λ text. IsSettled number slot self.old (string_bytes text) self.new) }
-        ensures bad { result ≡ Err LineError.Bad → IsBadOrder self.old.waiting self.old.named number (order.Request (Settle slot)) }
-    {
-        if self.nets.is_served(number) {
-            return Err(LineError::Bad);
-        }
-        self.begin(number)?;
-        let ended = self.settle(alloc, number, slot)?;
-        Ok(self.line_of(alloc, number, slot, ended)?)
-    }
-
-    /// The lines that are printed of bytes for all nodes of the network of a number.
-    fn answer_all(&mut self, alloc: Global, number: u32, bytes: Bytes) -> Result<String, LineError>
-        ensures may { OnOk result (is_unserved self.old.waiting self.old.named number ≡ false) }
-        ensures told { IfOk result (λ text. (rs : List (Result (Vec Out Global) Refusal)) × IsPutToAll number bytes self.old rs self.new × (string_bytes text ≡ lines_of rs)) }
-        ensures bad { result ≡ Err LineError.Bad → IsBadOrder self.old.waiting self.old.named number (order.ForAll bytes) }
-    {
-        let answers = self.put_to_all(alloc, number, &bytes)?;
-        drop(bytes);
-        let lines = replies(alloc, &answers);
-        drop(answers);
-        Ok(lines?)
-    }
-
-    /// Bytes come to all nodes of the network of a number: what is answered. It is a bad line where the network is
-    /// declared and not served, and where it has no node.
-    fn put_to_all(
-        &mut self,
-        alloc: Global,
-        number: u32,
-        bytes: &Bytes,
-    ) -> Result<Vec<Result<Vec<Out>, Refusal>>, LineError>
-        ensures may { OnOk result (is_unserved self.old.waiting self.old.named number ≡ false) }
-        ensures told { IfOk result (λ answers. IsPutToAll number bytes.now self.old answers.items self.new) }
-        ensures bad { result ≡ Err LineError.Bad → IsBadOrder self.old.waiting self.old.named number (order.ForAll bytes.now) }
-    {
-        if self.nets.is_unserved(number) {
-            return Err(LineError::Bad);
-        }
-        self.begin(number)?;
-        Ok(self.deliver_to_all(alloc, number, bytes)?)
-    }
-
-    /// The line that is printed where the network of a number is to be taken back. It is a bad line where it is declared
-    /// and not served.
-    fn take_back(&mut self, alloc: Global, number: u32) -> Result<String, LineError>
-        ensures may { OnOk result (is_unserved self.old.waiting self.old.named number ≡ false) }
-        ensures told { IfOk result (λ text. IsDropped (is_declared self.old.waiting self.old.named number) number self.old (string_bytes text) self.new) }
-        ensures bad { result ≡ Err LineError.Bad → IsBadOrder self.old.waiting self.old.named number order.Drop }
-    {
-        if self.nets.is_unserved(number) {
-            return Err(LineError::Bad);
-        }
-        if !self.nets.is_declared(number) {
-            return Ok(line_of_refusal(alloc, Refusal::NoSuchNetwork)?);
-        }
-        let line = String::from_str(alloc, "ok")?;
-        self.forget(number);
-        Ok(line)
-    }
-
     /// The network of a number is taken back, with its journal.
     fn forget(&mut self, number: u32)
         ensures { IsTakenBack number self.old self.new }
@@ -328,7 +212,7 @@ impl HostRun {
     }
 
     /// Hands on what was emitted at a slot; answers the first refusal.
-    fn settle(
+    fn hand_on_waiting(
         &mut self,
         alloc: Global,
         number: u32,
@@ -368,20 +252,23 @@ impl HostRun {
         self.nets.followed.first_waiting(number, slot)
     }
 
-    /// The line of a slot whose emissions have been handed on: the refusal that ended it, or what each node
-    /// has externalized.
-    fn line_of(
+    /// What is printed of what came of a line that names the network of a number.
+    fn printed(
         &self,
         alloc: Global,
         number: u32,
-        slot: u64,
-        ended: Option<Refusal>,
-    ) -> Result<String, AllocError>
-        ensures { IfOk result (λ text. string_bytes text ≡ line_of ended (open_slot self.now.followed number slot)) }
+        outcome: &Outcome,
+    ) -> Result<Option<String>, AllocError>
+        ensures { IfOk result (λ text. option_map string_bytes text ≡ printed_of outcome.now number self.now.followed) }
     {
-        match ended {
-            Some(refusal) => line_of_refusal(alloc, refusal),
-            None => self.nets.followed.line_of_settled(alloc, number, slot),
+        match outcome {
+            Outcome::Declared => Ok(None),
+            Outcome::Answer(answer) => Ok(Some(reply(alloc, answer)?)),
+            Outcome::Answers(answers) => Ok(Some(replies(alloc, answers)?)),
+            Outcome::Settled(_, Some(refusal)) => Ok(Some(line_of_refusal(alloc, *refusal)?)),
+            Outcome::Settled(slot, None) => {
+                Ok(Some(self.nets.followed.line_of_settled(alloc, number, *slot)?))
+            }
         }
     }
 
@@ -469,21 +356,14 @@ impl LineRunner for HostRun {
     ghost refuses = { RefusesLine };
 
     fn line(&mut self, alloc: Global, fields: &[&[u8]]) -> Result<Option<String>, LineError> {
-        let (number, order) = order_of(alloc, fields)?;
-        match order {
-            Order::Request(request) => Ok(self.request(alloc, number, request)?),
-            Order::Serve(budgets) => {
-                self.nets.serve(number, budgets)?;
-                Ok(None)
-            }
-            Order::ForAll(bytes) => Ok(Some(self.answer_all(alloc, number, bytes)?)),
-            Order::Drop => Ok(Some(self.take_back(alloc, number)?)),
-        }
+        let (number, outcome) = self.carry_out(alloc, fields)?;
+        let printed = self.printed(alloc, number, &outcome);
+        drop(outcome);
+        Ok(printed?)
     }
 }
 
 /// A law: no line is both bad and run. So a line is called bad exactly where it is, but for want of memory.
-#[tactic(auto, using(crate::proofs::BadLines::bad_lines_tell_nothing))]
 pub fn bad_lines_tell_nothing()
     ensures { BadLinesTellNothing }
 {}
@@ -520,17 +400,6 @@ pub fn kept_emissions_are_found()
     ensures { KeptAreFound }
 {}
 
-/// Lets no refusal and any refusal pass, but for want of memory, which is an error.
-fn but_for_memory(refusal: Option<Refusal>) -> Result<(), AllocError>
-    ensures { OnOk result (refusal ≢ Some NoMemory) }
-{
-    match refusal {
-        // Memory: an event wanted it.
-        Some(Refusal::NoMemory) => Err(AllocError),
-        _ => Ok(()),
-    }
-}
-
 /// The event by which a node hears an emission.
 fn hearing(slot: u64, node: NodeId, emission: &Emission) -> Event
     ensures { result ≡ Hear slot node emission.now.from emission.now.kind emission.now.number }
@@ -549,17 +418,4 @@ fn is_hearing(event: &Event) -> bool
     ensures { result ≡ hears event.now }
 {
     matches!(event, Event::Hear { .. })
-}
-
-/// Lets all answers pass but that memory is short, which is an error.
-fn had_memory(answers: &[Result<Vec<Out>, Refusal>]) -> Result<(), AllocError>
-    ensures { OnOk result (All (λ r. r ≢ Err NoMemory) answers.now) }
-{
-    let [answer, others @ ..] = answers else {
-        return Ok(());
-    };
-    match answer {
-        Err(Refusal::NoMemory) => Err(AllocError),
-        _ => had_memory(others),
-    }
 }

@@ -13,6 +13,7 @@ mod host_run;
 mod job_run;
 mod nets;
 mod networks;
+mod outcome;
 mod replies;
 mod submission_run;
 mod trace;

@@ -1,6 +1,6 @@
 //! From which line of a script each entry of a journal comes.
 
-ghost use Rattle.std.specs.Prelude.{◌≡◌, ◌++◌, ◌∷◌, [], Some, OnErr, OnOk};
+ghost use Rattle.std.specs.Prelude.{◌≡◌, ◌++◌, ◌∷◌, [], Some, OnOk};
 ghost use Rattle.runs.specs.Unprinted.{origin_in, origin_with};
 
 use std::alloc::{AllocError, Global};

@@ -107,8 +107,11 @@ impl LineRunner for UnprintedRun {
     ghost refuses = { RefusesUnprinted };
 
     fn line(&mut self, alloc: Global, fields: &[&[u8]]) -> Result<Option<String>, LineError> {
-        let net = self.run.run_unprinted(alloc, fields)?;
-        self.note(net)?;
+        let (number, outcome) = self.run.carry_out(alloc, fields)?;
+        let had_memory = outcome.had_memory();
+        drop(outcome);
+        had_memory?;
+        self.note(number)?;
         Ok(None)
     }
 }

@@ -10,8 +10,9 @@ ghost use Rattle.runs.specs.Followed.{names_at};
 ghost use Rattle.runs.specs.ServedNetworks.{AllIsHeard, AreAllDelivered, AreDelivered, AreTold, IsHeardByOthers, IsHeardOf, IsServed};
 ghost use Rattle.runs.specs.Settling.{handed_over};
 
-use super::{HostRun, but_for_memory};
+use super::HostRun;
 use crate::emissions::first_emitted;
+use crate::outcome::but_for_memory;
 use network::Emission;
 use std::alloc::{AllocError, Global};
 use types::{Bytes, Event, NodeId, Out, Refusal};

@@ -1,0 +1,156 @@
+-- What events keep, and networks that join, are declared or taken back, is kept by lines, and so by all lines of a script.
+use Rattle.std.proofs.Common.{◌≡◌, ◌∙◌, ℕ, Bool, true, false, List, Option, Some, None, Ok, Err, refl, sym, ap, subst}
+use Rattle.std.specs.Prelude.{Result, Vec}
+use Rattle.std.specs.Global.{Global}
+use Rattle.std.specs.List.{enumerate_from}
+use Rattle.scripts.specs.Script.{Bytes}
+use Rattle.scripts.specs.Runs.{HasRun, Passes, Runs}
+use Rattle.scripts.specs.Runs.Passes.{skipped, told}
+use Rattle.scripts.specs.Runs.Runs.{ends, next, bad, short}
+use Rattle.scripts.specs.declared.run.Stop.{Stop}
+use Rattle.types.specs.Statements.{Sent}
+use Rattle.types.specs.declared.event.Event.{Event}
+use Rattle.types.specs.declared.event.Event.TheVariants as event
+use Rattle.types.specs.declared.event.Out.{Out}
+use Rattle.types.specs.declared.event.Refusal.{Refusal}
+use Rattle.protocol.specs.Networks.{Budgets}
+use Rattle.network.specs.declared.plan.Emission.{Emission}
+use Rattle.world.specs.Worlds.{items_of}
+use Rattle.requests.specs.Naming.{Named, is_in, named_with, served_with}
+use Rattle.requests.specs.Outlines.{Outlined, waiting_at}
+use Rattle.requests.specs.Taking.{is_declared}
+use Rattle.requests.specs.declared.order.Order.{Order}
+use Rattle.requests.specs.declared.order.Order.TheVariants as order
+use Rattle.requests.specs.declared.request.Declaration.{Declaration}
+use Rattle.requests.specs.declared.request.Declaration.TheVariants.{Net}
+use Rattle.requests.specs.declared.request.Request.TheVariants.{Declare, Apply, Settle}
+use Rattle.runs.specs.declared.outcome.Outcome.{Outcome}
+use Rattle.runs.specs.declared.outcome.Outcome.TheVariants.{Declared, Answer, Answers, Settled}
+use Rattle.runs.specs.Emissions.{OpenSlot, first_emitted}
+use Rattle.runs.specs.Followed.{names_at}
+use Rattle.runs.specs.Hosting.{Hosting, IsApplied, IsBegun, new_hosting}
+use Rattle.runs.specs.Running.{Does, IsDeclaredSo, RefusesLine, Tells}
+use Rattle.runs.specs.ServedNetworks.{AllIsHeard as heard, AreDelivered, AreDeliveredTo, AreTold, IsDropped, IsHeardAt, IsHeardByOthers, IsHeardOf, IsServed, IsTakenBack}
+use Rattle.runs.specs.ServedNetworks.AreDelivered.{next_node, none_left}
+use Rattle.runs.specs.ServedNetworks.AreTold.{all_told, one_told}
+use Rattle.runs.specs.Settling.{AreHandedOn, HasSettled, HasSettledAt, IsHeardBy, handed_over, hearing}
+use Rattle.runs.specs.Settling.IsHeardBy.{by_all, by_one, refused}
+use Rattle.runs.specs.Settling.AreHandedOn.{none_waits, one_waits, cut_short}
+
+-- ---- hearings at a slot
+
+-- each hearing at a slot keeps this, and so does an emission there that has been handed on
+pub record HearingsKeep (P : Hosting → Type 0) (g slot : ℕ) : Type 0 where
+  pub hears : (u : ℕ) (e : Emission) (r : Result (Vec Out Global) Refusal) (old new : Hosting) → P old → IsApplied g (hearing slot u e) r old new → P new
+  pub over : (h : Hosting) → P h → P (handed_over g slot None h)
+
+module _ (P : Hosting → Type 0) (g slot : ℕ) (k : HearingsKeep P g slot) where
+  heard-keeps : (e : Emission) (us : List ℕ) (old new : Hosting) (ended : Option Refusal) → P old → IsHeardBy g slot e us old ended new → P new
+  heard-keeps e us old new ended p by_all = p
+  heard-keeps e us old new ended p (by_one {u = u} outs answer rest) = heard-keeps e _ _ new ended (k.hears u e (Ok outs) old _ p answer) rest
+  heard-keeps e us old new ended p (refused {u = u} r answer) = k.hears u e (Err r) old new p answer
+
+  pub handed-on-keeps : (names : List ℕ) (old new : Hosting) (ended : Option Refusal) → P old → AreHandedOn g slot names old ended new → P new
+  handed-on-keeps names old new ended p (none_waits none) = p
+  handed-on-keeps names old new ended p (one_waits e waits h rest) = handed-on-keeps names _ new ended (subst P (sym h.2) (k.over h.0 (heard-keeps e _ old h.0 None p h.1))) rest
+  handed-on-keeps names old new ended p (cut_short e r waits h) = subst P (sym h.2) (heard-keeps e _ old h.0 (Some r) p h.1)
+
+  pub settled-keeps : (names : Option (List ℕ)) (o : Option OpenSlot) (old new : Hosting) (ended : Option Refusal) → P old → HasSettledAt g slot names o old ended new → P new
+  settled-keeps None o old new ended p h = subst P (sym h.0) p
+  settled-keeps (Some names) None old new ended p h = subst P (sym h.0) p
+  settled-keeps (Some names) (Some o) old new ended p h = handed-on-keeps names old new ended p h
+
+  told-keeps : (e : Emission) (us : List ℕ) (old new : Hosting) → P old → AreTold g slot e us old new → P new
+  told-keeps e us old new p all_told = p
+  told-keeps e us old new p (one_told ended one memory rest) = told-keeps e _ _ new (heard-keeps e _ old _ ended p one) rest
+
+  pub all-heard-keeps : (names : List ℕ) (old new : Hosting) → P old → heard g slot names old new → P new
+  all-heard-keeps names old new p (heard.none_waits none) = p
+  all-heard-keeps names old new p (heard.one_waits {now = now} e is each rest) = all-heard-keeps names (handed_over g slot None now) new (k.over now (told-keeps e names old now p each)) rest
+
+-- ---- events
+
+-- each event keeps this, and so does an emission that has been handed on
+pub record EventsKeep (P : Hosting → Type 0) : Type 0 where
+  pub applied : (g : ℕ) (e : Event) (r : Result (Vec Out Global) Refusal) (old new : Hosting) → P old → IsApplied g e r old new → P new
+  pub over : (g slot : ℕ) (h : Hosting) → P h → P (handed_over g slot None h)
+
+module _ (P : Hosting → Type 0) (k : EventsKeep P) where
+  pub at-slot : (g slot : ℕ) → HearingsKeep P g slot
+  at-slot g slot = record { hears = λ u e r old new p h. k.applied g (hearing slot u e) r old new p h; over = k.over g slot }
+
+  pub heard-of-keeps : (b : Bool) (g : ℕ) (r : Result (List Out) Refusal) (old new : Hosting) → P old → IsHeardOf b g r old new → P new
+  heard-of-keeps false g r old new p h = subst P (sym h) p
+  heard-of-keeps true g (Err r) old new p h = subst P (sym h) p
+  heard-of-keeps true g (Ok outs) old new p h = at (first_emitted outs) h
+    where
+      by : (slot : ℕ) (names : Option (List ℕ)) → IsHeardByOthers g slot names old new → P new
+      by slot None h = subst P (sym h) p
+      by slot (Some names) h = all-heard-keeps P g slot (at-slot g slot) names old new p h
+
+      at : (e : Option Sent) → IsHeardAt g e old new → P new
+      at None h = subst P (sym h) p
+      at (Some e) h = by e.slot (names_at old.followed g) h
+
+  pub served-keeps : (g : ℕ) (e : Event) (r : Result (Vec Out Global) Refusal) (old new : Hosting) → P old → IsServed g e r old new → P new
+  served-keeps g e r old new p h = heard-of-keeps (is_in old.named.served g) g (items_of r) h.0 new (k.applied g e r old h.0 p h.1) h.2
+
+-- ---- lines
+
+-- lines of each kind keep this, where an event is heard of in a served network
+pub record LinesKeep (P : Hosting → Type 0) : Type 0 where
+  pub begun : (g : ℕ) (old new : Hosting) → P old → IsBegun g old new → P new
+  pub declared : (g : ℕ) (d : Declaration) (old new : Hosting) → P old → IsDeclaredSo g d old.named old new → P new
+  pub serves : (g : ℕ) (b : Budgets) (old new : Hosting) → P old → IsDeclaredSo g (Net b) (served_with g old.named) old new → P new
+  pub served : (g : ℕ) (e : Event) (r : Result (Vec Out Global) Refusal) (old new : Hosting) → P old → IsServed g e r old new → P new
+  pub settled : (g slot : ℕ) (ended : Option Refusal) (old new : Hosting) → is_in old.named.served g ≡ false → P old → HasSettled g slot old ended new → P new
+  pub taken_back : (g : ℕ) (old new : Hosting) → P old → IsTakenBack g old new → P new
+
+-- which networks are served stays where one is named
+begun-served : (g j : ℕ) (old new : Hosting) → IsBegun g old new → is_in new.named.served j ≡ is_in old.named.served j
+begun-served g j old new h = go (waiting_at old.waiting g) h.1
+  where
+    go : (o : Option Outlined) → new.named ≡ named_with g o old.named → is_in new.named.served j ≡ is_in old.named.served j
+    go None named = ap (λ (n : Named). is_in n.served j) named
+    go (Some d) named = ap (λ (n : Named). is_in n.served j) named
+
+no-ok : {A B : Type 0} (x : A) (y : B) → ◌≡◌ {A = Result A B} (Ok x) (Err y) → ⊥
+no-ok x y h = cc
+
+module _ (P : Hosting → Type 0) (k : LinesKeep P) where
+  delivered-keeps : (g : ℕ) (bytes : Bytes) (us : List ℕ) (old new : Hosting) (rs : List (Result (Vec Out Global) Refusal)) → P old → AreDelivered g bytes us old rs new → P new
+  delivered-keeps g bytes us old new rs p none_left = p
+  delivered-keeps g bytes us old new rs p (next_node {u = u} r one rest) = delivered-keeps g bytes _ _ new _ (k.served g (event.Deliver u bytes) r old _ p one) rest
+
+  delivered-to-keeps : (g : ℕ) (bytes : Bytes) (names : Option (List ℕ)) (old new : Hosting) (rs : List (Result (Vec Out Global) Refusal)) → P old → AreDeliveredTo g bytes names old rs new → P new
+  delivered-to-keeps g bytes None old new rs p h = subst P (sym h.0) p
+  delivered-to-keeps g bytes (Some names) old new rs p h = delivered-keeps g bytes names old new rs p h
+
+  dropped-keeps : (b : Bool) (g : ℕ) (old new : Hosting) (r : Result (List Out) Refusal) → P old → IsDropped b g old r new → P new
+  dropped-keeps false g old new r p h = subst P (sym h.1) p
+  dropped-keeps true g old new r p h = k.taken_back g old new p h.1
+
+  pub order-keeps : (g : ℕ) (o : Order) (old new : Hosting) (outcome : Outcome) → P old → Does g o old outcome new → P new
+  order-keeps g (order.Request (Declare d)) old new Declared p h = k.declared g d old new p h
+  order-keeps g (order.Request (Apply e)) old new (Answer r) p h = k.served g e r h.1.0 new (k.begun g old h.1.0 p h.1.1) h.1.2
+  order-keeps g (order.Request (Settle slot)) old new (Settled i ended) p h = k.settled g slot ended h.1.0 new (begun-served g g old h.1.0 h.1.1 ∙ h.0) (k.begun g old h.1.0 p h.1.1) h.1.2
+  order-keeps g (order.Serve b) old new Declared p h = k.serves g b old new p h
+  order-keeps g (order.ForAll bytes) old new (Answers rs) p h = delivered-to-keeps g bytes (names_at h.1.0.followed g) h.1.0 new rs.items (k.begun g old h.1.0 p h.1.1) h.1.2
+  order-keeps g order.Drop old new (Answer r) p h = dropped-keeps (is_declared old.waiting old.named g) g old new (items_of r) p h.1
+  order-keeps g o old new outcome p h = absurd h
+
+  pub line-keeps : (old new : Hosting) (fields : List Bytes) (printed : Option Bytes) → P old → Tells old fields printed new → P new
+  line-keeps old new fields printed p (g, outcome, (o, ordered, done), said) = order-keeps g o old new outcome p done
+
+  passed-keeps : (s t : Hosting) (line written : Bytes) → P s → Passes Tells s line written t → P t
+  passed-keeps s t line written p (skipped empty) = p
+  passed-keeps s t line written p (told runs are tells) = line-keeps s t _ _ p tells
+
+  lines-keep : (s t : Hosting) (lines : List (ℕ × Bytes)) (printed : Bytes) (end : Result (Unit {0}) Stop) → P s → end ≡ Ok tt → Runs Tells RefusesLine s lines printed end t → P t
+  lines-keep s t lines printed end p ok ends = p
+  lines-keep s t lines printed end p ok (next passes more) = lines-keep _ t _ _ end (passed-keeps s _ _ _ p passes) ok more
+  lines-keep s t lines printed end p ok (bad fails) = absurd (no-ok _ _ (sym ok))
+  lines-keep s t lines printed end p ok short = absurd (no-ok _ _ (sym ok))
+
+  pub runs-keep : (text : Bytes) (before after : Option Bytes) (new : Hosting) → P new_hosting → HasRun Tells RefusesLine new_hosting text before after (Ok tt) new → P new
+  runs-keep text before after new p run = lines-keep new_hosting new (enumerate_from 1 run.lines) run.printed (Ok tt) p refl run.ran
