@@ -32,12 +32,12 @@ pub struct Sides<'a> {
     pub other: Side<'a>,
 }
 
-/// Compares what concerns the subject in two scripts; where it is asked for, a difference is explained. An
-/// error says that memory is short.
+/// Compares what concerns the subject in two scripts; if `explain` asks for it, a difference is explained. An error
+/// says that it is out of memory.
 ///
-/// The journals of the scripts are those of two histories of hosts, between which the verdict is right. If both host the
-/// members of the closure of the node alike, and the steps that concern them are the same in order, each hosted member
-/// gives out the same in both.
+/// The journals of the scripts are those of two histories of hosts, between which the verdict is right. If both host
+/// the members of the closure of the node alike, and the steps that concern them are the same in order, each hosted
+/// member gives out the same in both.
 pub fn answer_compare(
     alloc: Global,
     sides: &Sides<'_>,
@@ -54,7 +54,6 @@ pub fn answer_compare(
     Ok(Answer { differs, text })
 }
 
-/// Whether a verdict finds a difference.
 fn is_difference(verdict: &Verdict) -> bool
     ensures { result ≡ is_difference verdict.now }
 {
@@ -64,14 +63,13 @@ fn is_difference(verdict: &Verdict) -> bool
     }
 }
 
-/// Whether a verdict is explained: where it is asked for, and finds a difference.
 fn is_explained(explain: bool, verdict: &Verdict) -> bool
     ensures { result ≡ explain && is_difference verdict.now }
 {
     explain && is_difference(verdict)
 }
 
-/// The lines of a verdict, and behind them what explains a difference, where it is asked for.
+/// The lines of a verdict, and behind them what explains a difference, if it is asked for.
 #[tactic(auto, using(crate::proofs::ExplainedTexts::with_explanation, crate::proofs::ExplainedTexts::without_explanation))]
 fn text_of_comparison(
     alloc: Global,
@@ -106,7 +104,6 @@ fn explanation_of(
     Ok(text)
 }
 
-/// The lines of a verdict.
 fn text_of_verdict(alloc: Global, verdict: &Verdict) -> Result<String, AllocError>
     ensures { IfOk result (λ text. string_bytes text ≡ text_of_verdict verdict.now) }
 {
@@ -126,7 +123,6 @@ fn text_of_same_outs(alloc: Global, members: &[MemberOuts]) -> Result<String, Al
     Ok(text)
 }
 
-/// Adds a line for each member.
 fn push_members(text: &mut String, members: &[MemberOuts]) -> Result<(), AllocError>
     ensures { OnOk result (string_bytes text.new ≡ string_bytes text.old ++ flat_map line_of_member members.now) }
 {
@@ -136,7 +132,6 @@ fn push_members(text: &mut String, members: &[MemberOuts]) -> Result<(), AllocEr
     Ok(())
 }
 
-/// Adds the line of a member.
 fn push_member(text: &mut String, member: &MemberOuts) -> Result<(), AllocError>
     ensures { OnOk result (string_bytes text.new ≡ string_bytes text.old ++ line_of_member member.now) }
 {
@@ -146,7 +141,7 @@ fn push_member(text: &mut String, member: &MemberOuts) -> Result<(), AllocError>
     Ok(())
 }
 
-/// A node is hosted in one alone, or with other slices.
+/// A node is hosted in only one of them, or with other slices.
 fn text_of_cast_difference(alloc: Global, node: &NodeId) -> Result<String, AllocError>
     ensures { IfOk result (λ text. string_bytes text ≡ codes "cast differs at " ++ (text_of_name node.now ++ 10 ∷ [])) }
 {

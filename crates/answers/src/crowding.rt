@@ -31,8 +31,8 @@ pub fn read_submission<R: Read>(alloc: Global, script: &mut R) -> Result<Submiss
     }
 }
 
-/// Compares what two submissions submit for the subject, and what is answered: the verdict on them, as it is
-/// printed. An error says that memory is short.
+/// Compares what two submissions submit for the subject, and what is answered: the verdict on them, as it is printed.
+/// An error says that it is out of memory.
 pub fn answer_crowd(
     alloc: Global,
     one: &Submission,
@@ -46,7 +46,6 @@ pub fn answer_crowd(
     Ok(answer)
 }
 
-/// The answer that tells a verdict.
 fn answer_verdict(alloc: Global, verdict: &Crowd) -> Result<Answer, AllocError>
     ensures { IfOk result (Tells verdict.now) }
 {
@@ -109,7 +108,6 @@ fn text_of_same_replies(alloc: Global, replies: &Replies) -> Result<String, Allo
     Ok(text)
 }
 
-/// Adds a line for each reply. Where memory is wanting, a part may have been added.
 fn push_replies(alloc: Global, text: &mut String, replies: &[Reply]) -> Result<(), AllocError>
     ensures { OnOk result (string_bytes text.new ≡ string_bytes text.old ++ flat_map line_of_replied replies.now) }
 {
@@ -119,7 +117,6 @@ fn push_replies(alloc: Global, text: &mut String, replies: &[Reply]) -> Result<(
     Ok(())
 }
 
-/// Adds the line of a reply.
 #[tactic(auto, using(crate::proofs::CrowdLines::line_of_one))]
 fn push_reply(alloc: Global, text: &mut String, reply: &Reply) -> Result<(), AllocError>
     ensures { OnOk result (string_bytes text.new ≡ string_bytes text.old ++ line_of_replied reply.now) }

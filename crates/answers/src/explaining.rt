@@ -38,8 +38,8 @@ fn push_node(text: &mut String, side: Side<'_>, net: u32, node: &NodeId) -> Resu
     }
 }
 
-/// Adds a line for each side: which line of its script is the step at a place among those that concern the
-/// subject. An error says that memory is short.
+/// Adds a line for each side: which line of its script is the step at a place among those that concern the subject. An
+/// error says that it is out of memory.
 pub fn push_steps(
     alloc: Global,
     text: &mut String,
@@ -55,7 +55,7 @@ pub fn push_steps(
     push_step(text, sides.other, subject, &members, place)
 }
 
-/// Adds `FILE:LINE: ..` with the line of the step, or `FILE: end` where there are fewer.
+/// Adds `FILE:LINE: ..` with the line of the step, or `FILE: end` if there are fewer.
 fn push_step(
     text: &mut String,
     side: Side<'_>,
@@ -90,7 +90,7 @@ fn push_bytes(text: &mut String, bytes: &[u8]) -> Result<(), AllocError> {
     Ok(())
 }
 
-/// Adds which hearing of those that a line hands on it is.
+/// Adds which of the hearings of a `settle` line the entry is, as ` (hear N I NAME FROM KIND K)`.
 fn push_hearing(
     text: &mut String,
     net: u32,
@@ -118,7 +118,6 @@ fn push_hearing(
     }
 }
 
-/// The word of a kind of emissions.
 fn word_of_kind(kind: Kind) -> &'static str {
     match kind {
         Kind::Nomination => "nom",

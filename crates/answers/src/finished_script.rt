@@ -41,10 +41,10 @@ impl Model for FinishedScript {
 }
 
 impl FinishedScript {
-    /// Reads a script whole and runs its lines in order, without printing. After the last one the networks
-    /// that are declared with nodes and that no event has named are there too. A line that is bad ends it, and
-    /// so does an event for which memory is short: no story lacks an event of its script for that. Where it is
-    /// traced, it keeps from which line each entry comes.
+    /// Reads a script whole and runs its lines in order, without printing. After the last one the networks that are
+    /// declared with nodes and that no event has named are there too. A bad line ends it, and so does an event that is
+    /// out of memory, so that no event of the script is missing for that. If it is traced, it keeps from which line
+    /// each entry comes.
     #[tactic(auto, using(crate::proofs::Histories::ends_have_histories))]
     pub fn read_and_run<R: Read>(
         alloc: Global,
@@ -67,8 +67,8 @@ impl FinishedScript {
         &self.run
     }
 
-    /// The line of the script from which an entry of a network comes; `None` where there is no such entry, and
-    /// where the script is not traced.
+    /// The line of the script from which an entry of a network comes; `None` if there is no such entry, or if the
+    /// script is not traced.
     pub fn line(&self, net: u32, entry: usize) -> Option<Line<'_>>
         ensures { IsLineAt self.now.text (origin_in self.now.run.trace net entry) (option_map (λ line. (line.number, line.bytes.now)) result) }
     {
@@ -94,7 +94,6 @@ fn run_to_end(alloc: Global, text: &[u8], traced: bool) -> Result<UnprintedRun, 
     }
 }
 
-/// Before the first line.
 fn new_run(alloc: Global, traced: bool) -> UnprintedRun
     ensures { result ≡ start_of traced }
 {
@@ -129,7 +128,7 @@ fn is_no_record(line: &[u8]) -> bool
     matches!(line, [] | [b'#', ..])
 }
 
-/// A law: what becomes of a script is determined. Where a text is run to its end twice, from the same networks, the
+/// A law: what becomes of a script is determined. If a text is run to its end twice, from the same networks, the
 /// journals of both ends are the same, and so are the traces of the lines.
 pub fn scripts_have_one_end()
     ensures { ScriptsHaveOneEnd }

@@ -1,7 +1,7 @@
-//! What commands answer that run scripts of networks to their ends before they print: what two scripts share, as far as
-//! it concerns one node, by what became of their networks ([`answer_compare`]) or by what they submit
-//! ([`answer_crowd`]). A script is read whole and run without printing ([`FinishedScript`]), or read for what it submits
-//! ([`read_submission`]) or for the jobs of a pool ([`read_jobs`]). Nothing is opened or printed here.
+//! What commands answer that run scripts of networks to their ends before they print. They compare two scripts as far
+//! as they concern one node: by what became of their networks ([`answer_compare`]), or by what they submit
+//! ([`answer_crowd`]). A script is read whole and run without printing ([`FinishedScript`]), or read for what it
+//! submits ([`read_submission`]) or for the jobs of a pool ([`read_jobs`]). Nothing is opened or printed here.
 #![tactic(auto)]
 
 mod answer;

@@ -1,7 +1,7 @@
 //! Whether claims are accepted or confirmed, by the node's own position and what it sees, and prepare of a ballot
 //! among them.
 //!
-//! Where a function here answers an error, memory is short.
+//! An error of a function here says that it is out of memory, or that a value has too many owners.
 
 ghost use Rattle.std.specs.Prelude.{◌≡◌, ◌&&◌, IfOk};
 ghost use Rattle.fedvote.specs.declared.claim.Claim.TheVariants.{Prepare};
@@ -76,7 +76,6 @@ impl<'a, S: Sight> Check for MayBePrepared<'a, S> {
     }
 }
 
-/// Whether a ballot may be the highest accepted one.
 fn may_be_prepared(phase: Phase, value: &Value, ballot: &LentBallot) -> bool
     ensures { result ≡ may_be_prepared phase value.now ballot.now }
 {

@@ -1,6 +1,6 @@
 //! What is accepted and confirmed as committed.
 //!
-//! Where a function here answers an error, memory is short.
+//! An error of a function here says that it is out of memory, or that values have too many owners.
 
 ghost use Rattle.std.specs.Prelude.{◌≡◌, ◌∷◌, [], IfOk, OnOk, Some};
 ghost use Rattle.ballot.specs.Intervals.{moved_to};
@@ -83,7 +83,7 @@ fn next_committed<S: Sight>(
     greatest_of(alloc, Mention::Committed, &candidates, &test)
 }
 
-/// The least commit counter of the value from which on the interval up to this ballot's counter has come to this stage.
+/// The least commit counter of the value from which on the interval up to the counter of `end` has come to this stage.
 #[tactic(auto, unfolding(protocol::specs::Candidates::commits))]
 fn interval_from<S: Sight>(
     alloc: Global,
@@ -105,8 +105,8 @@ fn interval_from<S: Sight>(
     lowest_of(alloc, Mention::Committed, &candidates, &test, end)
 }
 
-/// The phase becomes [`types::Phase::Committing`], with the interval up to the first counter, where there is
-/// one, and nothing stays below that.
+/// The phase becomes [`types::Phase::Committing`], with the interval up to the first counter, if there is one. The
+/// ballot, the highest accepted and the highest confirmed one are then not below that.
 #[tactic(auto, unfolding(protocol::specs::Balloting::enter_commit, protocol::specs::Balloting::accepted_from))]
 fn enter_commit<S: Sight>(alloc: Global, sight: &S, draft: &mut Draft<'_>) -> Result<(), AllocError>
     ensures { OnOk result (draft.new ≡ after (on_ballot (λ b w. enter_commit (S.seen sight.now) b w (first_committed (S.seen sight.now) w))) draft.old) }
@@ -124,8 +124,8 @@ fn enter_commit<S: Sight>(alloc: Global, sight: &S, draft: &mut Draft<'_>) -> Re
     draft.set_phase(Phase::Committing)
 }
 
-/// The interval goes up to the next counter, where there is one, with the ballot's counter and the highest
-/// accepted ballot.
+/// The interval goes up to the next counter, if there is one, with the ballot's counter and the highest accepted
+/// ballot.
 #[tactic(auto, unfolding(protocol::specs::Balloting::widen_commit, protocol::specs::Balloting::accepted_from))]
 fn widen_commit<S: Sight>(alloc: Global, sight: &S, draft: &mut Draft<'_>) -> Result<(), AllocError>
     ensures { OnOk result (draft.new ≡ after (on_ballot (λ b w. widen_commit (S.seen sight.now) b w (next_committed (S.seen sight.now) b w))) draft.old) }
@@ -141,8 +141,8 @@ fn widen_commit<S: Sight>(alloc: Global, sight: &S, draft: &mut Draft<'_>) -> Re
     move_interval(draft, &next, low)
 }
 
-/// The interval that is accepted as committed goes from this counter to this ballot's. The node's ballot has the
-/// end's value and is not below it, nor is the highest accepted ballot.
+/// The interval that is accepted as committed goes from `low` to the counter of `end`. The node's ballot has the value
+/// of `end` and is not below it, nor is the highest accepted ballot.
 fn move_interval(draft: &mut Draft<'_>, end: &Ballot, low: u32) -> Result<(), AllocError>
     ensures { OnOk result (draft.new ≡ after (on_ballot (λ b w. moved_to low end.now b w)) draft.old) }
 {
@@ -157,7 +157,7 @@ fn move_interval(draft: &mut Draft<'_>, end: &Ballot, low: u32) -> Result<(), Al
     draft.set_interval(low, end.counter)
 }
 
-/// The ballot that is there, or this one where that is below it or where there is none.
+/// The ballot that is there, or this one if that is below it or there is none.
 #[tactic(auto, unfolding(protocol::specs::Candidates::greatest))]
 fn greater(there: &Option<Ballot>, ballot: &Ballot) -> Result<Ballot, AllocError>
     ensures { IfOk result (λ b. Some b ≡ greatest there.now (ballot.now ∷ [])) }
@@ -209,8 +209,8 @@ fn confirmed_commit<S: Sight>(
     greatest_of(alloc, Mention::Committed, &candidates, &test)
 }
 
-/// The phase becomes [`types::Phase::Externalized`], with the confirmed interval up to the last counter,
-/// where there is one.
+/// The phase becomes [`types::Phase::Externalized`], with the confirmed interval up to the last counter, if there is
+/// one.
 #[tactic(auto, unfolding(protocol::specs::Balloting::externalize))]
 fn externalize<S: Sight>(alloc: Global, sight: &S, draft: &mut Draft<'_>) -> Result<(), AllocError>
     ensures { OnOk result (draft.new ≡ after (on_ballot (λ b w. externalize (S.seen sight.now) w (confirmed_commit (S.seen sight.now) b w))) draft.old) }

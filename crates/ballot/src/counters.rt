@@ -16,10 +16,10 @@ use std::alloc::{AllocError, Global};
 use timers::cap;
 use types::{Ballot, Inputs, LentBallot, Phase, SharedValues, Statement, Value, Votes};
 
-/// Raises the ballot to the lowest counter, from its own on, at which those with greater counters do
-/// not block; the cap is the greatest to which it is raised, and a counter above the cap stays. The
-/// value is chosen anew only where the counter changes (after the Stellar Consensus Protocol draft; the
-/// cap is this host's profile). Without a ballot nothing changes.
+/// Raises the ballot to the lowest counter, from its own on, at which those with greater counters do not block. The cap
+/// is the greatest to which it is raised, and a counter above the cap stays. The value is chosen anew only if the
+/// counter changes (after the Stellar Consensus Protocol draft; the cap is this host's profile). Without a ballot
+/// nothing changes.
 #[tactic(auto, unfolding(protocol::specs::Passes::raise))]
 pub fn raise<S: Sight>(
     alloc: Global,
@@ -58,9 +58,8 @@ fn counter_after_raise<S: Sight>(
     Ok(counter)
 }
 
-/// The lowest counter from this one on at which those with greater counters do not block, at most the
-/// cap, or this one where it is above the cap. Between counters that appear nobody's answer changes, so
-/// only those are tried.
+/// The lowest counter from `from` on at which those with greater counters do not block, at most `most`, or `from` if
+/// that is above `most`. Between counters that appear nobody's answer changes, so only those are tried.
 fn counter_to_raise_to<S: Sight>(
     alloc: Global,
     sight: &S,
@@ -83,7 +82,7 @@ fn counter_to_raise_to<S: Sight>(
     Ok(number)
 }
 
-/// Whether those with counters from this one on block the node's slices.
+/// Whether those with counters from `counter` on block the node's slices.
 fn is_blocked_from<S: Sight>(
     alloc: Global,
     sight: &S,
@@ -117,9 +116,9 @@ fn next_counter<S: Sight>(sight: &S, position: &Option<Statement>, above: u32) -
     }
 }
 
-/// Arms the ballot timer for the ballot's counter where all members of some quorum that contains the
-/// node have counters of at least that (after the Stellar Consensus Protocol draft). Without a ballot
-/// nothing changes, and no quorum is searched for where the timer was last armed for that counter.
+/// Arms the ballot timer for the ballot's counter if all members of some quorum that contains the node have counters of
+/// at least that (after the Stellar Consensus Protocol draft). Without a ballot nothing changes, and no quorum is
+/// searched for if the timer was last armed for that counter.
 #[tactic(auto, unfolding(protocol::specs::Passes::arm))]
 pub fn arm<S: Sight>(alloc: Global, sight: &S, draft: &mut Draft<'_>) -> Result<(), AllocError>
     ensures { OnOk result (draft.new ≡ after (on_ballot (arm (S.seen sight.now))) draft.old) }
@@ -139,7 +138,7 @@ pub fn arm<S: Sight>(alloc: Global, sight: &S, draft: &mut Draft<'_>) -> Result<
     }
 }
 
-/// Whether all members of some quorum that contains the node have counters from this one on.
+/// Whether all members of some quorum that contains the node have counters from `least` on.
 fn is_quorum_at<S: Sight>(
     alloc: Global,
     sight: &S,
@@ -154,10 +153,10 @@ fn is_quorum_at<S: Sight>(
     Ok(is_quorum)
 }
 
-/// The node's ballot at this counter; its value is chosen anew only where that is another counter: in
-/// [`types::Phase::Preparing`] that of the highest confirmed ballot, else the combined confirmed value,
-/// else that of the highest accepted ballot, else its own; in the other phases the value stays (after
-/// the Stellar Consensus Protocol draft; the combination is this host's profile). It takes no memory.
+/// The node's ballot at this counter. Its value is chosen anew only if that is another counter: in
+/// [`types::Phase::Preparing`] that of the highest confirmed ballot, else the combined confirmed value, else that of
+/// the highest accepted ballot, else its own. In the other phases the value stays (after the Stellar Consensus Protocol
+/// draft; the combination is this host's profile). It takes no memory.
 #[tactic(auto, unfolding(protocol::specs::Passes::ballot_at_counter))]
 pub fn ballot_at_counter<'a>(votes: &'a Votes, ballot: &'a Ballot, counter: u32) -> LentBallot<'a>
     ensures { result ≡ ballot_at_counter votes.now ballot.now counter }
@@ -169,7 +168,7 @@ pub fn ballot_at_counter<'a>(votes: &'a Votes, ballot: &'a Ballot, counter: u32)
     }
 }
 
-/// The value of a raised ballot that has this one.
+/// The value that a ballot with this one has once it is raised.
 #[tactic(auto, unfolding(protocol::specs::Passes::value_once_raised))]
 fn value_once_raised<'a>(votes: &'a Votes, value: &'a Value) -> &'a Value
     ensures { result.now ≡ value_once_raised votes.now.phase votes.now value.now }
@@ -183,7 +182,7 @@ fn value_once_raised<'a>(votes: &'a Votes, value: &'a Value) -> &'a Value
     }
 }
 
-/// The value of a ballot, else that one.
+/// The value of the ballot if there is one, else `value`.
 fn value_or<'a>(ballot: &'a Option<Ballot>, value: &'a Value) -> &'a Value
     ensures { result.now ≡ value_or ballot.now value.now }
 {
@@ -193,7 +192,7 @@ fn value_or<'a>(ballot: &'a Option<Ballot>, value: &'a Value) -> &'a Value
     }
 }
 
-/// A value that is known, else that one.
+/// The known value if there is one, else `value`.
 fn known_or<'a>(known: Option<&'a Value>, value: &'a Value) -> &'a Value
     ensures { result.now ≡ known_or (option_map (λ v. v.now) known.entry) value.now }
 {
@@ -214,7 +213,6 @@ pub(crate) fn combine(values: &SharedValues) -> Option<&Value>
     }
 }
 
-/// The greatest of this value and those.
 #[tactic(auto, unfolding(protocol::specs::Candidates::greatest_value))]
 fn greatest_value<'a>(value: &'a Value, others: &'a [Value]) -> &'a Value
     ensures { result.now ≡ greatest_value value.now others.now }

@@ -1,6 +1,6 @@
 //! The first ballot.
 //!
-//! Where a function here answers an error, memory is short.
+//! An error of a function here says that it is out of memory, or that values have too many owners.
 
 ghost use Rattle.std.specs.Prelude.{◌≡◌, IfOk, None, OnOk, filter};
 ghost use Rattle.drafts.specs.Drafted.{after};
@@ -17,9 +17,8 @@ use fedvote::{Mention, Sight};
 use std::alloc::{AllocError, Global};
 use types::{Ballot, Votes};
 
-/// Sets the first ballot where there is none: counter 1 with the combined confirmed value; where no
-/// value is confirmed, the greatest named ballot whose prepare is accepted, with its counter (the
-/// latter is this host's profile).
+/// Sets the first ballot if there is none: counter 1 with the combined confirmed value. If no value is confirmed, it is
+/// the greatest named ballot whose prepare is accepted, with its counter (the latter is this host's profile).
 #[tactic(auto, unfolding(protocol::specs::Balloting::start))]
 pub fn start<S: Sight>(alloc: Global, sight: &S, draft: &mut Draft<'_>) -> Result<(), AllocError>
     ensures { OnOk result (draft.new ≡ after (start (S.seen sight.now)) draft.old) }
@@ -33,7 +32,7 @@ pub fn start<S: Sight>(alloc: Global, sight: &S, draft: &mut Draft<'_>) -> Resul
     }
 }
 
-/// The first ballot, where there may be one.
+/// The first ballot, if there may be one.
 #[tactic(auto, unfolding(protocol::specs::Balloting::with_first_ballot))]
 fn first_ballot<S: Sight>(
     alloc: Global,

@@ -1,6 +1,6 @@
 //! Whether commit is accepted or confirmed, on intervals and at single counters.
 //!
-//! Where a function here answers an error, memory is short.
+//! An error of a function here says that it is out of memory, or that a value has too many owners.
 
 ghost use Rattle.std.specs.Prelude.{◌≡◌, ◌&&◌, IfOk, nat_lt, not};
 ghost use Rattle.types.specs.Votes.{same_value};

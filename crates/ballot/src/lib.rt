@@ -1,8 +1,9 @@
 //! Balloting: by which rules a ballot is begun, prepared, committed and externalized, and how its
 //! counter rises (after the Stellar Consensus Protocol draft).
 //!
-//! Each rule is one function of what the node sees and of its votes, which it changes in a [`drafts::Draft`]. Where
-//! one answers an error, memory is short, and the node's own votes are as they were.
+//! Each rule is one function of what the node sees and of its votes, which it changes in a [`drafts::Draft`]. An error
+//! of one says that it is out of memory, or that values have too many owners; the node's own votes are then as they
+//! were.
 #![tactic(auto)]
 
 mod checks;

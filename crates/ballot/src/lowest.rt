@@ -9,9 +9,9 @@ use fedvote::Mention;
 use std::alloc::{AllocError, Global};
 use types::{Ballot, LentBallot};
 
-/// The least counter among this ballot's and those of the candidates of its value that pass. It tries
-/// them from this ballot down to the last, since one may pass below one that fails. An error says that
-/// memory is short.
+/// The least counter among this ballot's and those of the candidates of its value that pass. It tries them from this
+/// ballot down to the last, since one may pass below one that fails. An error says that it is out of memory, or that a
+/// value has too many owners.
 pub(crate) fn lowest_of<'a, C: Candidates, T: Check>(
     alloc: Global,
     mention: Mention,

@@ -54,7 +54,7 @@ fn lent_of<'a>(ballot: &'a Option<Ballot>) -> Option<LentBallot<'a>>
     }
 }
 
-/// The counter of the highest confirmed ballot, where that has the ballot's value; else 0.
+/// The counter of the highest confirmed ballot, if that has the ballot's value; else 0.
 #[tactic(auto, unfolding(protocol::specs::States::high_counter))]
 pub(crate) fn high_counter(votes: &Votes, ballot: &Ballot) -> u32
     ensures { result ≡ high_counter votes.now ballot.now }
@@ -71,7 +71,7 @@ pub(crate) fn high_counter(votes: &Votes, ballot: &Ballot) -> u32
     }
 }
 
-/// The counter from which on commit is voted for; 0 where it is not.
+/// The counter from which on commit is voted for; 0 if it is not.
 #[tactic(auto, unfolding(protocol::specs::States::commit_counter))]
 pub(crate) fn commit_counter(votes: &Votes, ballot: &Ballot) -> u32
     ensures { result ≡ commit_counter votes.now ballot.now }
@@ -89,7 +89,7 @@ pub(crate) fn commit_counter(votes: &Votes, ballot: &Ballot) -> u32
     }
 }
 
-/// The counter of a ballot, or 0 where there is none. It takes no memory.
+/// The counter of a ballot, or 0 if there is none. It takes no memory.
 pub fn counter_of(ballot: &Option<Ballot>) -> u32
     ensures { result ≡ counter_of ballot.now }
 {

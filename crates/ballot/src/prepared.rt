@@ -20,11 +20,10 @@ use fedvote::{Mention, Sight};
 use std::alloc::{AllocError, Global};
 use types::{Ballot, LentBallot, Phase, Votes};
 
-/// Accepts as prepared the greatest of the highest accepted ballot and the named ballots whose prepare
-/// is accepted; in [`types::Phase::Committing`] only those of the ballot's value count. Where the
-/// highest accepted ballot goes to another value, lower ballots are aborted (after the Stellar
-/// Consensus Protocol draft; the aborted counter is this host's profile). Without a ballot nothing
-/// changes.
+/// Accepts as prepared the greatest of the highest accepted ballot and the named ballots whose prepare is accepted; in
+/// [`types::Phase::Committing`] only those of the ballot's value count. If the highest accepted ballot goes to another
+/// value, lower ballots are aborted (after the Stellar Consensus Protocol draft; the aborted counter is this host's
+/// profile). Without a ballot nothing changes.
 pub fn accept_prepared<S: Sight>(
     alloc: Global,
     sight: &S,
@@ -44,7 +43,7 @@ pub fn accept_prepared<S: Sight>(
     draft.set_aborted(aborted)
 }
 
-/// The highest accepted ballot, where it is above the one that was. `ballot` is the node's.
+/// The highest accepted ballot, if it is above the one that was. `ballot` is the node's.
 fn higher_prepared<'a, S: Sight>(
     alloc: Global,
     sight: &'a S,
@@ -67,8 +66,8 @@ fn higher_prepared<'a, S: Sight>(
     greatest_above(alloc, Mention::Named, &candidates, &check, &votes.prepared)
 }
 
-/// The aborted counter once the highest accepted ballot is the second of these: where its value is
-/// another than before, the first ballot's counter or one more, but never less than the counter was.
+/// The aborted counter once `new` is the highest accepted ballot: if its value is another than that of `old`, the
+/// counter of `old` or one more, but never less than the counter was.
 #[tactic(auto, unfolding(protocol::specs::Balloting::aborted_by))]
 fn aborted_by(old: &Option<Ballot>, new: &Ballot, aborted: u32) -> u32
     requires { Under old.now (Some new.now) }
@@ -80,9 +79,9 @@ fn aborted_by(old: &Option<Ballot>, new: &Ballot, aborted: u32) -> u32
     }
 }
 
-/// The least counter whose ballots are not aborted when this ballot gives way to one of another value,
-/// which is not below it: its own, or the next one where it has the greater value, for then it is
-/// aborted itself.
+/// The least counter whose ballots are not aborted when this ballot gives way to one of another value, which is not
+/// below it. It is the ballot's own, or the next one if the ballot has the greater value, for then it is aborted
+/// itself.
 fn first_kept(old: &Ballot, new: &Ballot) -> u32
     requires rises { below new.now old.now ≡ false }
     requires differ { same_value old.now.value new.now.value ≡ false }
@@ -115,7 +114,7 @@ pub fn confirm_prepared<S: Sight>(
     }
 }
 
-/// The same in [`types::Phase::Preparing`].
+/// What [`confirm_prepared`] does in [`types::Phase::Preparing`].
 #[tactic(auto, unfolding(protocol::specs::Balloting::confirm_prepared, protocol::specs::Balloting::raise_confirmed_prepared))]
 fn confirm_on_ballot<S: Sight>(
     alloc: Global,
@@ -148,7 +147,7 @@ fn raise_confirmed_prepared<S: Sight>(
     }
 }
 
-/// The highest confirmed ballot, where it is above the one that was.
+/// The highest confirmed ballot, if it is above the one that was.
 fn higher_confirmed<'a, S: Sight>(
     alloc: Global,
     sight: &'a S,
@@ -172,7 +171,7 @@ fn higher_confirmed<'a, S: Sight>(
     )
 }
 
-/// The ballot becomes the highest confirmed one where that is above it.
+/// The ballot becomes the highest confirmed one if that is above it.
 fn follow_confirmed_prepared(draft: &mut Draft<'_>) -> Result<(), AllocError>
     ensures { OnOk result (draft.new ≡ after (on_ballot follow_confirmed_prepared) draft.old) }
 {
@@ -182,7 +181,7 @@ fn follow_confirmed_prepared(draft: &mut Draft<'_>) -> Result<(), AllocError>
     }
 }
 
-/// The highest confirmed ballot, where it is above the ballot.
+/// The highest confirmed ballot, if it is above the ballot.
 #[tactic(auto, unfolding(protocol::specs::Balloting::follow_confirmed_prepared))]
 fn high_above_ballot(votes: &Votes) -> Result<Option<Ballot>, AllocError>
     ensures { IfOk result (λ o. record votes.now { ballot = option_or o votes.now.ballot } ≡ on_ballot follow_confirmed_prepared votes.now) }
@@ -195,8 +194,8 @@ fn high_above_ballot(votes: &Votes) -> Result<Option<Ballot>, AllocError>
     }
 }
 
-/// The ballot whose commit is voted for is reset where it is aborted; where there is none, it becomes
-/// the ballot once that is confirmed as prepared and is not aborted.
+/// The ballot whose commit is voted for is reset if it is aborted. If there is none then, it becomes the ballot once
+/// that is confirmed as prepared and is not aborted.
 #[tactic(auto, unfolding(protocol::specs::Balloting::set_commit))]
 fn set_commit(draft: &mut Draft<'_>) -> Result<(), AllocError>
     ensures { OnOk result (draft.new ≡ after set_commit draft.old) }
@@ -220,8 +219,8 @@ fn keeps_commit(votes: &Votes) -> bool
     }
 }
 
-/// The ballot whose commit is to be voted for where there is none: the node's, once it is confirmed as
-/// prepared and is not aborted.
+/// The ballot whose commit is to be voted for if there is none: the node's, if it is confirmed as prepared and not
+/// aborted.
 fn ballot_to_commit(votes: &Votes) -> Result<Option<Ballot>, AllocError>
     ensures { IfOk result (λ o. o ≡ or_confirmed_ballot votes.now votes.now.ballot None) }
 {
@@ -239,7 +238,6 @@ fn ballot_to_commit(votes: &Votes) -> Result<Option<Ballot>, AllocError>
     }
 }
 
-/// Commit is voted for no longer.
 fn reset_commit(draft: &mut Draft<'_>) -> Result<(), AllocError>
     ensures { OnOk result (draft.new ≡ after (λ w. record w { commit = None }) draft.old) }
 {

@@ -1,6 +1,6 @@
 //! The greatest of some candidates that passes a test: they are tried from the greatest down.
 //!
-//! Where a function here answers an error, memory is short.
+//! An error of a function here says that it is out of memory, or that a value has too many owners.
 
 ghost use Rattle.std.specs.Option.{option_or};
 ghost use Rattle.std.specs.Prelude.{◌≡◌, Bool, IfOk, List, None, filter};
@@ -19,7 +19,7 @@ use types::{Ballot, LentBallot};
 pub(crate) trait Candidates {
     ghost listed: { Self → Mention → List Ballot };
 
-    /// The greatest candidate below the bound, where there is one. It takes no memory.
+    /// The greatest candidate below the bound, if there is one. It takes no memory.
     fn next<'b>(&'b self, mention: Mention, bound: &Option<LentBallot>) -> Option<LentBallot<'b>>
         ensures { result ≡ next_under bound.now (listed self.now mention) };
 }
@@ -46,8 +46,8 @@ pub(crate) fn greatest_of<C: Candidates, T: Check>(
     greatest_above(alloc, mention, candidates, test, &None)
 }
 
-/// The greatest of the candidates that pass and are above the ballot that is there, if one is; `None` where there
-/// is no such candidate. None is tried that is not above that ballot, nor any below the first that passes.
+/// The greatest of the candidates that pass and are above the ballot that is there, if one is; `None` if there is no
+/// such candidate. None is tried that is not above that ballot, nor any below the first that passes.
 pub(crate) fn greatest_above<C: Candidates, T: Check>(
     alloc: Global,
     mention: Mention,

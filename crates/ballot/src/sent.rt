@@ -7,10 +7,11 @@ ghost use Rattle.protocol.specs.States.{prepared_as_sent, sent_in, sent_vote};
 use crate::positions::{commit_counter, high_counter, position};
 use types::{Ballot, LentBallot, LentStatement, Phase, Votes};
 
-/// The ballot statement that is sent; a node without a ballot sends none. In [`Phase::Preparing`] a
-/// highest accepted ballot above the ballot is sent as the greatest of its value that is not, and an aborted
-/// counter above the ballot's counter as that (after the Stellar Consensus Protocol draft; the aborted counter is
-/// this host's profile). It takes no memory.
+/// The ballot statement that a node with these votes sends; one without a ballot sends none. It takes no memory.
+///
+/// In [`Phase::Preparing`] nothing that is sent is above the node's ballot. If the highest ballot that it accepts as
+/// prepared is, the greatest ballot of the same value that is not above is sent instead (after the Stellar Consensus
+/// Protocol draft). If the aborted counter is above the ballot's counter, that counter is sent (this host's profile).
 #[tactic(auto, unfolding(protocol::specs::States::sent_vote, protocol::specs::States::sent_in, protocol::specs::States::position, protocol::specs::States::position_in))]
 pub fn sent_vote<'a>(votes: &'a Votes) -> Option<LentStatement<'a>>
     ensures { result ≡ sent_vote votes.now }
@@ -40,7 +41,7 @@ fn sent_prepare<'a>(votes: &'a Votes, ballot: &'a Ballot) -> LentStatement<'a>
     )
 }
 
-/// The highest accepted ballot, where there is one, as it is sent.
+/// The highest accepted ballot, if there is one, as it is sent.
 fn highest_accepted<'a>(ballot: &Ballot, prepared: &'a Option<Ballot>) -> Option<LentBallot<'a>>
     ensures { result ≡ option_map (prepared_as_sent ballot.now) prepared.now }
 {
@@ -50,8 +51,8 @@ fn highest_accepted<'a>(ballot: &Ballot, prepared: &'a Option<Ballot>) -> Option
     }
 }
 
-/// The highest accepted ballot as it is sent: where it is above the ballot, the greatest of its value
-/// that is not. At counter 0 there may be none, and then it stays above.
+/// The highest accepted ballot as it is sent: if it is above the ballot, the greatest of its value that is not. At
+/// counter 0 there may be none, and then it stays above.
 #[tactic(auto, unfolding(protocol::specs::States::prepared_as_sent))]
 fn prepared_as_sent<'a>(ballot: &Ballot, prepared: &'a Ballot) -> LentBallot<'a>
     ensures { result ≡ prepared_as_sent ballot.now prepared.now }

@@ -12,8 +12,8 @@ pub mod acts;
 ///
 /// Contracts see which cell it is, the configuration of its network, and how many seats it has.
 ///
-/// Its lock has one place, and it has one seat at least: where it has two, the thread of the one may
-/// have to wait while that of the other applies an event.
+/// Its lock has one place, and it has one seat at least. If it has two, the thread of the one may have to wait while
+/// that of the other applies an event.
 #[derive(Drop)]
 pub struct Cell<S: Shelf, H: Wait + Drop> {
     lock: Lock<S, H>,

@@ -25,9 +25,9 @@ use types::{Event, Refusal};
 /// cell has. The decisions of the entries below a kept number were appended to the publisher; those of the others are
 /// found in the journal, so keeping them takes no memory.
 ///
-/// What is published, then what waits to be, then what the other entries decided is all that the journal decided,
-/// in order. For example, where three entries decided x, nothing and y, and the kept number is 1, x was appended,
-/// and y is found in the journal.
+/// What is published, then what waits to be, then what the other entries decided is all that the journal decided, in
+/// order. For example, if three entries decided x, nothing and y, and the kept number is 1, x was appended, and y is
+/// found in the journal.
 #[derive(Drop)]
 pub struct CellState<S: Shelf, H: Wait + Drop> {
     journal: Journal<S>,
@@ -54,7 +54,7 @@ impl<S: Shelf, H: Wait + Drop> Model for CellState<S, H> {
 }
 
 impl<S: Shelf, H: Wait + Drop> CellState<S, H> {
-    /// A network where nothing has happened, in a cell with so many seats, and a publisher with nothing appended, if
+    /// A network where nothing has happened, in a cell with `seats` seats, and a publisher with nothing appended, if
     /// there is one. It takes no memory.
     pub(crate) fn new(
         alloc: Global,
@@ -82,8 +82,7 @@ impl<S: Shelf, H: Wait + Drop> CellState<S, H> {
         self.stopped = true;
     }
 
-    /// The journal, and what was published of its decisions, where there is a publisher. It waits for watches that
-    /// read.
+    /// The journal, and what was published of its decisions, if there is a publisher. It waits for watches that read.
     pub(crate) fn into_parts(self) -> (Journal<S>, Option<Box<Board>>)
         ensures log { result.0 ≡ self.log }
         ensures published { IfSome result.1 (λ b. IsPrefix b.value (decisions_known self.log.entries)) }
@@ -101,7 +100,7 @@ impl<S: Shelf, H: Wait + Drop> CellState<S, H> {
         }
     }
 
-    /// Publishes what the journal decided, as far as there is memory, where there is a publisher. It waits for watches
+    /// Publishes what the journal decided, as far as there is memory, if there is a publisher. It waits for watches
     /// that read.
     pub(crate) fn publish(self) -> CellState<S, H>
         ensures { result ≡ self }
@@ -153,8 +152,8 @@ impl<S: Shelf, H: Wait + Drop> CellState<S, H> {
         self.journal.apply_recorded(event)
     }
 
-    /// Applies an event, where there is no stop mark, and keeps its receipt behind those of a seat. An error
-    /// leaves all as it was.
+    /// Applies an event, if there is no stop mark, and keeps its receipt behind those of a seat. An error leaves all as
+    /// it was.
     pub(crate) fn enter(
         &mut self,
         receipts: &mut VecDeque<Receipt>,

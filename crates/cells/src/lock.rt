@@ -52,7 +52,7 @@ pub(crate) fn take<S: Shelf, H: Wait + Drop, R: Wait>(
     unreachable!()
 }
 
-/// Puts the cell state back. The view is then the one that was named.
+/// Puts the cell state back. The view is then that of `N`.
 pub(crate) fn give<N: Next, S: Shelf, H: Wait + Drop, R: Wait>(
     rt: &R,
     lock: &Lock<S, H>,
@@ -71,7 +71,7 @@ pub(crate) fn give<N: Next, S: Shelf, H: Wait + Drop, R: Wait>(
     }
 }
 
-/// Puts the cell state back with one entry more, where there is no stop mark.
+/// Puts the cell state back with one entry more, if there is no stop mark.
 pub(crate) fn add<N: Next, S: Shelf, H: Wait + Drop, R: Wait>(
     rt: &R,
     lock: &Lock<S, H>,

@@ -5,8 +5,8 @@ ghost use Rattle.std.specs.Prelude.{◌≡◌};
 use std::marker::Model;
 use types::{Event, Out};
 
-/// An event that a seat applied: the number of its network, the number of its entry in the journal, from 0 on;
-/// the event; what it gave out; and by which numbers, from 1 on, a Hear names each of its emissions.
+/// An event that a seat applied, with the number of its network, the number of its entry in the journal, from 0 on, and
+/// what it gave out. Its marks are the numbers, from 1 on, by which a Hear names each of its emissions.
 #[derive(Drop)]
 pub struct Receipt {
     pub(crate) network: u32,

@@ -7,6 +7,6 @@ use types::Refusal;
 pub enum CellRefusal {
     /// The cell was stopped. It comes before all others.
     Closed,
-    /// The network refuses the event, or memory was wanting.
+    /// The network refuses the event, or it is out of memory.
     Network(Refusal),
 }

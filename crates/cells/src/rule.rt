@@ -48,7 +48,7 @@ impl Next for Brand {
     ghost next = { opener };
 }
 
-/// The cell state is put back, and the view is the one that was named.
+/// The cell state is put back, and the view is that of `N`.
 pub struct Gives<N> {
     of: std::marker::PhantomData<N>,
 }

@@ -18,8 +18,8 @@ use std::sync::Wait;
 /// all its receipts, the refusals that it was answered, and how often it set the mark. Of its receipts they see how
 /// many it has let go.
 ///
-/// What it knows is sound: where this seat applied the first event and another one the second, it has the one
-/// receipt of the first, and the journal as it saw it last has one entry, or both.
+/// What it knows is sound. For example, this seat applied the first event, and another one the second. Then it has only
+/// the receipt of the first, and the journal as it saw it last has one entry, or both.
 #[derive(Drop)]
 pub struct Seat<S: Shelf, H: Wait + Drop> {
     pub(crate) pass: SeatPass<S, H>,
@@ -51,8 +51,8 @@ impl<S: Shelf, H: Wait + Drop> Seat<S, H> {
         self.number
     }
 
-    /// A law: the receipts stand in what the seat has seen, at rising numbers, and its denials were right. It has let go
-    /// of no more receipts than it has.
+    /// A law: the receipts stand in what the seat has seen, at rising numbers, and its denials were right. It has let
+    /// go of no more receipts than it has.
     pub fn is_sound(&self)
         ensures sound { IsSound self.now.me }
         ensures few { self.now.let_go ≤ length self.now.me.receipts }
@@ -67,8 +67,8 @@ impl<S: Shelf, H: Wait + Drop> Seat<S, H> {
         &self.receipts
     }
 
-    /// Lets go of the first receipt that it has kept, and hands it over. None says that it keeps none, and the memory of
-    /// those that it kept is given back.
+    /// Lets go of the first receipt that it has kept, and hands it over. None says that it keeps none, and the memory
+    /// of those that it kept is given back.
     pub fn take_receipt(&mut self) -> Option<Receipt>
         ensures some { IfSome result (λ r. slice_get self.old.me.receipts self.old.let_go ≡ Some r) }
         ensures one { IfSome result (λ _. self.new ≡ record self.old { let_go = self.old.let_go + 1 }) }

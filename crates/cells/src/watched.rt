@@ -9,7 +9,7 @@ use envstore::Shelf;
 use hoststep::Journal;
 use std::sync::Wait;
 
-/// Appends what the entry of this number decided to the publisher. False where there is no memory.
+/// Appends what the entry of this number decided to the publisher. False if it is out of memory.
 fn append_one<S: Shelf, H: Wait + Drop>(
     journal: &Journal<S>,
     publisher: &mut Publisher<H>,
@@ -53,7 +53,7 @@ fn append_all<S: Shelf, H: Wait + Drop>(
     journal.len()
 }
 
-/// Publishes what waits, where there is any and there is memory.
+/// Publishes what waits, if there is any and there is memory.
 fn publish_waiting<H: Wait + Drop>(publisher: Publisher<H>) -> Publisher<H>
     ensures { result.0 ++ result.1 ≡ publisher.0 ++ publisher.1 }
 {
@@ -64,7 +64,7 @@ fn publish_waiting<H: Wait + Drop>(publisher: Publisher<H>) -> Publisher<H>
     publisher
 }
 
-/// Publishes what the entries from this number on decided, as far as there is memory, where there is a publisher, and
+/// Publishes what the entries from this number on decided, as far as there is memory, if there is a publisher, and
 /// answers from which number on it did not append.
 pub(crate) fn publish_all<S: Shelf, H: Wait + Drop>(
     journal: &Journal<S>,
@@ -83,7 +83,7 @@ pub(crate) fn publish_all<S: Shelf, H: Wait + Drop>(
     }
 }
 
-/// So many more than what the entries from this number on decided.
+/// `before`, and how many decisions the entries from this number on made.
 pub(crate) fn count_decisions<S: Shelf>(journal: &Journal<S>, from: usize, before: usize) -> usize
     requires within { from ≤ length journal.now.entries }
     requires few { before + length (decisions_from journal.now.entries from) ≤ length journal.now.entries }

@@ -8,13 +8,13 @@ ghost use Rattle.closure.specs.Announcing.{announced_at, slices_then};
 
 use types::{Nested, NodeId};
 
-/// What an applied event of a journal announces: which slices of a node, to which hosted node, and at which
-/// slot. A hosted node that is given new slices announces them to itself.
+/// What an applied event of a journal announces: which slices of a node, to which hosted node, and at which slot. A
+/// hosted node that is given new slices announces them to itself.
 #[derive(Clone, Copy)]
 pub struct Announcement<'a> {
-    /// The slot of the envelope, or the one at which the slices are new.
+    /// The slot of the envelope, or the one at which the slices were given.
     pub slot: u64,
-    /// The hosted node that learnt of them.
+    /// The hosted node that learnt the slices.
     pub receiver: NodeId,
     /// The node that announced the slices.
     pub sender: NodeId,
@@ -22,8 +22,7 @@ pub struct Announcement<'a> {
     pub slices: &'a Nested,
 }
 
-/// A journal as closures see it: the hosted nodes with their configured slices, and what each entry
-/// announces.
+/// A journal as closures see it: the hosted nodes with their configured slices, and what each entry announces.
 ///
 /// The ghost members are the hosted nodes and the entries of the definitions. No method takes memory.
 pub trait Announcements {
@@ -33,13 +32,13 @@ pub trait Announcements {
     /// The applied events, in order, with what they gave out.
     ghost entries: { Self → List Entry };
 
-    /// The configured slices of a node, where it is hosted.
+    /// The configured slices of a node, if it is hosted.
     fn slices(&self, node: &NodeId) -> Option<&Nested>
         ensures value { option_map (λ q. q.now) result ≡ slices_of (nodes self.now) node.now }
         ensures ascending { IsAscending (map (λ h. h.name) (nodes self.now)) };
 
-    /// The slices of a node at a slot after all entries, where it is hosted: those that it was given there
-    /// last since the slot was opened, else the configured ones.
+    /// The slices of a node at a slot after all entries, if it is hosted: those that it was given last since the slot
+    /// was opened, else the configured ones.
     fn slices_then(&self, node: &NodeId, slot: u64) -> Option<&Nested>
         ensures { option_map (λ q. q.now) result ≡ slices_then (nodes self.now) slot (entries self.now) node.now };
 
@@ -47,8 +46,8 @@ pub trait Announcements {
     fn len(&self) -> usize
         ensures { result ≡ length (entries self.now) };
 
-    /// What the entry with this number announces, from 0 on: `None` where it is neither a delivery nor a
-    /// change of slices, and where there is no such entry.
+    /// What the entry with this number announces, from 0 on. It is `None` if the entry is neither a delivery nor a
+    /// change of slices, or if there is no such entry.
     fn announcement(&self, number: usize) -> Option<Announcement<'_>>
         ensures { option_map (λ a. record { slot = a.slot; receiver = a.receiver; sender = a.sender; slices = a.slices.now }) result ≡ announced_at (entries self.now) number };
 }

@@ -14,9 +14,9 @@ use types::NodeId;
 /// The members of a closure, in the order in which they were found, each with the place of the member
 /// that named it. Places count from 0; the first member names itself.
 ///
-/// Members are found by hash, and the hasher has a fixed seed, so whoever picks many names can give them one
-/// hash. No stranger does: the first name is the one that was asked for, and each other one stands in the
-/// configured slices of a member or in slices that a member announced. A stranger is only looked up.
+/// Members are found by hash, and the hasher has a fixed seed, so whoever picks many names can give them one hash. No
+/// stranger can: the first name is the one that was asked for, and each other one stands in the slices of a member. A
+/// stranger is only looked up.
 #[derive(Drop)]
 pub struct ClosureList {
     members: IndexMap<NodeId, usize>,
@@ -31,7 +31,7 @@ impl Model for ClosureList {
 }
 
 impl ClosureList {
-    /// The closure of a node that names nobody.
+    /// The closure of a node that names nobody. An error says that it is out of memory.
     pub(crate) fn of(alloc: Global, node: &NodeId) -> Result<ClosureList, AllocError>
         ensures { IfOk result (λ c. c ≡ (node.now, 0) ∷ []) }
     {
@@ -40,7 +40,8 @@ impl ClosureList {
         Ok(ClosureList { members })
     }
 
-    /// Adds a name at the end, with the place of the member that names it, unless it is there.
+    /// Adds a name at the end, with the place of the member that names it, unless it is there. An error says that it is
+    /// out of memory.
     pub(crate) fn add(&mut self, name: &NodeId, namer: usize) -> Result<(), AllocError>
         ensures { OnOk result (self.new ≡ with_member self.old name.now namer) }
     {
@@ -66,7 +67,7 @@ impl ClosureList {
         self.members.len() == 0
     }
 
-    /// The place of a node, where it is a member.
+    /// The place of a node, if it is a member.
     pub fn place(&self, node: &NodeId) -> Option<usize>
         ensures { MatchOption result (IsFalse (among (names_of self.now) node.now)) (λ k. slice_get (names_of self.now) k ≡ Some node.now) }
     {
@@ -80,8 +81,8 @@ impl ClosureList {
         self.members.contains_key(node)
     }
 
-    /// The name of the member at a place, with the place of the member that named it. There is none
-    /// exactly from the number of members on.
+    /// The name of the member at a place, with the place of the member that named it. There is one exactly below the
+    /// number of members.
     pub fn member(&self, place: usize) -> Option<(NodeId, usize)>
         ensures { result ≡ slice_get self.now place }
     {
@@ -91,7 +92,7 @@ impl ClosureList {
         }
     }
 
-    /// The name of the member at a place. There is none exactly from the number of members on.
+    /// The name of the member at a place. There is one exactly below the number of members.
     pub fn name(&self, place: usize) -> Option<NodeId>
         ensures { result ≡ slice_get (names_of self.now) place }
     {

@@ -10,11 +10,11 @@ use std::collections::BTreeMap;
 use std::marker::Model;
 use types::NodeId;
 
-/// The last announcement of each party, and for each entry the last announcement before it of the same party:
-/// whoever follows these numbers sees all announcements of a party, and no other.
+/// The last announcement of each party, and for each entry the last announcement before it of the same party. Who
+/// follows these numbers sees all announcements of a party, and no other.
 ///
-/// Strangers are parties too, and pick their names: the map is ordered, so that a party takes a number of steps
-/// that is logarithmic in how many there are, whatever their names.
+/// Strangers are parties too, and pick their names. So the map is ordered: a party takes logarithmically many steps in
+/// the number of parties, whatever their names.
 #[derive(Drop)]
 pub struct Links {
     latest: BTreeMap<NodeId, usize>,
@@ -30,7 +30,6 @@ impl Model for Links {
 }
 
 impl Links {
-    /// No entries.
     fn new(alloc: Global) -> Links
         ensures { result ≡ record { latest = []; earlier = [] } }
     {
@@ -40,7 +39,7 @@ impl Links {
         }
     }
 
-    /// One more entry: an announcement of this party, or none.
+    /// Adds an entry: an announcement of this party, or none.
     fn push(&mut self, party: Option<NodeId>) -> Result<(), AllocError>
         ensures { OnOk result (IsIndexedTo self.old self.new party) }
     {
@@ -86,7 +85,7 @@ impl Model for Deliveries {
 }
 
 impl Deliveries {
-    /// All announcements of a journal at a slot.
+    /// The announcements of a journal at a slot. An error says that it is out of memory.
     pub fn of<J: Announcements>(
         alloc: Global,
         journal: &J,
@@ -102,7 +101,6 @@ impl Deliveries {
         Ok(deliveries)
     }
 
-    /// No entries.
     fn new(alloc: Global) -> Deliveries
         ensures sent { result.sent ≡ record { latest = []; earlier = [] } }
         ensures heard { result.heard ≡ record { latest = []; earlier = [] } }
@@ -113,7 +111,7 @@ impl Deliveries {
         }
     }
 
-    /// One more entry: an announcement of this sender to this receiver, or none.
+    /// Adds an entry: an announcement of this sender to this receiver, or none.
     fn push(&mut self, sender: Option<NodeId>, receiver: Option<NodeId>) -> Result<(), AllocError>
         ensures sent { OnOk result (IsIndexedTo self.old.sent self.new.sent sender) }
         ensures heard { OnOk result (IsIndexedTo self.old.heard self.new.heard receiver) }
@@ -123,7 +121,7 @@ impl Deliveries {
     }
 }
 
-/// The sender and the receiver of the entry with this number, where it is an announcement at the slot.
+/// The sender and the receiver of the entry with this number, if it is an announcement at the slot.
 fn parties_at<J: Announcements>(
     journal: &J,
     number: usize,

@@ -8,7 +8,7 @@ ghost use Rattle.closure.specs.Least.{AreAll, IsLeast, lesser};
 use crate::closure_list::ClosureList;
 use types::NodeId;
 
-/// The least member that fails a test; none where all pass it. Each member is tested once.
+/// The least member that fails a test; none if all pass it. Each member is tested once.
 pub fn least_failing<F: Fn(&NodeId) -> bool>(members: &ClosureList, test: F) -> Option<NodeId>
     requires { F.IsAlwaysCallable test }
     ensures { MatchOption result (AreAll (λ u. FnReturnsAt F.Fn test u true) (names_of members.now)) (IsLeast (λ u. FnReturnsAt F.Fn test u false) (λ u. FnReturnsAt F.Fn test u true) (names_of members.now)) }
@@ -24,7 +24,6 @@ pub fn least_failing<F: Fn(&NodeId) -> bool>(members: &ClosureList, test: F) -> 
     least
 }
 
-/// The lesser of the names.
 fn lesser(best: Option<NodeId>, name: NodeId) -> Option<NodeId>
     ensures { result ≡ lesser best name }
 {

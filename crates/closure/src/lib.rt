@@ -1,9 +1,8 @@
-//! Whom a node comes to depend on in a journal, its closure: the nodes that its slices name, those that their
+//! Whom a node comes to depend on in a journal, which is its closure: the nodes that its slices name, those that their
 //! slices name, and so on, by all that was announced (this host's profile).
 //!
-//! Comparisons of two networks ask two things more of the members: which one is the least that fails a test,
-//! and whether both networks host a node alike. Beside the code stand lemmas on two lists side by side, by
-//! which they find where the first steps differ.
+//! Comparisons of two networks need two things more: the least member that fails a test, and whether both networks host
+//! a node alike. Lemmas beside the code find where the first steps of two lists differ.
 #![tactic(auto)]
 
 mod announcing;

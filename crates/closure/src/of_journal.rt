@@ -11,18 +11,17 @@ use crate::turns::Turns;
 use std::alloc::{AllocError, Global};
 use types::NodeId;
 
-/// All nodes that a node comes to depend on at a slot in a whole journal: the node itself, the names of
-/// the configured slices of each hosted member, the names of all slices that a hosted member was given at
-/// the slot, and the names that an applied delivery from a member to a member announces (this host's
-/// profile). An error says that memory is short.
+/// All nodes that a node comes to depend on at a slot in a whole journal (this host's profile): the node itself, the
+/// names of the configured slices of each hosted member, of all slices that a hosted member was given at the slot, and
+/// of those that an applied delivery from a member to a member announces. An error says that it is out of memory.
 ///
-/// The node comes first, and each later member has an earlier one that names it. Members have their
-/// turns by place, again and again until a whole sweep adds none; in its turn a member adds the missing
-/// names that it gives, ascending, its announcements counting to the members of that moment.
+/// The node comes first, and each later member has an earlier one that names it. Members have their turns by place, in
+/// sweeps, until a whole sweep adds none. In its turn a member adds the missing names that it gives, ascending. Of its
+/// announcements those count that were made to members of that moment.
 ///
-/// Each announcement is looked at a fixed number of times, however many sweeps there are, and its names are
-/// read at most once: those to a node wait until it is a member, and then for the next turn of their senders.
-/// A turn for which none is ready takes a fixed time. There are at most two sweeps more than hosted members.
+/// Each announcement is looked at a fixed number of times, however many sweeps there are, and its names are read at
+/// most once. One to a node waits until that is a member, and then for the next turn of its sender. A turn for which
+/// none is ready takes a fixed time. There are at most two sweeps more than hosted members.
 pub fn closure<J: Announcements>(
     alloc: Global,
     journal: &J,
@@ -41,13 +40,13 @@ pub fn closure<J: Announcements>(
     turns.closure_of(alloc, node)
 }
 
-/// A law: a closure has one list.
+/// A law: a closure has only one list.
 #[tactic(auto, using(crate::proofs::OneOrder::closure_lists_are_one))]
 pub fn closure_lists_are_one()
     ensures { ClosureListsAreOne }
 {}
 
-/// The names of a journal's hosted nodes ascend: whoever looks a node up has seen all its slices.
+/// A law: the names of a journal's hosted nodes ascend, so who looks a node up has seen all its slices.
 fn hosted_ascend<J: Announcements>(journal: &J, node: &NodeId)
     ensures { IsAscending (map (λ h. h.name) (J.nodes journal.now)) }
 {

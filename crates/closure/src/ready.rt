@@ -7,8 +7,8 @@ use std::alloc::{AllocError, Global};
 use std::marker::Model;
 use std::mem;
 
-/// For each member that had a turn, by its place, the numbers of announcements that its next turn looks at:
-/// those to members that joined since the last one.
+/// For each member that had a turn, by its place, the numbers of the announcements that its next turn looks at: those
+/// to members that joined since the last one.
 #[derive(Drop)]
 pub struct Ready {
     places: Vec<Vec<usize>>,
@@ -32,8 +32,8 @@ impl Ready {
         }
     }
 
-    /// One more number for the member at a place; none where it had no turn yet, since its first one looks
-    /// at all that it announced.
+    /// Adds a number for the member at a place, unless it had no turn yet, since its first one looks at all that it
+    /// announced. An error says that it is out of memory.
     pub fn put(&mut self, place: usize, number: usize) -> Result<(), AllocError>
         ensures { OnOk result (self.new ≡ with_ready self.old place number) }
     {
@@ -43,8 +43,8 @@ impl Ready {
         Ok(())
     }
 
-    /// Takes the numbers that are ready for the member at a place. `None` says that this is its first turn:
-    /// it has a list from then on, where it is the next place.
+    /// Takes the numbers that are ready for the member at a place. `None` says that this is its first turn; it has a
+    /// list from then on, if it is the next place. An error says that it is out of memory.
     pub fn take(&mut self, alloc: Global, place: usize) -> Result<Option<Vec<usize>>, AllocError>
         ensures numbers { IfOk result (λ o. option_map (λ v. v.items) o ≡ slice_get self.old place) }
         ensures turned { OnOk result (self.new ≡ lists_after_turn self.old place) }

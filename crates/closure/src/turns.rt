@@ -29,7 +29,8 @@ struct Turn {
 }
 
 impl<'a, J: Announcements> Turns<'a, J> {
-    /// The closure of a node: sweeps through the members, of whom it is the first, until one adds none.
+    /// The closure of a node: sweeps through the members, of whom it is the first, until one adds none. An error says
+    /// that it is out of memory.
     pub fn closure_of(&self, alloc: Global, node: &NodeId) -> Result<ClosureList, AllocError>
         requires index { AreIndexed self.now.slot (J.entries self.now.journal.now) (length (J.entries self.now.journal.now)) self.now.deliveries.now }
         requires nodes { IsAscending (map (λ h. h.name) (J.nodes self.now.journal.now)) }
@@ -45,7 +46,7 @@ impl<'a, J: Announcements> Turns<'a, J> {
         Ok(members)
     }
 
-    /// Goes through the members by place, those that it adds included: each has its turn.
+    /// Goes through the members by place, also those that it adds: each has its turn.
     fn sweep(
         &self,
         alloc: Global,
@@ -68,9 +69,9 @@ impl<'a, J: Announcements> Turns<'a, J> {
         Ok(())
     }
 
-    /// The turn of the member at a place: the names that it gives and that are missing join, ascending.
+    /// The turn of the member at a place: the missing names that it gives join, ascending.
     ///
-    /// Its announcements count to the members of this moment.
+    /// Of its announcements those count that were made to members of this moment.
     fn take(
         &self,
         alloc: Global,
@@ -97,8 +98,9 @@ impl<'a, J: Announcements> Turns<'a, J> {
         Ok(())
     }
 
-    /// The names that the member whose turn it is gives, ascending, save such as are members: in its first turn
-    /// all of them, then those that announcements add which became ready since the last one.
+    /// The names that the member whose turn it is gives, ascending; of those that are members already some may be left
+    /// out. In its first turn it gives all of them, later only those of announcements that became ready since the last
+    /// one.
     fn names_of_turn(
         &self,
         alloc: Global,
@@ -121,8 +123,8 @@ impl<'a, J: Announcements> Turns<'a, J> {
         Ok(names)
     }
 
-    /// All names that a node gives: those of its configured slices where it is hosted, and those of its
-    /// announcements at the slot to members.
+    /// All names that a node gives: those of its configured slices, if it is hosted, and those of its announcements at
+    /// the slot to members.
     fn all_names(
         &self,
         alloc: Global,
@@ -142,7 +144,7 @@ impl<'a, J: Announcements> Turns<'a, J> {
         Ok(names)
     }
 
-    /// The names of a node's configured slices, where it is hosted.
+    /// The names of a node's configured slices, if it is hosted.
     fn configured_names(&self, alloc: Global, node: &NodeId) -> Result<Vec<NodeId>, AllocError>
         ensures { IfOk result (λ v. v.items ≡ known_names (slices_of (J.nodes self.now.journal.now) node.now)) }
     {
@@ -170,8 +172,8 @@ impl<'a, J: Announcements> Turns<'a, J> {
         Ok(names)
     }
 
-    /// Adds the names that the entry with this number announces, where it is an announcement of the node at
-    /// the slot to a member.
+    /// Adds the names that the entry with this number announces, if it is an announcement of the node at the slot to a
+    /// member.
     fn count(
         &self,
         number: usize,
@@ -193,8 +195,8 @@ impl<'a, J: Announcements> Turns<'a, J> {
         Ok(())
     }
 
-    /// A name joins, with the place of the member that names it, unless it is there; the announcements to it
-    /// become ready.
+    /// Has a name join, with the place of the member that names it, unless it is there. The announcements to it become
+    /// ready.
     fn join(
         &self,
         members: &mut ClosureList,
@@ -212,7 +214,7 @@ impl<'a, J: Announcements> Turns<'a, J> {
         Ok(())
     }
 
-    /// The announcements at the slot to a node become ready for their senders.
+    /// Makes the announcements at the slot to a node ready for their senders.
     fn wake(
         &self,
         members: &ClosureList,
@@ -232,7 +234,7 @@ impl<'a, J: Announcements> Turns<'a, J> {
         Ok(())
     }
 
-    /// The entry with this number becomes ready for its sender, where that is a member that had a turn.
+    /// Makes the entry with this number ready for its sender, if that is a member that had a turn.
     fn put(&self, members: &ClosureList, ready: &mut Ready, number: usize) -> Result<(), AllocError>
         ensures more { OnOk result (AreMore ready.old ready.new) }
         ensures ready { OnOk result (IsFor (names_of members.now) ready.new number (announced_at (J.entries self.now.journal.now) number)) }
@@ -249,7 +251,6 @@ impl<'a, J: Announcements> Turns<'a, J> {
     }
 }
 
-/// The same names, in order.
 #[tactic(auto, using(crate::proofs::Ordering::sorted_in_order, crate::proofs::Ordering::sorted_same))]
 fn put_in_order(names: &mut Vec<NodeId>)
     ensures order { AreInOrder names.new.items }

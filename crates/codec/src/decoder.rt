@@ -27,20 +27,20 @@ pub const MAX_BYTES: usize = 65536;
 
 /// The envelope that the bytes spell, all of the bytes.
 ///
-/// The format is that of this host's profile: version 1 or 2, the kind of statement, the sender, the slot,
-/// the slices and the fields of the statement, all numbers big-endian. An envelope comes back only
-/// where it keeps every rule of slices and statements. A name costs a binary search among the names before
-/// it, of which at most 256 are read, and a move of those that are greater.
+/// The format is that of this host's profile: version 1 or 2, the kind of statement, the sender, the slot, the slices
+/// and the fields of the statement, all numbers big-endian. An envelope comes back only if it keeps every rule of
+/// slices and statements. A name costs a binary search among the names before it, of which at most 256 are read, and a
+/// move of those that are greater.
 ///
 /// # Errors
 ///
-/// `CodecError::Fault` with the first fault from left to right, a length above `MAX_BYTES` before
-/// all; `CodecError::NoMemory` where a growth was refused. The length, the version and the kind are judged
-/// before memory is asked for.
+/// `CodecError::Fault` with the first fault from left to right, a length above `MAX_BYTES` before all;
+/// `CodecError::NoMemory` if it is out of memory. The length, the version and the kind are judged before memory is
+/// asked for.
 pub fn decode(alloc: Global, bytes: &[u8]) -> Result<Envelope, CodecError>
-    // What is answered is spelled so.
+    // The envelope that is answered is the one that the bytes spell.
     ensures found { IfOk result (Spells bytes.now) }
-    // What is spelled so is answered, unless memory runs out.
+    // The envelope that they spell is answered, unless memory runs out.
     ensures only { (e : Sent) → Spells bytes.now e → Gives (λ v. v) result (Ok e) }
     // A refusal names a fault that the text has.
     ensures fault { IfErr result (Refuses bytes.now) }
@@ -76,8 +76,8 @@ pub fn one_spelling()
     ensures { (e : Sent) → IsEnvelope e → HasOneSpelling e }
 {}
 
-/// Each text is either the spelling of exactly one envelope or has exactly one fault: so the faults
-/// leave no choice of an answer, and want of memory is all that can keep `decode` from it.
+/// Each text is either the spelling of exactly one envelope or has exactly one fault. So the faults leave no choice of
+/// an answer, and only being out of memory can keep `decode` from it.
 pub fn one_answer()
     ensures { (text : List ℕ) → IsBytes text → HasOneAnswer text }
 {}
@@ -131,7 +131,7 @@ fn read_parts(
     Ok(envelope_of(sender, slot, slices, body)?)
 }
 
-/// The envelope of these parts, where its statement keeps the rules of its kind.
+/// The envelope of these parts, if its statement keeps the rules of its kind.
 #[tactic(auto, using(crate::proofs::BodyLaws::well_formed_stands, crate::proofs::BodyLaws::ill_formed_falls))]
 fn envelope_of(
     sender: NodeId,

@@ -18,7 +18,7 @@ use types::{Ballot, Envelope, Member, NodeId, SliceSet, Statement, Value, Values
 ///
 /// # Errors
 ///
-/// `AllocError` where memory is wanting, and only there.
+/// `AllocError` if it is out of memory, and only then.
 pub fn encode(alloc: Global, envelope: &Envelope) -> Result<Vec<u8>, AllocError>
     ensures { IfOk result (λ v. Spells v.items envelope.now) }
 {
@@ -113,7 +113,7 @@ fn put_statement(out: &mut Vec<u8>, statement: &Statement) -> Result<(), AllocEr
     }
 }
 
-/// Adds one set of a nomination: a count, and so many values.
+/// Adds one set of a nomination: a count, and as many values.
 fn put_nominated(out: &mut Vec<u8>, values: &Values) -> Result<(), AllocError>
     requires { length values.now ≤ most_nominated }
     ensures { OnOk result (out.new.items ≡ out.old.items ++ nominated_values values.now) }

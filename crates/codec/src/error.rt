@@ -63,13 +63,13 @@ pub enum CodecError {
     /// The bytes are no envelope.
     #[error("{0}")]
     Fault(Fault),
-    /// Memory was wanting. It says nothing of the bytes.
+    /// It is out of memory. It says nothing of the bytes.
     #[error("memory is wanting")]
     NoMemory,
 }
 
 impl CodecError {
-    /// The number by which the error is known: that of the fault, or 8 for want of memory.
+    /// The number by which the error is known: that of the fault, or 8 if it is out of memory.
     pub fn number(&self) -> u8
         ensures { result ≡ error_number self.now }
     {

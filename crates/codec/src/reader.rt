@@ -11,8 +11,7 @@ use types::{Ballot, MAX_VALUE_LENGTH, NodeId, Value};
 
 /// Bytes that are read from the front, seen by contracts as those that are left.
 ///
-/// What is read has left the reader. After an error it stands somewhere behind the fault, and is of no
-/// more use.
+/// What is read has left the reader. After an error it stands anywhere in the bytes, and is of no more use.
 ///
 /// Each number that is left is a byte: for example, once one byte of 1, 2 and 255 is read, 2 and 255 are left; 256
 /// is never left.
@@ -62,7 +61,7 @@ impl<'a> Reader<'a> {
         }
     }
 
-    /// So many bytes.
+    /// The next `count` bytes.
     pub fn bytes(&mut self, count: usize) -> Result<&'a [u8], Fault>
         ensures read { Says (λ x. (x.now, self.new)) result (bytes_at count self.old) }
         ensures count { IfOk result (λ x. length x.now ≡ count) }

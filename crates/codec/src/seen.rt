@@ -12,7 +12,7 @@ use types::NodeId;
 /// Names in the order in which they came, none twice, and again in ascending order, in which a binary search finds
 /// one. Contracts see the first list.
 ///
-/// For example, where C, A and B came in this order, the lists are C, A, B and A, B, C.
+/// For example, if C, A and B came in this order, the lists are C, A, B and A, B, C.
 #[derive(Drop)]
 pub(crate) struct SeenNames {
     in_turn: Vec<NodeId>,
@@ -48,8 +48,8 @@ impl SeenNames {
         self.in_turn.len()
     }
 
-    /// Adds a name behind all others where it is not among them, and says whether it was added. An error says that
-    /// memory is short.
+    /// Adds a name behind all others if it is not among them, and says whether it was added. An error says that it is
+    /// out of memory.
     pub(crate) fn add(&mut self, name: NodeId) -> Result<bool, AllocError>
         ensures is_new { IfOk result (λ b. b ≡ not (is_among self.old name)) }
         ensures added { IfOk result (λ b. self.new ≡ (if b then self.old ++ name ∷ [] else self.old)) }

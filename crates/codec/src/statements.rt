@@ -49,7 +49,7 @@ impl StatementKind {
     }
 }
 
-/// The byte of a kind.
+/// A kind, by the byte that stands for it.
 #[tactic(auto, unfolding(crate::specs::Reading::kind_at))]
 pub fn read_kind(reader: &mut Reader) -> Result<StatementKind, Fault>
     ensures { Says (λ x. (kind_number x, reader.new)) result (kind_at reader.old) }
@@ -90,7 +90,7 @@ fn read_nominate(alloc: Global, reader: &mut Reader) -> Result<Statement, CodecE
     Ok(Statement::Nominate { voted, accepted })
 }
 
-/// One set of a nomination: a count, and so many values.
+/// One set of a nomination: a count, and as many values.
 #[tactic(auto, unfolding(crate::specs::Reading::nominated_at))]
 fn read_nominated(alloc: Global, reader: &mut Reader) -> Result<Values, CodecError>
     ensures { Gives (λ x. (x, reader.new)) result (nominated_at reader.old) }
@@ -102,7 +102,6 @@ fn read_nominated(alloc: Global, reader: &mut Reader) -> Result<Values, CodecErr
     read_values(alloc, reader, count)
 }
 
-/// So many values.
 fn read_values(alloc: Global, reader: &mut Reader, count: u8) -> Result<Values, CodecError>
     ensures { Gives (λ x. (x, reader.new)) result (values_at count reader.old) }
 {

@@ -39,7 +39,7 @@ pub enum Call {
     Compact(Word),
     /// `encode FROM SLOT SLICES STATEMENT`: print the bytes of the envelope that these words are.
     Encode(EncodeCall),
-    /// `decode HEX`: print the words of the envelope that bytes in lower-case hexadecimal are, or their fault; `-` is none.
+    /// `decode HEX`: print the words of the envelope in lower-case hexadecimal bytes, or their fault; `-` is no bytes.
     Decode(Word),
 }
 
@@ -85,7 +85,7 @@ pub struct PairCall {
     pub second: Word,
     /// The node, at a slot of a network.
     pub subject: Subject,
-    /// Whether a difference is to be explained, where scripts are compared, and a bad line on the standard error.
+    /// Whether the first difference that `compare` finds is explained, and a bad line on the standard error.
     pub explain: bool,
 }
 
@@ -126,7 +126,7 @@ pub enum Usage {
     Help(String),
     /// The words are no call: this text goes to the standard error, and the status is 2.
     Bad(String),
-    /// There was no memory to read the words or to make a text; the status is 3.
+    /// It was out of memory when it read the words or made a text; the status is 3.
     NoMemory,
 }
 
@@ -140,8 +140,8 @@ impl From<AllocError> for Usage {
 
 /// Reads the words after the program's name.
 ///
-/// Words of the form of a call are that call. All others are answered with help, where they ask for it, and else
-/// with what is wrong with them; the texts are written from the same forms.
+/// Words of the form of a call are that call. All others are answered with help, if they ask for it, and else with what
+/// is wrong with them; the texts are written from the same forms.
 pub fn read_call<S: AsStr>(alloc: Global, words: &[S]) -> Result<Call, Usage>
     ensures sound { IfOk result (IsCall (map S.text words.now)) }
     ensures complete { (call : Call) → IsCall (map S.text words.now) call
@@ -155,7 +155,7 @@ pub fn read_call<S: AsStr>(alloc: Global, words: &[S]) -> Result<Call, Usage>
     }
 }
 
-/// What words are answered that are no call: help, where they ask for it, and else this fault.
+/// What words are answered that are no call: help, if they ask for it, and else this fault.
 fn usage_of<S: AsStr>(alloc: Global, words: &[S], fault: &Fault<'_>) -> Usage
     ensures { IsUsage (map S.text words.now) result }
 {
@@ -332,7 +332,7 @@ fn pair_call<S: AsStr>(
     }
 }
 
-/// The call of `serve` with these operands, if they are none, and a journal that is to be replayed is named.
+/// The call of `serve` with these operands, if there are none, and a journal that is to be replayed is named.
 fn serve_call<S: AsStr>(
     alloc: Global,
     asked: &Options<'_>,

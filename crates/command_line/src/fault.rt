@@ -20,7 +20,7 @@ pub enum Fault<'a> {
     UnknownCommand(&'a str),
     /// This word has no place, behind this command or where a command should stand.
     Unexpected(Option<Command>, &'a str),
-    /// Operands are missing behind so many; `true` with options.
+    /// Operands of this command are missing: whether options are given, and how many operands are.
     Missing(Command, bool, usize),
     /// This option has no value.
     NoValue(&'a str),
@@ -32,11 +32,11 @@ pub enum Fault<'a> {
     Twice(Command, &'a str),
     /// Two hyphens stand in the wrong place.
     BadWord,
-    /// There was no memory to read the words.
+    /// It was out of memory when it read the words.
     NoMemory,
 }
 
-/// What is wrong where the first word is no command.
+/// What is wrong if the first word is no command.
 pub fn fault_of_command<S: AsStr>(words: &[S]) -> Fault<'_> {
     match words {
         [] => Fault::NoCommand,
@@ -50,7 +50,7 @@ pub fn fault_of_command<S: AsStr>(words: &[S]) -> Fault<'_> {
     }
 }
 
-/// What is wrong where options and operands could not be read on from these words.
+/// What is wrong if options and operands could not be read on at these words.
 pub fn fault_of_words<S: AsStr>(command: Command, words: &[S]) -> Fault<'_> {
     match words {
         [word, ..] if word.as_str() != "--" => fault_of_option(command, words),
@@ -58,7 +58,7 @@ pub fn fault_of_words<S: AsStr>(command: Command, words: &[S]) -> Fault<'_> {
     }
 }
 
-/// What is wrong where the first word has no place behind a command, or is an option of it.
+/// What is wrong if the first word has no place behind a command, or is an option of it.
 fn fault_of_option<'a, S: AsStr>(command: Command, words: &'a [S]) -> Fault<'a> {
     let [first, ..] = words else {
         return Fault::BadWord;
@@ -112,7 +112,7 @@ fn value_in<S: AsStr>(words: &[S]) -> Option<&str> {
     }
 }
 
-/// Whether an option or an operand takes a value.
+/// Whether the option or operand of this name takes this value.
 fn takes(name: &str, value: &str) -> bool {
     if name == WORKERS.name {
         workers_in(value).is_some()
@@ -131,7 +131,7 @@ fn takes(name: &str, value: &str) -> bool {
     }
 }
 
-/// What an option or an operand takes.
+/// What the option or operand of this name takes.
 fn wanted_by(name: &str) -> &'static str {
     if name == WORKERS.name {
         "a number from 1 to 64, without zeros in front"
@@ -148,7 +148,7 @@ fn wanted_by(name: &str) -> &'static str {
     }
 }
 
-/// The option has this name, and a value behind it.
+/// Whether the option has this name, and wants a value behind it.
 fn wants_value(option: &Part<'_>, name: &str) -> bool {
     match option.name.strip_prefix(name) {
         Some(value) => value.starts_with(' '),
@@ -156,7 +156,7 @@ fn wants_value(option: &Part<'_>, name: &str) -> bool {
     }
 }
 
-/// What is wrong with the operands of a command, where they make no call with these options.
+/// What is wrong with the operands of a command, if they make no call with these options.
 pub fn fault_of_operands<'a, S: AsStr>(
     command: Command,
     asked: &Options<'_>,
@@ -186,7 +186,7 @@ fn fault_of_operand<'a, S: AsStr>(parts: &[Part<'a>], operands: &'a [S]) -> Faul
     Fault::BadWord
 }
 
-/// What is said of a fault. Fails only for want of memory.
+/// What is said of a fault. An error says that it is out of memory.
 pub fn text_of_fault(alloc: Global, fault: &Fault<'_>) -> Result<String, AllocError> {
     if matches!(fault, Fault::BadWord) {
         return String::from_str(alloc, "bad usage\n");
@@ -243,8 +243,8 @@ fn push_fault(text: &mut String, fault: &Fault<'_>) -> Result<(), AllocError> {
     }
 }
 
-/// Adds that a word has no place behind a command, and how it could be an operand if it looks like an option and the
-/// command takes operands.
+/// Adds that a word has no place behind a command. If it looks like an option and the command takes operands, it adds
+/// how it could be one.
 fn push_unexpected(text: &mut String, command: Command, word: &str) -> Result<(), AllocError> {
     let form = form_of(command);
     write!(text, "unexpected argument '{word}' found\n\n")?;
@@ -268,7 +268,7 @@ fn push_no_command(text: &mut String) -> Result<(), AllocError> {
     text.push_str("help]\n\nUsage: scphost <COMMAND>\n")
 }
 
-/// Adds which operands are missing behind so many, and how the command is called.
+/// Adds which operands are missing behind the first `given`, and how the command is called.
 fn push_missing(
     text: &mut String,
     form: &Form<'_>,
@@ -288,7 +288,7 @@ fn push_missing(
     text.push_str("\n")
 }
 
-/// Adds that a journal is missing where one is to be replayed, and how it is named.
+/// Adds that a journal is missing for `--from`, and how it is named.
 fn push_no_journal(text: &mut String) -> Result<(), AllocError> {
     let (journal, from) = (JOURNAL.name, FROM.name);
     write!(

@@ -20,7 +20,9 @@ pub enum Page {
     Of(Command),
 }
 
-/// The page of help that the words ask for, if they ask for one.
+/// The page of help that words ask for: the whole for `--help` or `help`, the version for `--version`, and that of a
+/// command for `help COMMAND` or for a `--help` behind its name. `None` if they ask for none, or for that of an unknown
+/// command; what stands behind the first `--` asks for nothing.
 pub fn page_of<S: AsStr>(words: &[S]) -> Option<Page>
     ensures { result ≡ page_in (map S.text words.now) }
 {
@@ -63,7 +65,7 @@ fn page_of_command(name: &str) -> Option<Page>
     }
 }
 
-/// Some word in front of the first `--` asks for help.
+/// Whether a word in front of the first `--` asks for help.
 fn ask_help<S: AsStr>(words: &[S]) -> bool
     ensures { result ≡ ask_help (map S.text words.now) }
 {
@@ -76,21 +78,21 @@ fn ask_help<S: AsStr>(words: &[S]) -> bool
     }
 }
 
-/// The word asks for help: `--help`, or `-h` with any further letters.
+/// Whether the word asks for help: `--help`, or `-h` with any further letters.
 fn asks_help(word: &str) -> bool
     ensures { result ≡ asks_help word.now }
 {
     word == "--help" || has_letter(word, b'h')
 }
 
-/// The word asks for the version: `--version`, or `-V` with any further letters.
+/// Whether the word asks for the version: `--version`, or `-V` with any further letters.
 fn asks_version(word: &str) -> bool
     ensures { result ≡ asks_version word.now }
 {
     word == "--version" || has_letter(word, b'V')
 }
 
-/// The word is a hyphen with this letter behind it, and with any further letters.
+/// Whether the word is a hyphen with this letter behind it, and with any further letters.
 fn has_letter(word: &str, letter: u8) -> bool
     ensures { result ≡ has_letter letter word.now }
 {

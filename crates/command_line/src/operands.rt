@@ -6,7 +6,7 @@ ghost use Rattle.command_line.specs.Words.{is_plain as plain_word, operands_in, 
 
 use std::convert::AsStr;
 
-/// The operands that the words are, if they are some: no options, or any words behind `--`.
+/// The operands that the words are, if they are only operands: no options, or any words behind `--`.
 pub fn operands_of<S: AsStr>(words: &[S]) -> Option<&[S]>
     ensures { option_map (λ operands. map S.text operands.now) result ≡ operands_in (map S.text words.now) }
 {
@@ -29,14 +29,13 @@ pub fn plain_count<S: AsStr>(words: &[S]) -> usize
     }
 }
 
-/// None of the words is an option.
 fn are_plain<S: AsStr>(words: &[S]) -> bool
     ensures { result ≡ list_all plain_word (map S.text words.now) }
 {
     words.iter().all(|word| is_plain(word))
 }
 
-/// The word is no option.
+/// Whether the word is no option. A hyphen by itself is none.
 pub fn is_plain<S: AsStr>(word: &S) -> bool
     ensures { result ≡ plain_word (S.text word.now) }
 {

@@ -74,7 +74,7 @@ impl<'a> Options<'a> {
         }
     }
 
-    /// The name of the file that lines are kept in, as a word of its own. Fails only for want of memory.
+    /// The name of the file that lines are kept in, as a word of its own. An error says that it is out of memory.
     pub fn journal_word(&self, alloc: Global) -> Result<Option<Word>, AllocError>
         ensures { IfOk result (λ journal. journal ≡ self.now.journal) }
     {
@@ -87,14 +87,14 @@ impl<'a> Options<'a> {
         }
     }
 
-    /// A journal is to be replayed, and none is named.
+    /// Whether a journal is to be replayed, and none is named.
     pub fn lack_journal(&self) -> bool
         ensures { result ≡ lack_journal self.now }
     {
         self.from.is_some() && self.journal.is_none()
     }
 
-    /// Something is asked for.
+    /// Whether something is asked for.
     pub fn are_given(&self) -> bool {
         self.workers.is_some()
             || self.format.is_some()
@@ -129,7 +129,7 @@ pub fn options_and_operands<'a, S: AsStr>(
     }
 }
 
-/// What is asked for with the options beside it that the words begin with, and the words behind them.
+/// What is asked for with all options beside it that the words begin with, and the words behind them.
 fn options_before<'a, S: AsStr>(
     command: Command,
     asked: Options<'a>,
@@ -144,7 +144,8 @@ fn options_before<'a, S: AsStr>(
     }
 }
 
-/// What is asked for with the option of a command beside it that the first words are, and the words behind it.
+/// If the first words are an option of this command that was not given before: what is asked for with it too, and the
+/// words behind it.
 fn option_before<'a, S: AsStr>(
     command: Command,
     asked: &Options<'a>,
@@ -168,7 +169,7 @@ fn option_before<'a, S: AsStr>(
     }
 }
 
-/// The same with an option of `serve`.
+/// As [`option_before`], for the options of `serve`.
 fn serving_before<'a, S: AsStr>(
     asked: &Options<'a>,
     words: &'a [S],
@@ -188,7 +189,7 @@ fn serving_before<'a, S: AsStr>(
     }
 }
 
-/// The same with an option of a journal: `--journal FILE` or `--from L|open`.
+/// As [`option_before`], for `--journal FILE` and `--from L|open`.
 fn journal_before<'a, S: AsStr>(
     asked: &Options<'a>,
     words: &'a [S],
@@ -205,7 +206,7 @@ fn journal_before<'a, S: AsStr>(
     }
 }
 
-/// The same with the option `--format FORM`.
+/// As [`option_before`], for `--format FORM`.
 fn format_before<'a, S: AsStr>(
     asked: &Options<'a>,
     words: &'a [S],
@@ -219,7 +220,7 @@ fn format_before<'a, S: AsStr>(
     }
 }
 
-/// The same with the option `--workers N`.
+/// As [`option_before`], for `--workers N`.
 fn workers_before<'a, S: AsStr>(
     asked: &Options<'a>,
     words: &'a [S],
@@ -233,7 +234,7 @@ fn workers_before<'a, S: AsStr>(
     }
 }
 
-/// What is asked for with a number of workers beside it, if there was none.
+/// What is asked for with the number of workers `value` too, if none was given before, and `rest`.
 fn with_workers<'a, S: AsStr>(
     asked: &Options<'a>,
     value: &str,
@@ -255,7 +256,7 @@ fn with_workers<'a, S: AsStr>(
     }
 }
 
-/// The same with a form of report.
+/// As [`with_workers`], with a form of report.
 fn with_format<'a, S: AsStr>(
     asked: &Options<'a>,
     value: &str,
@@ -277,7 +278,7 @@ fn with_format<'a, S: AsStr>(
     }
 }
 
-/// The same with the name of a journal.
+/// As [`with_workers`], with the name of a journal.
 fn with_journal<'a, S: AsStr>(
     asked: &Options<'a>,
     value: &'a str,
@@ -294,7 +295,7 @@ fn with_journal<'a, S: AsStr>(
     Some((next, rest))
 }
 
-/// The same with the line from which a journal is replayed.
+/// As [`with_workers`], with the line from which a journal is replayed.
 fn with_from<'a, S: AsStr>(
     asked: &Options<'a>,
     value: &str,
@@ -316,7 +317,7 @@ fn with_from<'a, S: AsStr>(
     }
 }
 
-/// The same with envelopes as bytes.
+/// As [`option_before`], for `--bytes`.
 fn with_bytes<'a, S: AsStr>(asked: &Options<'a>, words: &'a [S]) -> Option<(Options<'a>, &'a [S])>
     ensures option { option_map (λ p. (p.0, map S.text p.1.now)) result ≡ with_bytes asked.now (map S.text words.entry.now) }
     ensures shorter { IfSome result (λ p. length p.1.now < length words.entry.now) }
@@ -331,7 +332,7 @@ fn with_bytes<'a, S: AsStr>(asked: &Options<'a>, words: &'a [S]) -> Option<(Opti
     }
 }
 
-/// The same with an explanation.
+/// As [`option_before`], for `--explain`.
 fn with_explanation<'a, S: AsStr>(
     asked: &Options<'a>,
     words: &'a [S],
@@ -386,7 +387,7 @@ fn behind<'a>(front: &str, word: &'a str) -> Option<&'a str>
     word.strip_prefix(front)
 }
 
-/// How many workers a word asks for.
+/// How many workers a word asks for; `None` if it is no number from 1 to 64.
 pub fn workers_in(word: &str) -> Option<PoolSize>
     ensures { result ≡ workers_in word.now }
 {

@@ -34,7 +34,7 @@ const VERSION_OPTION: Part<'static> = Part {
     about: "Print version",
 };
 
-/// The text of a page. Fails only for want of memory.
+/// The text of a page. An error says that it is out of memory.
 pub fn text_of(alloc: Global, page: Page) -> Result<String, AllocError> {
     match page {
         Page::Whole => whole_page(alloc),
@@ -44,7 +44,6 @@ pub fn text_of(alloc: Global, page: Page) -> Result<String, AllocError> {
     }
 }
 
-/// The page of the whole program.
 fn whole_page(alloc: Global) -> Result<String, AllocError> {
     let mut text = String::from_str(alloc, ABOUT)?;
     text.push_str("\nCommands:\n")?;
@@ -58,7 +57,6 @@ fn whole_page(alloc: Global) -> Result<String, AllocError> {
     Ok(text)
 }
 
-/// The page of a command.
 fn command_page(alloc: Global, form: &Form<'_>) -> Result<String, AllocError> {
     let mut text = String::from_str(alloc, form.command.about)?;
     text.push_str("\n\n")?;

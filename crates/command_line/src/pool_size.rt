@@ -29,7 +29,7 @@ impl PoolSize {
     ghost use Rattle.std.specs.Prelude.{◌≡◌, ◌<◌, ◌≤◌};
     ghost use Rattle.command_line.specs.Options.{worker_count};
 
-    /// So many workers; `None` for 0 and above 64.
+    /// This number of workers; `None` for 0 and above 64.
     pub fn new(workers: u64) -> Option<PoolSize>
         ensures { result ≡ worker_count workers }
     {

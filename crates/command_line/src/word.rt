@@ -20,7 +20,7 @@ impl Model for Word {
 impl Word {
     ghost use Rattle.std.specs.Prelude.{◌≡◌, IfOk};
 
-    /// A copy of `text`. Fails only for want of memory.
+    /// A copy of `text`. An error says that it is out of memory.
     pub fn new(alloc: Global, text: &str) -> Result<Word, AllocError>
         ensures { IfOk result (λ w. w ≡ text.now) }
     {
@@ -67,7 +67,7 @@ impl<'a> LentWord<'a> {
         LentWord { text: self.text }
     }
 
-    /// A copy of its own. Fails only for want of memory.
+    /// A copy of its own. An error says that it is out of memory.
     pub fn copied(&self, alloc: Global) -> Result<Word, AllocError>
         ensures { IfOk result (λ w. w ≡ self.now) }
     {

@@ -1,4 +1,4 @@
-//! Each form is asked once.
+//! Answers that are kept, so that most forms are asked once.
 
 ghost use Rattle.std.specs.Prelude.{◌≡◌, None, get_or};
 ghost use Rattle.compiled.specs.Answering.{AreNoted, IsAnswer, IsAnswerAt, IsNothing};
@@ -8,7 +8,7 @@ use crate::form::Form;
 use crate::places::{add_place, has_place};
 use crate::set::is_met;
 
-/// The numbers of the forms whose answers are kept stand in so many words. A form of a greater number is asked
+/// How many words of 64 bits hold the numbers of the forms whose answers are kept. A form of a greater number is asked
 /// each time.
 const KEPT_WORDS: usize = 8;
 
@@ -62,7 +62,7 @@ impl Answers {
     }
 }
 
-/// Notes a number, where there is room for it.
+/// Notes a number, if there is room for it.
 fn note(numbers: &mut [u64], number: usize)
     ensures { AreNoted number numbers.old numbers.new }
 {

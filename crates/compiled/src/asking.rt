@@ -17,7 +17,7 @@ pub trait Passing {
         ensures { result ≡ passing self.now place };
 }
 
-/// How a count stands: so many more have to pass, of no more than so many that are not asked yet.
+/// How a count stands: `missing` more have to pass, of at most `left` that are not asked yet.
 #[derive(Clone, Copy)]
 pub(crate) struct Tally {
     missing: usize,
@@ -48,9 +48,9 @@ impl Tally {
     }
 }
 
-/// Whether as many places and inner sets as are needed pass: the same as whether the set of all places that pass
-/// meets the compiled set. Places are asked in their order, and no more of them than it takes to know the answer.
-/// It takes no memory.
+/// Whether as many places and inner sets as are needed pass: the same as whether the set of all places that pass meets
+/// the compiled set. Places are asked one by one, and no more of them than it takes to know the answer. It takes no
+/// memory.
 pub fn is_met_by<P: Passing>(set: &CompiledSet, who: &P) -> bool
     ensures { (ws : List ℕ) → ArePassing (P.passing who.now) ws → result ≡ has_needed set.now ws }
 {

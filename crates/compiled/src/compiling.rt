@@ -11,11 +11,11 @@ use crate::set::CompiledSet;
 use std::alloc::{AllocError, Global};
 use types::{Member, NodeId, SliceSet};
 
-/// The compiled form of a set against a list of nodes: it is met by places exactly where the nodes at those
-/// places satisfy the set or, where `blocking` is said, block it.
+/// The compiled form of a set against a list of nodes: it is met by places exactly if the nodes at those places satisfy
+/// the set or, if `blocking`, block it.
 ///
-/// The nodes are ascending, none twice. Names that are not among them are in no such set of nodes. An error
-/// says that memory is short.
+/// The nodes are ascending, none twice. Names that are not among them are in no such set of nodes. An error says that
+/// it is out of memory.
 pub fn compile(
     alloc: Global,
     set: &SliceSet,
@@ -50,7 +50,7 @@ fn needed_of(threshold: u8, members: usize, blocking: bool) -> usize
     }
 }
 
-/// Adds the place of a node, where it has one.
+/// Adds the place of a node, if it has one.
 fn add_node(masks: &mut Vec<Mask>, nodes: &[NodeId], node: &NodeId) -> Result<(), AllocError>
     requires { IsAscending nodes.now }
     ensures places { OnOk result ((ws : List ℕ) → places_in masks.new.items ws ≡ places_in masks.old.items ws + one_where (among (nodes_at nodes.now ws) node.now)) }
@@ -94,8 +94,8 @@ pub fn place_in_nodes(nodes: &[NodeId], node: &NodeId) -> Option<usize>
     nodes.binary_search(node).ok()
 }
 
-/// The place of a node, if it has one: this one, if the node stands there, or else it is searched for. So nodes in
-/// order cost a search only where others stand between.
+/// The place of a node, if it has one: `first`, if the node stands there, or else it is searched for. So nodes in order
+/// cost a search only if others stand between.
 pub fn place_near(nodes: &[NodeId], first: usize, node: &NodeId) -> Option<usize>
     requires { IsAscending nodes.now }
     ensures exactly { is_some result ≡ among nodes.now node.now }

@@ -7,8 +7,8 @@ use std::alloc::{AllocError, Global};
 use std::marker::Model;
 use std::sync::Arc;
 
-/// A compiled set that copies share, and a number by which its owner tells it from others. Forms of one number in
-/// one list are of one set.
+/// A compiled set, which copies share, and a number. Who keeps a list of forms gives those of one set one number, and
+/// others another; so two forms of one list are told apart by their numbers. No contract here says that numbers agree.
 #[derive(Drop)]
 pub struct Form {
     number: usize,
@@ -27,7 +27,7 @@ impl Model for Form {
 }
 
 impl Form {
-    /// The form of this number, of this set. An error says that memory is short.
+    /// The form of this number, of this set. An error says that it is out of memory.
     pub fn new(alloc: Global, number: usize, set: CompiledSet) -> Result<Form, AllocError>
         ensures { IfOk result (λ f. f ≡ record { number = number; set = set }) }
     {

@@ -22,7 +22,7 @@ pub(crate) fn count_at(mask: &Mask, places: &[u64]) -> usize
     }
 }
 
-/// How many of the places are still missing, of so many, after those in the set.
+/// How many of `needed` places are still missing, after those of the masks that are in the set.
 pub(crate) fn missing_after(needed: usize, masks: &[Mask], places: &[u64]) -> usize
     ensures { result ≡ needed - places_in masks.now places.now }
 {
@@ -42,7 +42,7 @@ pub(crate) fn add_place(masks: &mut Vec<Mask>, place: usize) -> Result<(), Alloc
     put_place(masks, place, found)
 }
 
-/// The same for places that mostly come in order: the last mask alone is looked at.
+/// As [`add_place`], for places that mostly come in order: only the last mask is looked at.
 pub(crate) fn add_place_behind(masks: &mut Vec<Mask>, place: usize) -> Result<(), AllocError>
     ensures places { OnOk result ((ws : List ℕ) → places_in masks.new.items ws ≡ places_in masks.old.items ws + bit_of ws place) }
     ensures count { OnOk result (count_in masks.new.items ≤ count_in masks.old.items + 1) }

@@ -12,11 +12,12 @@ use crate::mask::{Mask, add_place_behind};
 use crate::set::CompiledSet;
 use std::alloc::{AllocError, Global};
 
-/// The compiled set where each place moved to the one that stands at it in the list. A place that is not in the list
-/// is left out.
+/// The compiled set with each place moved to the one that stands at it in the list. A place that is not in the list is
+/// left out.
 ///
-/// Where these are the places of the nodes in another list, as far as they are in it, it is the compiled form against
-/// that list of the same slices, if these name nodes alone that are in both: no name is searched for. An error says that memory is short.
+/// Let these be the places that the nodes have in another list, as far as they are in it, and let the slices name only
+/// nodes that are in both. Then the compiled form by which they are satisfied becomes that against the other list: no
+/// name is searched for. An error says that it is out of memory.
 pub fn relocate(
     alloc: Global,
     set: &CompiledSet,
@@ -28,7 +29,6 @@ pub fn relocate(
     Ok(relocated)
 }
 
-/// The compiled set with its places moved, and those of all sets in it.
 fn relocate_set(
     alloc: Global,
     set: &CompiledSet,
@@ -45,7 +45,7 @@ fn relocate_set(
     Ok(CompiledSet::new(set.needed_count(), set.members(), masks, inner))
 }
 
-/// The masks of places that moved. They have no more places than these.
+/// The masks of the places to which those of these masks move. They have no more places than these.
 fn relocate_masks(alloc: Global, masks: &[Mask], places: &[usize]) -> Result<Vec<Mask>, AllocError>
     ensures places { IfOk result (λ v. (ws vs : List ℕ) → IsBefore places.now ws vs → places_in v.items vs ≡ places_in masks.now ws) }
     ensures count { IfOk result (λ v. count_in v.items ≤ count_in masks.now) }

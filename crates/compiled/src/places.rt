@@ -17,7 +17,7 @@ pub fn has_place(places: &[u64], place: usize) -> bool
     }
 }
 
-/// The empty set of so many places.
+/// The empty set, with room for `count` places. An error says that it is out of memory.
 pub fn no_places(alloc: Global, count: usize) -> Result<Vec<u64>, AllocError>
     ensures none { IfOk result (λ v. (i : ℕ) → bit_of v.items i ≡ 0) }
     ensures room { IfOk result (λ v. (i : ℕ) → i < count → i / 64 < length v.items) }

@@ -38,7 +38,7 @@ impl Model for CompiledSet {
 }
 
 impl CompiledSet {
-    /// A set of which so many places and inner sets are needed, of no more than so many members.
+    /// A set that needs `needed` of its places and inner sets, which are at most `members` together.
     pub(crate) fn new(
         needed: usize,
         members: usize,
@@ -56,7 +56,7 @@ impl CompiledSet {
         }
     }
 
-    /// A copy. An error says that memory is short.
+    /// A copy. An error says that it is out of memory.
     pub fn try_copy(&self, alloc: Global) -> Result<CompiledSet, AllocError>
         ensures { IfOk result (λ c. c ≡ self.now) }
     {
@@ -84,7 +84,7 @@ impl CompiledSet {
         self.members
     }
 
-    /// How many of both are needed.
+    /// How many of its places and inner sets are needed.
     pub(crate) fn needed_count(&self) -> usize
         ensures { result ≡ self.now.needed }
     {
@@ -92,7 +92,6 @@ impl CompiledSet {
     }
 }
 
-/// A copy of a set, with all that stands in it.
 fn copy_of_set(alloc: Global, set: &CompiledSet) -> Result<CompiledSet, AllocError>
     ensures { IfOk result (λ c. c ≡ set.now) }
 {

@@ -5,7 +5,7 @@ ghost use Rattle.configuration.specs.Budgets.{AreBudgets};
 
 use std::marker::Model;
 
-/// The most journal events and the most delivered bytes that a budget can have: 2^40.
+/// The largest budget of journal events and of delivered bytes: 2^40.
 pub const MAX_BUDGET: u64 = 1 << 40;
 
 /// The most slots that a network can have open.
@@ -14,8 +14,8 @@ pub const MAX_OPEN_SLOTS: u64 = 64;
 /// The most events in the journal of a network, the most bytes that may be delivered to it, and the most
 /// slots that it may have open (this host's profile).
 ///
-/// Events and bytes are at most 2^40, slots 1 to 64: for example, no events, no bytes and one slot are
-/// budgets, and 65 slots are too many.
+/// Events and bytes are at most 2^40, slots 1 to 64. For example, no events, no bytes and one slot are budgets; 65
+/// slots are too many.
 #[derive(Clone, Copy, Debug)]
 pub struct Budgets {
     events: u64,
@@ -37,7 +37,7 @@ impl Model for Budgets {
 }
 
 impl Budgets {
-    /// Budgets of up to 2^40 events and as many bytes, and of 1 to 64 open slots; `None` outside.
+    /// Budgets of up to 2^40 events, up to 2^40 bytes, and 1 to 64 open slots; `None` outside of that.
     pub fn new(events: u64, bytes: u64, slots: u64) -> Option<Budgets>
         ensures exactly { IsSome result ↔ AreBudgets events bytes slots }
         ensures some { IfSome result (λ b. b ≡ record { events = events; bytes = bytes; slots = slots }) }

@@ -19,13 +19,12 @@ use types::NodeId;
 /// The most nodes that one network hosts (this host's profile).
 pub const MAX_NODES: usize = 256;
 
-/// The number of a network, its hosted nodes, 1 to 256 and ascending by name, its budgets, and its roster
-/// where it has one (this host's profile).
+/// The number of a network, its hosted nodes, its budgets, and its roster, if it has one (this host's profile). The
+/// nodes are 1 to 256, ascending by name.
 ///
-/// The names stand in a list of their own, so that a node is found by a binary search in memory that lies
-/// together.
+/// The names stand in a list of their own, so that a binary search for a node stays in memory that lies together.
 ///
-/// For example, where A and C are hosted, the nodes are A's, then C's, and the names A, C.
+/// For example, if A and C are hosted, the nodes are A's, then C's, and the names A, C.
 #[derive(Drop)]
 pub struct NetConfig {
     number: u32,
@@ -53,9 +52,8 @@ impl Model for NetConfig {
 impl NetConfig {
     /// A network without a roster that hosts 1 to 256 nodes, none twice, given in any order.
     ///
-    /// The first error that applies is answered, in this order: [`ConfigError::NodeTwice`],
-    /// [`ConfigError::NoNodes`], [`ConfigError::TooManyNodes`], and [`ConfigError::NoMemory`] where a growth
-    /// was refused and none of these applies.
+    /// An error is the first that applies, in this order: [`ConfigError::NodeTwice`], [`ConfigError::NoNodes`],
+    /// [`ConfigError::TooManyNodes`], and [`ConfigError::NoMemory`] if it is out of memory and none of these applies.
     pub fn new(
         alloc: Global,
         number: u32,
@@ -82,9 +80,9 @@ impl NetConfig {
     /// A network as [`NetConfig::new`] makes it, with a roster of up to 1,024 names, none twice, given in any
     /// order, and shares of up to 2^40 each.
     ///
-    /// The first error that applies is answered: those of the nodes, as in [`NetConfig::new`], then
+    /// An error is the first that applies: those of the nodes, as in [`NetConfig::new`], then
     /// [`ConfigError::RosterTwice`], [`ConfigError::RosterTooLong`], [`ConfigError::ShareTooLarge`], and
-    /// [`ConfigError::NoMemory`] where a growth was refused and none of these applies.
+    /// [`ConfigError::NoMemory`] if it is out of memory and none of these applies.
     pub fn with_roster(
         alloc: Global,
         number: u32,
@@ -135,22 +133,22 @@ impl NetConfig {
         &self.budgets
     }
 
-    /// The roster, where there is one.
+    /// The roster, if there is one.
     pub fn roster(&self) -> Option<&Roster>
         ensures { option_map (λ r. r.now) result ≡ self.now.roster }
     {
         self.roster.as_ref()
     }
 
-    /// The place of a hosted node among them, from 0 on, by a binary search where they are many; `None` where it is
-    /// not hosted.
+    /// The place of a hosted node among them, from 0 on, by a binary search if they are many; `None` if it is not
+    /// hosted.
     pub fn place(&self, name: &NodeId) -> Option<usize>
         ensures { result ≡ index_of_name self.now.nodes name.now }
     {
         place_in(&self.names, name)
     }
 
-    /// A copy. An error says that memory is short.
+    /// A copy. An error says that it is out of memory.
     pub fn try_copy(&self, alloc: Global) -> Result<NetConfig, AllocError>
         ensures { IfOk result (λ c. c ≡ self.now) }
     {
@@ -167,7 +165,7 @@ impl NetConfig {
     }
 }
 
-/// The nodes that a network hosts, in order. The first fault that applies is answered; it takes no memory.
+/// The nodes that a network hosts, in order, or the first fault that applies. It takes no memory.
 fn check_nodes(nodes: Vec<HostedNode>) -> Result<Vec<HostedNode>, ConfigError>
     ensures nodes { IfOk result (λ v. IsPermutation nodes.items v.items) }
     ensures rules { IfOk result (λ v. AreHostedNodes v.items) }
@@ -186,14 +184,14 @@ fn check_nodes(nodes: Vec<HostedNode>) -> Result<Vec<HostedNode>, ConfigError>
     Ok(nodes)
 }
 
-/// The nodes ascending by name; `None` where a name stands twice.
+/// The nodes ascending by name; `None` if a name stands twice.
 fn in_order(nodes: Vec<HostedNode>) -> Option<Vec<HostedNode>>
     ensures nodes { IfSome result (λ v. IsPermutation nodes.items v.items) }
     ensures ascending { IfSome result (λ v. IsAscending (names_of v.items)) }
     ensures exactly { is_some result ≡ all_differ (names_of nodes.items) }
 {
     let mut sorted = nodes;
-    // In place, so that no fault hides behind want of memory; names that differ have one order alone.
+    // In place, so that being out of memory never hides a fault; names that differ have only one order.
     sorted.sort_unstable_by_key(
         |hosted| -> NodeId
             ensures { result ≡ hosted.now.name }
@@ -206,7 +204,6 @@ fn in_order(nodes: Vec<HostedNode>) -> Option<Vec<HostedNode>>
     }
 }
 
-/// Whether the name of each node is below that of the next one.
 fn is_ascending(nodes: &[HostedNode]) -> bool
     ensures { result ≡ rises (names_of nodes.now) }
 {
@@ -224,7 +221,6 @@ fn is_ascending(nodes: &[HostedNode]) -> bool
     true
 }
 
-/// The names of hosted nodes. An error says that memory is short.
 fn list_names(alloc: Global, nodes: &[HostedNode]) -> Result<Vec<NodeId>, AllocError>
     ensures { IfOk result (λ v. v.items ≡ names_of nodes.now) }
 {
@@ -235,7 +231,6 @@ fn list_names(alloc: Global, nodes: &[HostedNode]) -> Result<Vec<NodeId>, AllocE
     Ok(names)
 }
 
-/// Copies of hosted nodes. An error says that memory is short.
 fn copies(alloc: Global, nodes: &[HostedNode]) -> Result<Vec<HostedNode>, AllocError>
     ensures { IfOk result (λ v. v.items ≡ nodes.now) }
 {
@@ -247,7 +242,6 @@ fn copies(alloc: Global, nodes: &[HostedNode]) -> Result<Vec<HostedNode>, AllocE
     Ok(copies)
 }
 
-/// A copy of a roster. An error says that memory is short.
 fn copy_of_roster(alloc: Global, roster: &Option<Roster>) -> Result<Option<Roster>, AllocError>
     ensures { IfOk result (λ o. o ≡ roster.now) }
 {
@@ -257,7 +251,7 @@ fn copy_of_roster(alloc: Global, roster: &Option<Roster>) -> Result<Option<Roste
     }
 }
 
-/// Among so many names each is looked at: to halve them again and again would cost more.
+/// Among at most this many names each is looked at, since a binary search would cost more.
 const FEW_NAMES: usize = 8;
 
 /// The place of a name in an ascending list, if it is there.
@@ -274,7 +268,7 @@ fn place_in(names: &[NodeId], name: &NodeId) -> Option<usize>
     }
 }
 
-/// The place of a name in a list, each of whose names is looked at, if it is there.
+/// The place of a name in a list, if it is there; each name is looked at.
 fn place_in_few(names: &[NodeId], name: &NodeId) -> Option<usize>
     ensures { result ≡ index_in names.now name.now }
 {

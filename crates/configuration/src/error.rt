@@ -20,7 +20,7 @@ pub enum ConfigError {
     /// There are more than 256 nodes.
     #[error("there are more than 256 nodes")]
     TooManyNodes,
-    /// Memory was wanting. What was given has no fault.
+    /// It is out of memory. What was given has no fault.
     #[error("memory is wanting")]
     NoMemory,
     /// A name stands twice on the roster.

@@ -1,8 +1,8 @@
-//! What a network is configured with: its number, its hosted nodes with their slices, its budgets, and a
-//! roster with shares where it has one (this host's profile).
+//! What a network is configured with: its number, its hosted nodes with their slices, its budgets, and a roster with
+//! shares, if it has one (this host's profile).
 //!
-//! What is given is tested when a [`NetConfig`] is made, and its readers' clauses say what was tested, so
-//! that nothing above has to test it again. `specs/Faults.antt` has the tests and their order.
+//! What is given is tested when a [`NetConfig`] is made. The clauses of its readers say what was tested, so that
+//! nothing above has to test it again. `specs/Faults.antt` has the tests and their order.
 #![tactic(auto)]
 
 mod budgets;

@@ -20,17 +20,17 @@ pub const MAX_ROSTER: usize = 1024;
 
 /// The names of a network for which shares are reserved: at most 1,024, ascending (this host's profile).
 ///
-/// For example, names that are given as C, A and B stand as A, B, C; C, A and C are no roster.
+/// For example, names that are given as C, A and B stand as A, B, C; and C, A and C are no roster.
 #[derive(Drop)]
 pub struct Roster {
     names: Vec<NodeId>,
     shares: Shares,
 }
 
-/// What a roster is made of: its names, in any order, and what is reserved for them.
+/// What a roster is made of: its names, and what is reserved for them.
 #[derive(Drop)]
 pub struct Reservation {
-    /// The names.
+    /// The names, in any order.
     pub names: Vec<NodeId>,
     /// What is reserved for each of them.
     pub shares: Shares,
@@ -48,7 +48,7 @@ impl Model for Roster {
 }
 
 impl Roster {
-    /// A roster of names in any order. The first fault that applies is answered.
+    /// A roster of names in any order, or the first fault that applies. It takes no memory.
     pub(crate) fn new(names: Vec<NodeId>, shares: Shares) -> Result<Roster, ConfigError>
         ensures roster { IfOk result (IsRosterOf names.items shares) }
         ensures faultless { IfOk result (λ _. first_fault (roster_tests names.items shares) ≡ None) }
@@ -90,7 +90,7 @@ impl Roster {
         is_among(&self.names, name)
     }
 
-    /// A copy. An error says that memory is short.
+    /// A copy. An error says that it is out of memory.
     pub fn try_copy(&self, alloc: Global) -> Result<Roster, AllocError>
         ensures { IfOk result (λ r. r ≡ self.now) }
     {
@@ -101,14 +101,14 @@ impl Roster {
     }
 }
 
-/// The names in ascending order; `None` where one stands twice.
+/// The names in ascending order; `None` if one stands twice.
 fn in_order(names: Vec<NodeId>) -> Option<Vec<NodeId>>
     ensures names { IfSome result (λ v. IsPermutation names.items v.items) }
     ensures ascending { IfSome result (λ v. IsAscending v.items) }
     ensures exactly { is_some result ≡ all_differ names.items }
 {
     let mut names = names;
-    // In place, so that no fault hides behind want of memory.
+    // In place, so that being out of memory never hides a fault.
     names.sort_unstable();
     if is_ascending(&names) {
         Some(names)

@@ -8,12 +8,12 @@ use std::marker::Model;
 /// The most that a share can be: 2^40 events or delivered bytes.
 pub const MAX_SHARE: u64 = 1 << 40;
 
-/// What is reserved: to each hosted node on the roster its own events, by each opening of a slot; to each
-/// such node and each other name on it the events and the delivered bytes from the one to the other; and to
-/// the network, once, the events of all openings and closings (this host's profile).
+/// What is reserved (this host's profile). At each slot that is opened, a hosted node on the roster has its own events,
+/// and from each other name on it events and delivered bytes. The network has, once, the events of all openings and
+/// closings.
 ///
-/// They are any numbers when they are made. That each is at most [`MAX_SHARE`] is tested where a roster is
-/// given to a network, and holds of the shares of each [`Roster`](crate::Roster).
+/// When they are made they are any numbers. A roster is tested for shares above [`MAX_SHARE`], so those of each
+/// [`Roster`](crate::Roster) are at most that.
 #[derive(Clone, Copy, Debug)]
 pub struct Shares {
     /// The events of a node's own at a slot.

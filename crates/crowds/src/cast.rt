@@ -9,7 +9,7 @@ use closure::{ClosureList, is_hosted_alike, least_failing};
 use configuration::HostedNode;
 use types::{Nested, NodeId};
 
-/// The least member that the two networks host unlike: in one of them alone, or with other slices.
+/// The least member that the two networks host unlike: only in one of them, or with other slices.
 pub(crate) fn least_unlike(
     one: &[HostedNode],
     other: &[HostedNode],
@@ -22,7 +22,7 @@ pub(crate) fn least_unlike(
     })
 }
 
-/// The slices of a node, where it is one of these.
+/// The slices of a node, if it is one of these.
 pub(crate) fn slices_among<'a>(nodes: &'a [HostedNode], node: &NodeId) -> Option<&'a Nested>
     ensures { option_map (λ q. q.now) result ≡ slices_of nodes.now node.now }
 {

@@ -23,17 +23,18 @@ use protocol::{lengths_follow_from_envelopes, members_are_never_crowded_out};
 use std::alloc::{AllocError, Global};
 use types::Subject;
 
-/// Compares what was submitted to the network of a subject in two submissions, by the closure of its node at its
-/// slot in the run of the first, and answers the replies where all that is reserved and all that concerns the
-/// closure are the same (this host's profile). A submission that does not declare the network hosts nobody there.
+/// Compares what was submitted to the network of a subject in two submissions (this host's profile). It goes by the
+/// closure of the subject's node at its slot, in the run of the first. If all that is reserved and all that concerns
+/// the closure are the same, it answers the replies. A submission that does not declare the network hosts nobody there.
 ///
-/// Whatever is answered, want of memory included: where both networks host the members of the closure alike,
-/// have one roster with equal shares and equal budgets of open slots, the closure lies in the roster, and the
-/// submitted steps that concern it are the same in order, their replies are the same, refusals included, and
-/// so is what each hosted member gives out. There is no answer for a member that is crowded out. That the
-/// envelopes of deliveries are the same is enough, since an envelope tells how many bytes it has.
+/// The following holds whatever is answered, even out of memory. Let both networks host the members of the closure
+/// alike, and have one roster with equal shares, which holds the closure, and equal budgets of open slots. If the
+/// submitted steps that concern the closure are the same in order, their replies are the same, refusals included, and
+/// so is what each hosted member gives out. There is no answer for a member that is crowded out.
 ///
-/// An error says that memory was short, in an event or beside one.
+/// Of deliveries it is enough that the envelopes are the same, since an envelope tells how many bytes it has.
+///
+/// An error says that it is out of memory, in an event or beside one.
 pub fn crowd(
     alloc: Global,
     one: &Submission,
@@ -55,7 +56,7 @@ pub fn crowd(
     crowd_among(alloc, one, other, subject, &members)
 }
 
-/// The same, where the first network hosts the node, by the members of its closure.
+/// Compares what was submitted, with the members of the closure at hand, if the first network hosts the node.
 fn crowd_among(
     alloc: Global,
     one: &Submission,
@@ -97,7 +98,7 @@ fn crowd_among(
     Ok(Crowd::Same(Replies::of(replies)))
 }
 
-/// Nobody crowds out the members of a closure that the roster holds.
+/// A law: nobody crowds out the members of a closure that the roster holds.
 fn are_never_crowded_out(one: &Submission, other: &Submission, subject: &Subject)
     ensures { AreNeverCrowdedOut one.now other.now subject.now.net subject.now.slot subject.now.node }
 {

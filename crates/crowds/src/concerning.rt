@@ -1,6 +1,6 @@
 //! Which submitted events concern the members of a closure.
 //!
-//! Where a function here answers an error, memory is short.
+//! An error of a function here says that it is out of memory.
 
 ghost use Rattle.std.specs.Prelude.{◌≡◌, ℕ, IfOk};
 ghost use Rattle.protocol.specs.Networks.Step.{Delivers};
@@ -15,8 +15,8 @@ use codec::{CodecError, decode};
 use std::alloc::{AllocError, Global};
 use types::{Bytes, Envelope, Event, NodeId};
 
-/// Whether an event concerns the members at the slot, applied or refused: it opens or closes a slot, it
-/// happens to a member, or a member gets it from a member.
+/// Whether an event, applied or refused, concerns the members at the slot. It does if it opens or closes any slot, or
+/// happens there to a member, unless it comes from a node that is no member.
 pub(crate) fn concerns(
     alloc: Global,
     event: &Event,
@@ -60,7 +60,7 @@ fn is_between_members(
     }
 }
 
-/// The envelope that the bytes spell, where they spell one.
+/// The envelope that the bytes spell, if they spell one.
 fn envelope_of(alloc: Global, bytes: &[u8]) -> Result<Option<Envelope>, AllocError>
     ensures { IfOk result (IsReadAs (reading bytes.now)) }
 {

@@ -7,8 +7,8 @@ ghost use Rattle.crowds.specs.Submitted.{HasBytes, IsReadable};
 
 use types::Event;
 
-/// Whether two events are the same step of a network, the first of which is no delivery of bytes that are no
-/// envelope. Deliveries are compared by their bytes, since an envelope has one spelling.
+/// Whether two events are the same step of a network. If the first delivers bytes that are no envelope, the answer may
+/// also be no for the same step. Deliveries are compared by their bytes, since an envelope has only one spelling.
 pub(crate) fn is_same_step(one: &Event, other: &Event) -> bool
     ensures same { IsTrue result → step_of one.now ≡ step_of other.now }
     ensures alike { IsReadable (step_of one.now) → step_of one.now ≡ step_of other.now → IsTrue result }
@@ -18,7 +18,7 @@ pub(crate) fn is_same_step(one: &Event, other: &Event) -> bool
     is_same_event(one, other)
 }
 
-/// What is delivered are bytes.
+/// A law: what is delivered are bytes.
 fn has_bytes(event: &Event)
     ensures { HasBytes event.now }
 {
@@ -28,14 +28,13 @@ fn has_bytes(event: &Event)
     }
 }
 
-/// What bytes hold are numbers below 256.
+/// A law: bytes are numbers below 256.
 fn are_bytes(bytes: &[u8])
     ensures { IsBytes bytes.now }
 {
     let _count = bytes.len();
 }
 
-/// Whether two events are the same.
 fn is_same_event(one: &Event, other: &Event) -> bool
     ensures { IsTrue result ↔ one.now ≡ other.now }
 {

@@ -1,4 +1,4 @@
-//! Where the steps part that were submitted to two networks.
+//! Where the steps that were submitted to two networks part.
 
 ghost use Rattle.std.specs.Prelude.{◌≡◌, MatchOption, length};
 ghost use Rattle.protocol.specs.Verdicts.{IsFirstDifference};
@@ -8,8 +8,7 @@ use crate::events::is_same_step;
 use crate::marks::next_marked;
 use types::Event;
 
-/// The number of marked steps that agree before the first difference, where there is one. Each list is gone
-/// through once.
+/// The number of marked steps that agree before the first difference, if there is one. Each list is gone through once.
 pub(crate) fn first_difference(
     one: &[(u32, Event)],
     one_marks: &[bool],

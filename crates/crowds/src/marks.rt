@@ -10,8 +10,8 @@ use closure::ClosureList;
 use std::alloc::{AllocError, Global};
 use types::Event;
 
-/// For each event whether it is one of the network that concerns the members at the slot. Each delivery to a
-/// member is decoded once. An error says that memory is short.
+/// For each event, whether it is one of the network that concerns the members at the slot. Each delivery to a member is
+/// decoded once. An error says that it is out of memory.
 pub(crate) fn marks(
     alloc: Global,
     calls: &[(u32, Event)],
@@ -28,7 +28,6 @@ pub(crate) fn marks(
     Ok(marks)
 }
 
-/// Whether an event is one of the network that concerns the members at the slot.
 fn concerns_members(
     alloc: Global,
     call: &(u32, Event),

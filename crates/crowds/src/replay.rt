@@ -1,4 +1,4 @@
-//! The run of one network, to which all that was submitted happens.
+//! The run of one network to which all that was submitted happens.
 
 ghost use Rattle.std.specs.Prelude.{◌≡◌, ◌≢◌, ◌↔◌, ◌<◌, ◌++◌, ◌∷◌, [], ℕ, IfOk, OnOk, Some, IsTrue, if◌then◌else◌, length, map, slice_get};
 ghost use Rattle.protocol.specs.Hosts.{entries};
@@ -18,8 +18,8 @@ use hoststep::Journal;
 use std::alloc::{AllocError, Global};
 use types::{Event, Refusal};
 
-/// The journal of a network after all that was submitted to it. Networks know nothing of one another, so no
-/// other is run. An error says that memory was short, in an event or beside one.
+/// The journal of a network after all that was submitted to it. Networks know nothing of one another, so no other is
+/// run. An error says that it is out of memory, in an event or beside one.
 pub(crate) fn replay(
     alloc: Global,
     submission: &Submission,
@@ -39,8 +39,7 @@ pub(crate) fn replay(
     Ok(journal)
 }
 
-/// The replies to the marked events of a network, to which all that was submitted happens. An error is as of
-/// [`replay`].
+/// The replies to the marked events of a network, after all that was submitted to it. An error is as of [`replay`].
 pub(crate) fn replies_to(
     alloc: Global,
     submission: &Submission,
@@ -66,7 +65,7 @@ pub(crate) fn replies_to(
     Ok(replies)
 }
 
-/// What a network answers to an event. An error says that memory was short.
+/// What a network answers to an event. An error says that it is out of memory.
 fn answer(
     alloc: Global,
     journal: &mut Journal<BoxShelf>,
@@ -80,7 +79,7 @@ fn answer(
     }
 }
 
-/// A refusal as a reply, but want of memory.
+/// A refusal as a reply; an error if it says that it is out of memory.
 fn reply_of_refusal(refusal: Refusal) -> Result<Reply, AllocError>
     ensures reply { IfOk result (λ r. reply_of r ≡ Refused refusal) }
     ensures other { IfOk result (λ _. refusal ≢ NoMemory) }
@@ -92,7 +91,6 @@ fn reply_of_refusal(refusal: Refusal) -> Result<Reply, AllocError>
     Ok(Reply::Refused(refusal))
 }
 
-/// Whether a refusal says that memory is short.
 fn is_want_of_memory(refusal: &Refusal) -> bool
     ensures { IsTrue result ↔ refusal.now ≡ NoMemory }
 {
@@ -100,7 +98,6 @@ fn is_want_of_memory(refusal: &Refusal) -> bool
     matches!(refusal, Refusal::NoMemory)
 }
 
-/// Whether this one is marked.
 fn is_marked(marks: &[bool], place: usize) -> bool
     requires { place < length marks.now }
     ensures { slice_get marks.now place ≡ Some result }
@@ -108,7 +105,7 @@ fn is_marked(marks: &[bool], place: usize) -> bool
     marks[place]
 }
 
-/// A reply is kept where it is asked for.
+/// Keeps a reply, if it is asked for.
 fn keep(replies: &mut Vec<Reply>, reply: Reply, concerns_members: bool) -> Result<(), AllocError>
     ensures { OnOk result (map reply_of replies.new.items ≡ map reply_of replies.old.items ++ (if concerns_members then reply_of reply ∷ [] else [])) }
 {

@@ -38,7 +38,6 @@ impl Model for Replies {
 }
 
 impl Replies {
-    /// These replies.
     pub(crate) fn of(replies: Vec<Reply>) -> Replies
         ensures { result ≡ map reply_of replies.items }
     {

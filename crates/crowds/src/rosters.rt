@@ -25,7 +25,6 @@ pub(crate) fn has_same_reserves(one: &NetConfig, other: &NetConfig) -> bool
     is_same_roster(roster, counterpart) && one.budgets().slots() == other.budgets().slots()
 }
 
-/// Whether the rosters have the same names and equal shares.
 fn is_same_roster(one: &Roster, other: &Roster) -> bool
     ensures { IsTrue result ↔ SameRoster (Some one.now) (Some other.now) }
 {
@@ -42,7 +41,6 @@ fn has_same_names(one: &Roster, other: &Roster) -> bool
     is_within(other.names(), one)
 }
 
-/// Whether all names are on the roster.
 fn is_within(names: &[NodeId], roster: &Roster) -> bool
     ensures { result ≡ within names.now (among roster.now.names) }
 {
@@ -52,7 +50,6 @@ fn is_within(names: &[NodeId], roster: &Roster) -> bool
     }
 }
 
-/// Whether shares are the same, in each of their four numbers.
 fn is_same_share(one: &Shares, other: &Shares) -> bool
     ensures { IsTrue result ↔ one.now ≡ other.now }
 {

@@ -16,19 +16,19 @@ use types::Event;
 pub enum SubmissionError {
     /// A network of that number is declared.
     NetTwice,
-    /// Memory was wanting.
+    /// It is out of memory.
     NoMemory,
 }
 
-/// Configurations of networks, no number twice, and events with the numbers of their networks, in order
-/// (this host's profile).
+/// Configurations of networks, no two of one number, and events with the numbers of their networks, in order (this
+/// host's profile).
 ///
-/// A network is found by its number in a number of steps that is logarithmic in the number of networks.
+/// A network is found by its number in logarithmically many steps.
 ///
 /// Contracts see it as the history of a host with these configurations, to which these events happen.
 ///
-/// Places follow the configurations: where network 7 was declared and then 3, 7 is found at the first place,
-/// 3 at the second, and no other number at any.
+/// The places follow the order of the configurations. For example, if network 7 was declared and then 3, 7 is found at
+/// the first place, 3 at the second, and no other number at any.
 #[derive(Drop)]
 pub struct Submission {
     configs: Vec<NetConfig>,
@@ -63,11 +63,10 @@ impl Submission {
         }
     }
 
-    /// A network is declared. Events of its number may have been submitted before; they count as those that
-    /// come later do.
+    /// Declares a network. Events of its number may have been submitted before; they count as later ones do.
     ///
-    /// An error says that a network of that number is declared, or that memory is short, in this order; the
-    /// submission is as it was.
+    /// An error says that a network of that number is declared, or that it is out of memory, in this order. The
+    /// submission is as it was then.
     pub fn declare(&mut self, config: NetConfig) -> Result<(), SubmissionError>
         ensures ok { OnOk result (self.new ≡ with_config self.old config) }
         ensures fresh { OnOk result (config_of self.old.configs config.number ≡ None) }
@@ -93,8 +92,8 @@ impl Submission {
         Ok(())
     }
 
-    /// An event of a network is submitted, whether or not the network is declared. An error says that memory
-    /// is short; the submission is as it was.
+    /// Submits an event of a network, whether or not the network is declared. An error says that it is out of memory;
+    /// the submission is as it was.
     pub fn submit(&mut self, net: u32, event: Event) -> Result<(), AllocError>
         ensures ok { OnOk result (self.new ≡ and_then self.old net event) }
         ensures same { OnErr result (self.new ≡ self.old) }
@@ -106,7 +105,7 @@ impl Submission {
         }
     }
 
-    /// The configuration of a network, where it is declared.
+    /// The configuration of a network, if it is declared.
     pub fn config(&self, net: u32) -> Option<&NetConfig>
         ensures { option_map (λ c. c.now) result ≡ config_of self.now.configs net }
     {
@@ -116,7 +115,7 @@ impl Submission {
         }
     }
 
-    /// The hosted nodes of a network; none where it is not declared.
+    /// The hosted nodes of a network; none if it is not declared.
     pub fn nodes(&self, net: u32) -> &[HostedNode]
         ensures { result.now ≡ nodes_of self.now.configs net }
     {

@@ -3,12 +3,12 @@
 use crate::reply::Replies;
 use types::NodeId;
 
-/// What a comparison of two submissions to a network answers, for the closure of a node in the first: the
-/// first of these that applies (this host's profile).
+/// What a comparison of two submissions to a network answers, for the closure of a node in the first. It is the first
+/// of these that applies (this host's profile).
 #[derive(Drop)]
 pub enum Crowd {
-    /// The networks host this node unlike: the node that was asked for, where the first does not host it; else
-    /// the least member that is hosted in one alone, or with other slices.
+    /// The networks host this node unlike. It is the node that was asked for, if the first does not host it; else the
+    /// least member that only one hosts, or that they host with other slices.
     CastDiffers(NodeId),
     /// A network has no roster, or they differ in its names, in its shares or in their budgets of open slots.
     RosterDiffers,
@@ -16,6 +16,6 @@ pub enum Crowd {
     OutsideRoster(NodeId),
     /// The number of submitted steps that concern the members and agree before the first difference.
     InputsDiffer(usize),
-    /// All of these are the same: the replies to these steps, which are the same in both.
+    /// All of this is the same. These are the replies to these steps, the same in both.
     Same(Replies),
 }

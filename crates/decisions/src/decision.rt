@@ -14,7 +14,7 @@ pub struct Decision {
 }
 
 impl Decision {
-    /// The same decision. It takes no memory; an error says that its value has too many owners.
+    /// A copy of the decision. It takes no memory; an error says that its value has too many owners.
     pub fn try_copy(&self) -> Result<Decision, AllocError>
         ensures { IfOk result (λ d. d ≡ self.now) }
     {
@@ -35,7 +35,6 @@ impl Decision {
     }
 }
 
-/// Whether they are the same decisions, in the same order.
 pub(crate) fn are_same(decisions: &[Decision], others: &[Decision]) -> bool
     ensures { IsTrue result ↔ decisions.now ≡ others.now }
 {

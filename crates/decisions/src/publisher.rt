@@ -10,12 +10,12 @@ use std::alloc::{AllocError, Global};
 use std::marker::Model;
 use std::sync::Wait;
 
-/// It takes decisions in and publishes them, in the order in which they came. Where it is let go, it waits for
-/// the watches that read at this moment; what waits then is lost.
+/// It takes decisions in and publishes them, in the order in which they came. When it is let go, it waits for the
+/// watches that read at this moment; what still waits to be published is lost.
 ///
 /// Contracts see what is published, and what waits to be. The one followed by the other is what was appended.
 ///
-/// It counts what waits: where x and y came and x alone was published, one waits.
+/// It counts what waits: if x and y came and only x was published, one waits.
 pub struct Publisher<R: Wait + Drop> {
     writer: BoardWriter,
     waiting: usize,
@@ -47,7 +47,7 @@ impl<R: Wait + Drop> Drop for Publisher<R> {
 }
 
 impl<R: Wait + Drop> Publisher<R> {
-    /// With nothing published. Room is asked for so many watches at a time. An error says that memory is short.
+    /// With nothing published, and room for `watches` watches at a time. An error says that it is out of memory.
     pub fn new(alloc: Global, rt: R, watches: usize) -> Result<Publisher<R>, AllocError>
         requires { (0 < watches) × (watches < 2 ^ 32) }
         ensures { IfOk result (λ p. (p.0 ≡ []) × (p.1 ≡ [])) }
@@ -76,7 +76,7 @@ impl<R: Wait + Drop> Publisher<R> {
         self.waiting
     }
 
-    /// Adds a decision behind those that wait. An error says that memory is short, and then nothing changes.
+    /// Adds a decision behind those that wait. An error says that it is out of memory, and then nothing changes.
     pub fn append(&mut self, decision: Decision) -> Result<(), AllocError>
         ensures shown { self.new.0 ≡ self.old.0 }
         ensures ok { OnOk result (self.new.1 ≡ self.old.1 ++ decision ∷ []) }
@@ -97,8 +97,8 @@ impl<R: Wait + Drop> Publisher<R> {
     }
 
     /// Publishes all that wait, at once, behind what is published. It waits for watches that read what was published
-    /// before. An error says that memory is short: then nothing changes for watches, all that waited waits
-    /// still, and goes with the next publication.
+    /// before. An error says that it is out of memory: then nothing changes for watches, all that waited waits still,
+    /// and goes with the next publication.
     pub fn publish(self) -> (Publisher<R>, Result<(), AllocError>)
         ensures ok { OnOk result.1 ((result.0.0 ≡ self.0 ++ self.1) × (result.0.1 ≡ [])) }
         ensures err { OnErr result.1 (result.0 ≡ self) }

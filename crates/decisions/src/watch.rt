@@ -14,8 +14,7 @@ use std::marker::Model;
 /// Contracts see it as the list that it was lent last. That list only grows, and is a beginning of what is
 /// published.
 ///
-/// It has the reader that it reads by: a call that lends what is published takes it out, and has put it back
-/// where it ends.
+/// It has the reader that it reads by: a call that lends what is published takes it out, and puts it back at its end.
 ///
 /// For example, a watch that was lent nothing yet has its reader, and so has one that was lent x and y.
 #[derive(Drop)]
@@ -38,7 +37,6 @@ impl Model for Watch {
 }
 
 impl Watch {
-    /// A watch that reads by this reader.
     pub(crate) fn new(reader: BoardReader) -> Watch
         ensures { result ≡ view reader.place }
     {
@@ -51,10 +49,10 @@ impl Watch {
     /// watch was lent before, and answers what `f` answers. None once the publisher is gone: then the watch is as it
     /// was.
     ///
-    /// It waits for nobody, but a publication waits for `f`. So `f` must not publish, take or drop the publisher: in
-    /// a cell, it must not call `apply`, `tell` or `close_watched` of its own cell, which would wait for themselves for
-    /// ever. Under a cell a publication has the network's lock: as long as `f` runs, it may hold up whoever uses that
-    /// network.
+    /// It waits for nobody, but a publication waits for `f`. So `f` must not publish, take or drop the publisher, and
+    /// in a cell it must not call `apply`, `try_apply`, `tell` or `stop` of its own cell, or close that. These publish,
+    /// or wait for the lock of a call that does, and so may wait for `f` for ever. Under a cell a publication has the
+    /// network's lock: as long as `f` runs, it may hold up whoever uses that network.
     pub fn read<T, F: FnOnce(&[Decision]) -> T>(&mut self, f: F) -> Option<T>
         requires { F.IsAlwaysCallable f }
         ensures grows { IsPrefix self.old self.new }

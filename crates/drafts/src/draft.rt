@@ -8,12 +8,12 @@ use std::alloc::AllocError;
 use std::marker::Model;
 use types::{Ballot, Phase, SharedValues, Votes};
 
-/// A node's votes as rules change them: while nothing changes they are only read, and the first change makes
-/// a copy of them, in which it and all later ones are made. So rules that change nothing copy nothing, and where
-/// memory is short the node's own votes are as they were.
+/// A node's votes as rules change them: while nothing changes they are only read, and the first change makes a copy of
+/// them, in which it and all later ones are made. So rules that change nothing copy nothing, and after an error the
+/// node's own votes are as they were.
 ///
-/// Contracts see the votes before any rule beside those of the moment. A change that finds no memory says so and
-/// leaves both as they were.
+/// Contracts see the votes before any rule beside those of the moment. A change takes no memory; an error says that a
+/// value, or a list of values, has too many owners, and leaves both as they were.
 #[derive(Drop)]
 pub struct Draft<'a> {
     lent: &'a Votes,
@@ -50,7 +50,7 @@ impl<'a> Draft<'a> {
         }
     }
 
-    /// The changed votes; `None` where no rule changed any.
+    /// The changed votes; `None` if no rule changed any.
     pub fn into_changed(self) -> Option<Votes>
         ensures { unwrap_or result self.entry.before ≡ self.entry.now }
     {
@@ -121,7 +121,7 @@ impl<'a> Draft<'a> {
         self.change(|votes| votes.confirmed_prepared = Some(confirmed_prepared))
     }
 
-    /// The node votes to commit from the counter of this ballot on, or does not where there is none.
+    /// The node votes to commit from the counter of this ballot on, or not at all if there is none.
     pub fn set_commit(&mut self, commit: Option<Ballot>) -> Result<(), AllocError>
         ensures ok { OnOk result (self.new ≡ after (λ w. record w { commit = commit }) self.old) }
         ensures err { OnErr result (self.new ≡ self.old) }
@@ -164,8 +164,8 @@ impl<'a> Draft<'a> {
     }
 }
 
-/// The votes of one's own become a copy of those that are lent, where there are none. An error says that a value,
-/// or a list of values, has too many owners.
+/// `own` becomes a copy of the votes that are lent, if there is none yet. An error says that a value, or a list of
+/// values, has too many owners.
 fn copy_once(own: &mut Option<Votes>, lent: &Votes) -> Result<(), AllocError>
     ensures ok { OnOk result (own.new ≡ Some (unwrap_or own.old lent.now)) }
     ensures err { OnErr result (own.new ≡ own.old) }

@@ -12,8 +12,8 @@ use types::Envelope;
 
 /// A shelf, and the places at which the envelopes of one network lie, by number.
 ///
-/// Contracts see it as the list of these envelopes, with nothing at a number that is free. What is filed stays until its
-/// slot is let go, and then its number may be given again.
+/// Contracts see it as the list of these envelopes, with nothing at a number that is free. What is filed stays until
+/// its slot is let go, and then its number may be given again.
 ///
 /// Each place is one of this shelf: for example, of three envelopes that were filed, number 1 is the place
 /// where the second lies there.
@@ -65,7 +65,7 @@ impl<S: Places> Archive<S> {
         }
     }
 
-    /// The same once more, as for another table. It takes no memory.
+    /// The number of the envelope once more, as for another table. It takes no memory.
     pub fn copy_of(&self, filed: &Filed) -> Filed
         requires { IsFiled self.now filed.now }
         ensures { result ≡ filed.now }
@@ -76,14 +76,15 @@ impl<S: Places> Archive<S> {
         }
     }
 
-    /// Whether half as many envelopes were filed since others were let go as there is room for. If they are let go only
-    /// then, each that is filed costs a look or two, however many slots are closed one by one.
+    /// Whether at least half as many envelopes were filed since others were let go as there are numbers, free ones
+    /// included. If they are let go only then, each that is filed costs a look or two, however many slots are closed
+    /// one by one.
     pub fn is_due(&self) -> bool {
         self.recent >= self.places.len() / 2
     }
 
-    /// Lets go what was filed for all slots but these. It takes no memory: a number that cannot be noted as free is found
-    /// again the next time.
+    /// Lets go what was filed for all slots but these. It cannot fail: a number that is not noted as free, because it
+    /// is out of memory, is found again the next time.
     pub fn let_go<T: Slots>(&mut self, slots: &T)
         ensures { self.new ≡ map (only_of (T.is_among slots.now)) self.old }
     {
@@ -118,8 +119,8 @@ impl<S: Places> Archive<S> {
 }
 
 impl<S: Shelf> Archive<S> {
-    /// Files an envelope, whether or not it stands there already. An error says that memory is short, and
-    /// the archive is as it was.
+    /// Files an envelope, whether or not it stands there already. An error says that it is out of memory, and the
+    /// archive is as it was.
     pub fn put(&mut self, envelope: Envelope) -> Result<Filed, AllocError>
         ensures filed { IfOk result (λ f. IsFiled self.new f) }
         ensures is { IfOk result (λ f. sent_of f ≡ envelope) }

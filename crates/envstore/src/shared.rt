@@ -34,7 +34,7 @@ impl<R> Model for SharedHandle<R> {
 }
 
 impl<R: Copy> SharedHandle<R> {
-    /// A handle on a store of its own. An error says that memory is short.
+    /// A handle on a store of its own. An error says that it is out of memory.
     pub fn new(alloc: Global, rt: R) -> Result<SharedHandle<R>, AllocError> {
         let store = Arc::new(alloc, boxcar::Vec::new(alloc)?)?;
         Ok(SharedHandle { rt, store })

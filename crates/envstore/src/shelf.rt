@@ -4,7 +4,7 @@ ghost use Rattle.std.specs.Prelude.{◌≡◌, Bool, IfErr, IfOk, ℕ};
 
 use types::Envelope;
 
-/// What envelopes lie at. A place is known, in contracts, with the envelope that was put there.
+/// A store of envelopes, each at its place. A place is known, in contracts, with the envelope that was put there.
 pub trait Places {
     ghost use Rattle.types.specs.Statements.{Sent};
 
@@ -25,8 +25,7 @@ pub trait Places {
 
 /// A store that takes envelopes. What was put there stays as long as its place does.
 pub trait Shelf: Places {
-    /// Puts an envelope at a place of its own; all other places stay. It comes back where there is no
-    /// memory.
+    /// Puts an envelope at a place of its own; all other places stay. If it is out of memory, the envelope comes back.
     fn put(&mut self, envelope: Envelope) -> Result<Self::Place, Envelope>
         ensures put { IfOk result (λ p. Self.is_of self.new p × (Self.put_there p ≡ envelope)) }
         ensures kept { (p : Self.Place) → Self.is_of self.old p → Self.is_of self.new p }

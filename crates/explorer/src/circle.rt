@@ -9,8 +9,9 @@ const SCALE: u64 = 10_000;
 /// The square of a right angle.
 const RIGHT_SQUARED: u64 = (TURN / 4) * (TURN / 4);
 
-/// The point at so many thousandths of a degree on the circle with this radius round the origin,
-/// clockwise from the right, as downwards counts up; within two thousandths of the radius.
+/// The point at an angle, in thousandths of a degree, on the circle with this radius round the origin. Angles run
+/// clockwise from the right, since downwards counts up. The point is exact within two thousandths of the radius, which
+/// is cut to 2^32.
 pub fn point(radius: u64, angle: u64) -> (i64, i64) {
     let radius = radius.min(1 << 32) as i64;
     let across = radius.saturating_mul(sine(angle.saturating_add(TURN / 4)));
@@ -28,8 +29,8 @@ fn sine(angle: u64) -> i64 {
     }
 }
 
-/// The sine of an angle up to half a turn, times `SCALE`: by the formula of Bhāskara, which is within
-/// two thousandths.
+/// The sine of an angle up to half a turn, times `SCALE`, by the formula of Bhāskara, which is exact within two
+/// thousandths.
 fn arch(angle: u64) -> i64 {
     let product = angle
         .saturating_mul((TURN / 2).saturating_sub(angle))

@@ -7,9 +7,9 @@ use std::alloc::AllocError;
 use std::fmt::Write;
 use types::NodeId;
 
-/// Adds a graph for Graphviz: the members with an arrow from each to those that it named first, hosted
-/// members filled, and a dashed arrow from each single member to the hosted ones whose slices it blocks.
-/// Where memory is wanting, a part may have been added.
+/// Adds a graph for Graphviz: the members, with an arrow from each to those that it named first. Hosted members are
+/// filled, and a dashed arrow leads from each member to the hosted ones whose slices it blocks by itself. An error says
+/// that it is out of memory; then a part may have been added.
 pub fn push_dot(text: &mut String, report: &ClosureReport) -> Result<(), AllocError> {
     text.push_str("digraph closure {\n")?;
     push_members(text, report.members())?;
@@ -33,7 +33,7 @@ fn push_members(text: &mut String, members: &ClosureList) -> Result<(), AllocErr
     Ok(())
 }
 
-/// Adds the arrow to a member from the one that named it, which the first member has none of.
+/// Adds the arrow to a member from the one that named it. There is none to the first member.
 fn push_naming(
     text: &mut String,
     members: &ClosureList,
@@ -50,7 +50,7 @@ fn push_naming(
     Ok(())
 }
 
-/// Adds that a member is hosted, and a dashed arrow from each that blocks it alone.
+/// Adds that a member is hosted, and a dashed arrow from each member that blocks it by itself.
 fn push_blockers(text: &mut String, blockers: &Blockers) -> Result<(), AllocError> {
     text.push_str("  ")?;
     push_node(text, blockers.node())?;
@@ -70,7 +70,7 @@ fn push_arrow(text: &mut String, from: &NodeId, to: &NodeId) -> Result<(), Alloc
     push_node(text, to)
 }
 
-/// Adds a node: its name has letters and digits alone.
+/// Adds a node. Its name needs no escapes, since it has only letters and digits.
 fn push_node(text: &mut String, name: &NodeId) -> Result<(), AllocError> {
     text.push_str("\"")?;
     push_name(text, name)?;

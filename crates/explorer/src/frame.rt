@@ -17,7 +17,8 @@ pub struct Frame {
 }
 
 impl Frame {
-    /// The frame of so many members, as they stand, with a margin round them; at least so wide.
+    /// The frame of a layout of this many members, with a margin round them. The side margins are larger if it would
+    /// else be narrower than `least_width`.
     pub fn of(layout: &Layout, members: usize, margin: i64, least_width: i64) -> Frame {
         let mut frame = Frame {
             left: 0,

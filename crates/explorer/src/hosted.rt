@@ -12,7 +12,8 @@ use slices::{SliceFamily, is_among};
 use std::alloc::{AllocError, Global};
 use types::{Nested, NodeId};
 
-/// Each of the names that is hosted, with those of the names that block its slices by themselves.
+/// Those of the names that are hosted, each with those of the names that block its slices by themselves. An error says
+/// that it is out of memory.
 pub fn hosted_members<J: Announcements>(
     alloc: Global,
     journal: &J,
@@ -32,8 +33,7 @@ pub fn hosted_members<J: Announcements>(
     Ok(hosted)
 }
 
-/// Those of the names that block the slices by themselves. Only who is named in slices can, so it asks
-/// of no other name.
+/// Those of the names that block the slices by themselves. Only names in the slices can, so it asks of no other one.
 fn lone_blockers(
     alloc: Global,
     slices: &Nested,
@@ -48,7 +48,7 @@ fn lone_blockers(
     Ok(lone)
 }
 
-/// Those of the named ones that are among the names, and block the slices by themselves.
+/// Those of the names in the slices that are among `names`, and block the slices by themselves.
 fn blockers_in(
     alloc: Global,
     slices: &Nested,

@@ -1,8 +1,8 @@
 //! Where the members of a closure stand in a picture.
 //!
-//! Who named whom first makes a tree, from the first member on. A member stands in the ring of its
-//! distance from the first, in the middle of the leaves that it leads to, and leaves have equal shares
-//! of a whole turn: so members stand near the one that named them, and arrows seldom cross.
+//! Who named whom first makes a tree, from the first member on. A member stands in the ring of its distance from the
+//! first, in the middle of the leaves that it leads to. Leaves have equal shares of a whole turn. So members stand near
+//! the one that named them, and arrows seldom cross.
 
 use crate::circle::TURN;
 use closure::ClosureList;
@@ -30,8 +30,9 @@ pub struct Layout {
 }
 
 impl Layout {
-    /// The layout of a closure. The first ring has this distance from the middle at least, and each
-    /// other one from the ring inside it; members of one ring are so far apart at least, along the ring.
+    /// The layout of a closure. The first ring is at least `distance` from the middle, and each other one from the ring
+    /// inside it. Members of one ring are at least `apart` from one another, along the ring. An error says that it is
+    /// out of memory.
     pub fn of(
         alloc: Global,
         members: &ClosureList,
@@ -51,7 +52,7 @@ impl Layout {
         })
     }
 
-    /// How far the member at a place stands from the middle: 0 for the first one alone.
+    /// How far the member at a place stands from the middle, which is where the first one stands.
     pub fn radius(&self, place: usize) -> u64 {
         match self.spots.get(place) {
             Some(spot) => self.radii.get(spot.ring).copied().unwrap_or(0),
@@ -59,7 +60,7 @@ impl Layout {
         }
     }
 
-    /// In which direction it stands, in thousandths of a degree, clockwise from the right.
+    /// In which direction the member at a place stands, in thousandths of a degree, clockwise from the right.
     pub fn angle(&self, place: usize) -> u64 {
         match self.spots.get(place) {
             Some(spot) => {
@@ -72,7 +73,6 @@ impl Layout {
     }
 }
 
-/// Each member in its ring.
 fn spots_in_rings(alloc: Global, members: &ClosureList) -> Result<Vec<Spot>, AllocError> {
     let mut spots: Vec<Spot> = Vec::new(alloc);
     for place in 0..members.len() {
@@ -91,7 +91,7 @@ fn spots_in_rings(alloc: Global, members: &ClosureList) -> Result<Vec<Spot>, All
     Ok(spots)
 }
 
-/// Counts the leaves of each member, from the last one back: all that a member named come behind it.
+/// Counts the leaves of each member, from the last one back, since all that a member named come behind it.
 fn count_leaves(members: &ClosureList, spots: &mut [Spot]) {
     for place in (0..members.len()).rev() {
         if let Some((_, namer)) = members.member(place) {
@@ -103,7 +103,7 @@ fn count_leaves(members: &ClosureList, spots: &mut [Spot]) {
     }
 }
 
-/// The leaves of a member whose own ones are all counted: one, where it named nobody first.
+/// The leaves of a member that are all counted: one, if it named nobody first.
 fn own_leaves(spots: &mut [Spot], place: usize) -> usize {
     match spots.get_mut(place) {
         Some(spot) => {
@@ -114,14 +114,13 @@ fn own_leaves(spots: &mut [Spot], place: usize) -> usize {
     }
 }
 
-/// Adds to the leaves of the member at a place, where there is one.
 fn add_leaves(spots: &mut [Spot], place: usize, leaves: usize) {
     if let Some(spot) = spots.get_mut(place) {
         spot.leaves = spot.leaves.saturating_add(leaves);
     }
 }
 
-/// Gives each member its share of the leaves of the one that named it, behind those that it named before.
+/// Gives each member its share of the leaves of the one that named it, behind those that this one named before.
 fn share_turn(members: &ClosureList, spots: &mut [Spot]) {
     for place in 1..members.len() {
         if let Some((_, namer)) = members.member(place) {
@@ -153,14 +152,14 @@ fn fewest_leaves(alloc: Global, spots: &[Spot]) -> Result<Vec<usize>, AllocError
     for spot in spots {
         match fewest.get_mut(spot.ring) {
             Some(least) => *least = spot.leaves.min(*least),
-            // A member stands one ring farther out than an earlier one at most.
+            // A member stands at most one ring farther out than an earlier one.
             None => fewest.push(spot.leaves)?,
         }
     }
     Ok(fewest)
 }
 
-/// The radius of each ring, where its members' leaves have equal shares of a line of this length.
+/// The radius of each ring, if its members' leaves have equal shares of a line of this length.
 fn radii_of(
     alloc: Global,
     fewest: &[usize],

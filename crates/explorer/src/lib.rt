@@ -1,8 +1,7 @@
-//! What a closure looks like: who is in it and who named whom first, and which single members block
-//! whose slices.
+//! What a closure looks like: who is in it, who named whom first, and which single members block whose slices.
 //!
-//! A [`Report`] is plain data. Writers show it as lines of text, as a graph in the language DOT and
-//! as a picture in SVG. [`NoNetwork`] stands for a network that nobody declared.
+//! A [`ClosureReport`] is plain data. Writers show it as lines of text, as a graph in the language DOT and as a picture
+//! in SVG. [`NoNetwork`] stands for a network that nobody declared.
 #![tactic(auto)]
 
 mod circle;

@@ -48,7 +48,8 @@ impl Mark {
     }
 }
 
-/// Who is hosted, and who blocks a hosted member by itself, by the places of the members.
+/// Who is hosted, and who blocks a hosted member by itself, by the places of the members. An error says that it is out
+/// of memory.
 pub fn marks_of(alloc: Global, report: &ClosureReport) -> Result<Vec<Mark>, AllocError> {
     let members = report.members();
     let mut marks: Vec<Mark> = Vec::new(alloc);
@@ -64,7 +65,6 @@ pub fn marks_of(alloc: Global, report: &ClosureReport) -> Result<Vec<Mark>, Allo
     Ok(marks)
 }
 
-/// Marks a name as hosted, where it is a member.
 fn mark_hosted(members: &ClosureList, marks: &mut [Mark], name: &NodeId) {
     if let Some(place) = members.place(name) {
         if let Some(mark) = marks.get_mut(place) {
@@ -73,7 +73,6 @@ fn mark_hosted(members: &ClosureList, marks: &mut [Mark], name: &NodeId) {
     }
 }
 
-/// Marks a name as one that can block a hosted member alone, where it is a member.
 fn mark_blocking(members: &ClosureList, marks: &mut [Mark], name: &NodeId) {
     if let Some(place) = members.place(name) {
         if let Some(mark) = marks.get_mut(place) {
@@ -82,7 +81,7 @@ fn mark_blocking(members: &ClosureList, marks: &mut [Mark], name: &NodeId) {
     }
 }
 
-/// Adds the shape of a member round the origin, so many pixels wide.
+/// Adds the shape of a member round the origin, `width` pixels wide. An error says that it is out of memory.
 pub fn push_shape(text: &mut String, width: u64, mark: Mark) -> Result<(), AllocError> {
     let class = mark.class();
     let left = width / 2;

@@ -5,8 +5,8 @@ ghost use Rattle.std.specs.Prelude.{[]};
 use closure::{Announcement, Announcements};
 use types::{Nested, NodeId};
 
-/// A network that nobody declared: it hosts nobody, and nothing happened in it. The closure of a node
-/// in it is the node alone.
+/// A network that nobody declared: it hosts nobody, and nothing happened in it. The closure of a node in it is only the
+/// node.
 #[derive(Clone, Copy, Debug)]
 pub struct NoNetwork;
 

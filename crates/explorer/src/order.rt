@@ -8,7 +8,7 @@ use closure::ClosureList;
 use std::alloc::{AllocError, Global};
 use types::NodeId;
 
-/// The members of a closure, ascending.
+/// The members of a closure, ascending. An error says that it is out of memory.
 pub fn ascending_members(alloc: Global, members: &ClosureList) -> Result<Vec<NodeId>, AllocError>
     ensures ascending { IfOk result (λ v. IsAscending v.items) }
     ensures all { IfOk result (λ v. (u : ℕ) → among v.items u ≡ among (names_of members.now) u) }

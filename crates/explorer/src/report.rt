@@ -12,8 +12,8 @@ use std::alloc::{AllocError, Global};
 use std::marker::Model;
 use types::NodeId;
 
-/// A hosted member, and the single members that by themselves block its slices, ascending: no set
-/// without such a member satisfies them. It may be one of them itself.
+/// A hosted member, and the members that block its slices by themselves, ascending: no set without such a member
+/// satisfies them. It may be one of them itself.
 #[derive(Drop)]
 pub struct Blockers {
     pub(crate) node: NodeId,
@@ -36,7 +36,7 @@ impl Blockers {
         &self.node
     }
 
-    /// Those who block its slices by themselves, ascending.
+    /// The members that block its slices by themselves, ascending.
     pub fn names(&self) -> &[NodeId]
         ensures { result.now ≡ self.now.1 }
     {
@@ -68,7 +68,7 @@ impl ClosureReport {
         &self.members
     }
 
-    /// The hosted members, ascending, each with those who block it.
+    /// The hosted members, ascending, each with those who block it by themselves.
     pub fn blockers(&self) -> &[Blockers]
         ensures { result.now ≡ self.now.hosted }
     {
@@ -76,13 +76,12 @@ impl ClosureReport {
     }
 }
 
-/// The closure of a node at a slot of a journal, and which single members block whose slices, as these
-/// are after all entries: those that a hosted member was given last since the slot was opened, else the
-/// configured ones. An error says that memory is short.
+/// The closure of a node at a slot of a journal, and which single members block whose slices. The slices are those
+/// after all entries: those that a hosted member was given last since the slot was opened, else the configured ones. An
+/// error says that it is out of memory.
 ///
-/// Beside the closure it sorts the members, asks the journal once for the slices of each, and of those of a
-/// hosted one asks for each name in them whether it blocks them by itself: at most 256 tests of at most
-/// 256 names.
+/// Beside the closure it sorts the members, and asks the journal once for the slices of each. For a hosted member it
+/// tests of each name in them whether it blocks them by itself: at most 256 tests of at most 256 names.
 pub fn report_of<J: Announcements>(
     alloc: Global,
     journal: &J,

@@ -10,7 +10,7 @@ use scripts::push_name;
 use std::alloc::{AllocError, Global};
 use std::fmt::Write;
 
-/// The most letters and digits of a name that are drawn.
+/// How many letters and digits of a name are drawn at most.
 const LONGEST_LABEL: usize = 12;
 
 /// How long arrows are at least, in pixels.
@@ -44,13 +44,13 @@ struct Picture<'a> {
     frame: Frame,
 }
 
-/// Adds a picture that a browser shows: the members of the closure in rings by their distance from the
-/// first, with an arrow from each to those that it named first; hosted members filled, and a thick edge
-/// for who blocks a hosted member by itself. It grows with the members of its widest ring, and names
-/// stay as large as they are; of a long one the front is drawn, and the whole name stands in its title.
+/// Adds a picture that a browser shows. The members of the closure stand in rings by their distance from the first,
+/// with an arrow from each to those that it named first. Hosted members are filled, and who blocks a hosted member by
+/// itself has a thick edge. The picture grows with the members of its widest ring, and names stay as large as they are.
+/// Of a long name the front is drawn, and the whole name stands in its title.
 ///
-/// It takes time in proportion to the members and to those who block one, with a look-up for each.
-/// Where memory is wanting, a part may have been added.
+/// It takes time in proportion to the members and to those who block one, with a look-up for each. An error says that
+/// it is out of memory; then a part may have been added.
 pub fn push_svg(
     alloc: Global,
     text: &mut String,
@@ -65,7 +65,6 @@ pub fn push_svg(
     Ok(())
 }
 
-/// What is drawn of a report: how wide its members are, where they stand, and how each is marked.
 fn picture_of(alloc: Global, report: &ClosureReport) -> Result<Picture<'_>, AllocError> {
     let members = report.members();
     let width = width_of(alloc, members)?;
@@ -83,7 +82,7 @@ fn picture_of(alloc: Global, report: &ClosureReport) -> Result<Picture<'_>, Allo
     })
 }
 
-/// How wide members are drawn, so that the longest label has room: no less than they are high.
+/// How wide members are drawn, so that the longest label has room; not less than they are high.
 fn width_of(alloc: Global, members: &ClosureList) -> Result<u64, AllocError> {
     let mut name = String::new(alloc);
     let mut longest: usize = 0;
@@ -141,8 +140,8 @@ impl Picture<'_> {
         Ok(())
     }
 
-    /// Adds a bent arrow, from the outer end of a member to the inner end of one that it named first.
-    /// The first member's arrows are straight and begin in its middle, which covers their ends.
+    /// Adds a bent arrow, from the outer end of a member to the inner end of one that it named first. Arrows of the
+    /// first member are straight and begin in its middle, and its shape covers their ends.
     fn push_arrow(&self, text: &mut String, namer: usize, place: usize) -> Result<(), AllocError> {
         let angle = self.layout.angle(place);
         let radius = self.layout.radius(place);
@@ -168,7 +167,6 @@ impl Picture<'_> {
         Ok(())
     }
 
-    /// Adds each member.
     fn push_members(&self, alloc: Global, text: &mut String) -> Result<(), AllocError> {
         let members = self.report.members();
         let mut name = String::new(alloc);
@@ -200,8 +198,8 @@ impl Picture<'_> {
         Ok(())
     }
 
-    /// By how many degrees a member is turned: along its arrow, and never upside down. The first one
-    /// is not turned, and none is where all labels are short.
+    /// By how many degrees a member is turned: along its arrow, and never upside down. The first one is not turned, and
+    /// no member is if all labels are short.
     fn turn(&self, place: usize) -> u64 {
         let degrees = self.layout.angle(place) / (TURN / 360);
         if place == 0 || self.width == HEIGHT {

@@ -11,10 +11,10 @@ use std::alloc::AllocError;
 use std::fmt::Write;
 use types::NodeId;
 
-/// Adds one line for each member: its place, its name, and the place of the member that named it first, or
-/// `-` for the first one; then for each hosted member, ascending, the word `blocks`, its name, and the single
-/// members that by themselves block its slices, ascending. Fields are separated by one space. Where memory
-/// is wanting, a part may have been added.
+/// Adds one line for each member: its place, its name, and the place of the member that named it first, or `-` for the
+/// first one. Then, for each hosted member, ascending, comes a line of the word `blocks`, its name, and the members
+/// that block its slices by themselves, ascending. Fields are separated by one space. An error says that it is out of
+/// memory; then a part may have been added.
 pub fn push_text(text: &mut String, report: &ClosureReport) -> Result<(), AllocError>
     ensures { OnOk result (string_bytes text.new ≡ string_bytes text.old ++ text_of_report report.now) }
 {
@@ -23,7 +23,6 @@ pub fn push_text(text: &mut String, report: &ClosureReport) -> Result<(), AllocE
     Ok(())
 }
 
-/// Adds a line for each member.
 fn push_members(text: &mut String, members: &ClosureList) -> Result<(), AllocError>
     ensures { OnOk result (string_bytes text.new ≡ string_bytes text.old ++ lines_from 0 members.now) }
 {
@@ -33,7 +32,7 @@ fn push_members(text: &mut String, members: &ClosureList) -> Result<(), AllocErr
     Ok(())
 }
 
-/// Adds the line of the member at a place, where there is one.
+/// Adds the line of the member at a place, if there is one.
 fn push_at(text: &mut String, members: &ClosureList, place: usize) -> Result<(), AllocError>
     ensures { OnOk result (string_bytes text.new ≡ string_bytes text.old ++ line_at place (slice_get members.now place)) }
 {
@@ -43,7 +42,6 @@ fn push_at(text: &mut String, members: &ClosureList, place: usize) -> Result<(),
     }
 }
 
-/// Adds the line of a member.
 fn push_member(
     text: &mut String,
     place: usize,
@@ -70,7 +68,6 @@ fn push_namer(text: &mut String, place: usize, namer: usize) -> Result<(), Alloc
     Ok(())
 }
 
-/// Adds a line for each hosted member.
 fn push_hosted(text: &mut String, hosted: &[Blockers]) -> Result<(), AllocError>
     ensures { OnOk result (string_bytes text.new ≡ string_bytes text.old ++ flat_map line_of_blockers hosted.now) }
 {
@@ -80,7 +77,6 @@ fn push_hosted(text: &mut String, hosted: &[Blockers]) -> Result<(), AllocError>
     Ok(())
 }
 
-/// Adds the line of a hosted member.
 fn push_blockers(text: &mut String, blockers: &Blockers) -> Result<(), AllocError>
     ensures { OnOk result (string_bytes text.new ≡ string_bytes text.old ++ line_of_blockers blockers.now) }
 {

@@ -1,6 +1,6 @@
 //! Federated voting on one claim.
 //!
-//! Where a function here answers an error, memory is short.
+//! An error of a function here says that it is out of memory.
 
 ghost use Rattle.std.specs.Prelude.{◌≡◌, IfOk, IsSomeAnd, IsTrue, ◌↔◌, filter};
 ghost use Rattle.protocol.specs.Quorums.{NamesWithin};

@@ -44,8 +44,7 @@ fn better_of<'a>(
     }
 }
 
-/// The greatest of the best ballot so far and of this one, where it is below the bound and its counter
-/// is from 1 on.
+/// The greatest of the best ballot so far and of this one, if it is below the bound and its counter is from 1 on.
 #[tactic(auto, unfolding(protocol::specs::Candidates::greatest))]
 fn better<'a>(
     best: Option<LentBallot<'a>>,
@@ -69,7 +68,7 @@ fn better<'a>(
     }
 }
 
-/// Whether the ballot is below the bound, where there is one.
+/// Whether the ballot is below the bound, if there is one.
 fn is_under(bound: &Option<LentBallot>, ballot: &LentBallot) -> bool
     ensures { result ≡ is_under bound.now ballot.now }
 {

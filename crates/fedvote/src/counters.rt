@@ -18,7 +18,7 @@ pub fn counter_by(statement: &Statement) -> Option<u32>
     }
 }
 
-/// The lesser of a counter and of what is there. It takes no memory.
+/// The lesser of a counter and of another, if there is another. It takes no memory.
 pub fn lesser(counter: u32, other: Option<u32>) -> Option<u32>
     ensures { result ≡ lesser counter other }
 {

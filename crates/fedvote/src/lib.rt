@@ -1,9 +1,9 @@
 //! Federated voting: when a node accepts a claim, and when it confirms it (the Stellar Consensus Protocol draft,
 //! of federated voting; Mazières 2015).
 //!
-//! [`is_accepted`] and [`is_confirmed`] are told the claim, which node stands where by [`Position`], and what that
-//! node sees of its table by [`Sight`], which is all that the rules read of a table. A [`Question`] is what a sight is
-//! asked about statements, and a [`Mention`] how these speak of the ballots that it is asked for.
+//! [`is_accepted`] and [`is_confirmed`] are told the claim, the node's own position by [`Position`], and what the node
+//! sees of its table by [`Sight`], which is all that the rules read of a table. A [`Question`] is what a sight is asked
+//! about statements, and a [`Mention`] how these speak of the ballots that it is asked for.
 #![tactic(auto)]
 
 mod candidates;

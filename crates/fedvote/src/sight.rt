@@ -1,6 +1,6 @@
 //! What a node sees of its table: all that the rules read of it.
 //!
-//! Where a function here answers an error, memory is short.
+//! An error of a function here says that it is out of memory, or that a value has too many owners.
 
 ghost use Rattle.std.specs.Prelude.{◌≡◌, ◌↔◌, IfOk, IsTrue, flat_map};
 ghost use Rattle.types.specs.declared.kind.Kind.{Kind};
@@ -22,8 +22,8 @@ use types::{LentBallot, Values};
 /// leaders, and the two tests of federated voting (the Stellar Consensus Protocol draft, of federated
 /// voting).
 ///
-/// The rules of nomination and balloting know the table by this alone. `seen` is what their contracts speak
-/// of, and `standpoint` whose table it is; an error says that memory is short.
+/// The rules of nomination and balloting know the table only by this. `seen` is what their contracts speak of, and
+/// `standpoint` whose table it is.
 pub trait Sight {
     ghost seen: { Self → Seen };
 
@@ -68,7 +68,7 @@ pub trait Sight {
     ) -> Option<LentBallot<'a>>
         ensures { result ≡ next_under bound.now (mentioned_in mention ((seen self.now).rows Kind.Ballot)) };
 
-    /// The least counter above this one that a ballot row of another that is reached has.
+    /// The least counter above this one that the ballot rows of the others that are reached have.
     fn next_counter(&self, above: u32) -> Option<u32>
         ensures { result ≡ next_counter above ((seen self.now).rows Kind.Ballot) };
 

@@ -16,7 +16,7 @@ use std::thread::Threads;
 pub struct Answer {
     /// What is told of it: whole lines with their line feeds.
     pub block: String,
-    /// What it did, where a journal keeps it: a line that none keeps has changed nothing.
+    /// What it did, if a journal keeps it. A line that no journal keeps has changed nothing.
     pub done: Option<Done>,
 }
 
@@ -34,11 +34,11 @@ pub struct Done {
 pub enum Deed {
     /// It declared the network, or a node or the roster of it.
     Declared,
-    /// It was an event that was refused, and declarations end with the first event.
+    /// It was an event that was refused. It still names the network, which takes no declaration after it.
     Refused,
-    /// It was applied at this slot, and drew so much. The first such line opened the slot.
+    /// It was applied at this slot, and drew this much. The first such line opened the slot.
     Applied(u64, Drawn),
-    /// It closed this slot, and drew so much.
+    /// It closed this slot, and drew this much.
     Closed(u64, Drawn),
     /// It took the network back.
     Dropped,
@@ -70,8 +70,8 @@ pub trait LineServer {
 
     ghost whole: { KeptLinesAreWhole serves };
 
-    /// Answers a line with its number; `None` is a line that is too long. Nothing is told of an empty line or a comment.
-    /// An error says that memory is short; then nothing is served any more.
+    /// Answers a line with its number; `None` is a line that is too long. Nothing is told of an empty line or a
+    /// comment. An error says that it is out of memory; then nothing is served any more.
     fn serve(
         &mut self,
         alloc: Global,
@@ -89,11 +89,11 @@ pub trait BatchServer: LineServer {
     ghost use Rattle.feed.specs.Reading.{given_of};
     ghost use Rattle.feed.specs.Served.{AreAnswered, reply_of};
 
-    /// How many lines it is best given together, at most: more where threads share them. No answer depends on it.
+    /// How many lines it is best given together, at most: more if threads share them. No answer depends on it.
     fn lines_at_once(&self) -> usize;
 
-    /// Answers lines behind so many as if one after the other, as [`serve_in_turn`] does, by threads if it has any. If there
-    /// are fewer answers than lines, memory is short; then nothing is served any more.
+    /// Answers lines as if one after the other, as [`serve_in_turn`] does, by threads if it has any. `count` lines came
+    /// before them. If there are fewer answers than lines, it is out of memory; then nothing is served any more.
     fn serve_batch<X: Threads + Sync>(
         &mut self,
         rt: &X,
@@ -106,8 +106,8 @@ pub trait BatchServer: LineServer {
         ensures { (t : Self) × AreAnswered Self.serves self.old (count + 1) (map given_of lines.now) (map reply_of result.items) t × (length result.items ≡ length lines.now → t ≡ self.new) };
 }
 
-/// Answers lines one after the other, behind so many, each by itself. If there are fewer answers than lines, memory is
-/// short.
+/// Answers lines one after the other, each by itself; `count` lines came before them. If there are fewer answers than
+/// lines, it is out of memory.
 pub fn serve_in_turn<S: LineServer>(
     server: &mut S,
     alloc: Global,
@@ -133,8 +133,8 @@ pub fn serve_in_turn<S: LineServer>(
 
 /// Where a live host keeps its journal and tells what lines are answered.
 ///
-/// `acts` says what was done, one after the other, where that is known, and `told` what was told. What a stop leaves of a
-/// journal rests on what a sync promises: bytes that it found in the file stay, and each byte that was written later is as
+/// `acts` says what was done, one after the other, if that is known, and `told` what was told. What a stop leaves of a
+/// journal rests on what a sync promises: bytes that it found in the file stay. Each byte that was written later is as
 /// it was written, or is 0, or the file ends before it.
 pub trait Desk {
     ghost use Rattle.std.specs.Prelude.{◌≡◌, ◌∷◌, [], true, List, Option};
@@ -147,8 +147,8 @@ pub trait Desk {
 
     ghost told: { Self → Option Bytes };
 
-    /// Writes a line and a line feed behind what the journal has, and answers whether they stand there. If not, a beginning
-    /// of the line may.
+    /// Writes a line and a line feed behind what the journal has, and answers whether they stand there. If not, a
+    /// beginning of the line may.
     fn append(&mut self, line: &[u8]) -> bool
         ensures done { WroteLine result line.now (acts self.old) (acts self.new) }
         ensures told { Keeps (told self.old) (told self.new) };
@@ -163,14 +163,14 @@ pub trait Desk {
         ensures done { Did (acts self.old) (acts self.new) (Told text.now ∷ []) }
         ensures told { result ≡ true → Appends (told self.old) (told self.new) text.now };
 
-    /// A line with its number, which is `None` where it is too long, was answered by the block with which `waiting` ends. If
-    /// it is bad, and that is asked for, it is said elsewhere why.
+    /// Says elsewhere why a line is bad, if it is and if that is asked for. The line is `None` if it is too long;
+    /// `waiting` ends with the block that answers it.
     fn explain(&mut self, number: u64, line: Option<&[u8]>, waiting: &[u8])
         ensures done { acts self.new ≡ acts self.old }
         ensures told { told self.new ≡ told self.old };
 }
 
-/// Writes bytes and hands them on, and answers whether both were done.
+/// Writes bytes and flushes them, and answers whether both were done.
 pub fn write_and_flush<W: Write>(out: &mut W, text: &[u8]) -> bool
     ensures { result ≡ true → Appends (W.contents out.old) (W.contents out.new) text.now }
 {

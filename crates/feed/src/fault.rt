@@ -10,11 +10,11 @@ use std::alloc::AllocError;
 /// What ends a live host early.
 #[derive(Clone, Copy, Debug, PartialEq, Eq)]
 pub enum Fault {
-    /// What is read could not be read.
+    /// The input could not be read.
     CannotRead,
     /// No number below 2^64 is left for a line.
     TooLong,
-    /// There was no memory.
+    /// It was out of memory.
     NoMemory,
     /// A line could not be written to the journal. The lines before it stand there.
     NotAppended,

@@ -12,11 +12,11 @@ use std::sync::Wait;
 /// How many lines one thread is given together at most (this host's profile).
 pub const MOST_LINES: usize = 1024;
 
-/// If the answers to as many lines as may be are longer than this on average, fewer of them are taken the next time.
+/// How many bytes an answer may have on average if as many lines as may be were taken. Behind longer ones fewer are.
 const LONG_ANSWER: usize = 256;
 
-/// How many lines are answered together at most, of so many at most, behind so many at most whose answers have so many
-/// bytes.
+/// How many lines are taken at most, behind `most` at most whose answers have `bytes` bytes: `all`, or about half of
+/// `most` if these are long.
 pub(crate) fn most_behind(most: usize, all: usize, bytes: usize) -> usize {
     if bytes / LONG_ANSWER > all {
         most / 2 + 1
@@ -25,7 +25,7 @@ pub(crate) fn most_behind(most: usize, all: usize, bytes: usize) -> usize {
     }
 }
 
-/// Reads the next line, and those at hand behind it, as many as asked for at most. It answers whether the input may go on.
+/// Reads the next line, and those at hand behind it, `most` at most. It answers whether the input may go on.
 pub(crate) fn gather<X: Wait, R: BufRead>(
     rt: &X,
     alloc: Global,
@@ -51,7 +51,7 @@ pub(crate) fn gather<X: Wait, R: BufRead>(
     Ok(true)
 }
 
-/// Puts a line behind others. The error says that memory is short.
+/// Puts a line behind others. The error says that it is out of memory.
 fn keep(lines: &mut Vec<KeptLine>, line: KeptLine) -> Result<(), ReadError>
     ensures kept { OnOk result (lines.new.items ≡ lines.old.items ++ line ∷ []) }
     ensures none { IfErr result (λ why. (why ≡ ReadError.NoMemory) × (lines.new.items ≡ lines.old.items)) }
@@ -79,7 +79,7 @@ fn first_hole(lines: &[KeptLine]) -> Option<usize>
     lines.iter().position(|line| line.has_hole())
 }
 
-/// The lines behind so many for which there are numbers.
+/// Those of the lines for which a number below 2^64 is left behind `count` others.
 pub(crate) fn numbered(count: u64, lines: &[KeptLine]) -> &[KeptLine]
     ensures first { result.now ≡ take (length result.now) lines.now }
     ensures numbers { count + length result.now < 2 ^ 64 }

@@ -27,11 +27,12 @@ use std::marker::Model;
 use std::sync::Wait;
 use std::thread::Threads;
 
-/// Has the lines of a journal answered again, up to its end, and writes a shorter journal with what lasts of them: the lines
-/// that declared networks, with what is left of their budgets, for each network that has been named and has no open slot a
-/// line that names it, and the lines of open slots.
+/// Has the lines of a journal answered again, up to its end, and writes a shorter journal with what lasts of them.
+/// First come the lines that declared networks, with what is left of their budgets. Then each network that has been
+/// named and has no open slot has a line that names it. Last come the lines of open slots.
 ///
-/// It stops early, and writes nothing, where [`replay`] does; and where a write fails.
+/// It stops early, and writes nothing, if [`replay`] stops or if it is out of memory. It also stops if a write fails;
+/// then a part may have been written.
 #[tactic(auto, using(crate::proofs::LastingLines::not_compacted))]
 pub fn compact<X: Threads + Wait + AllocGlobal + Sync, S: LineServer + Drop, R: BufRead, W: Write>(
     rt: &X,
@@ -56,7 +57,7 @@ pub fn compact<X: Threads + Wait + AllocGlobal + Sync, S: LineServer + Drop, R: 
     }
 }
 
-/// Writes the shorter journal, and hands it on.
+/// Writes the shorter journal, and flushes it.
 fn write_compacted<W: Write>(alloc: Global, lines: &Lines, out: &mut W) -> Result<(), Stop>
     ensures written { OnOk result (Appends (W.contents out.old) (W.contents out.new) (compacted lines.now)) }
     ensures failed { IfErr result (λ why. ((why ≡ Stop.NoMemory) × (W.contents out.new ≡ W.contents out.old)) ⊎ (why ≡ Stop.CannotWrite)) }
@@ -73,8 +74,8 @@ fn write_compacted<W: Write>(alloc: Global, lines: &Lines, out: &mut W) -> Resul
     }
 }
 
-/// What answers lines, and what lasts of those that it was given: the lines that declared networks, and those of slots that
-/// are still open. A line costs a logarithm in how many last.
+/// What answers lines, and what lasts of those that it was given: the lines that declared networks, and those of slots
+/// that are still open. On average a line takes time that grows with the logarithm of how many last.
 #[derive(Drop)]
 pub struct Lasting<S: LineServer> {
     server: S,
@@ -101,7 +102,7 @@ impl<S: LineServer> Lasting<S> {
         }
     }
 
-    /// The number of the first line that concerns a slot which is still open; `None` where no slot is open.
+    /// The number of the first line that concerns a slot which is still open; `None` if no slot is open.
     pub fn first_line(&self) -> Option<u64>
         ensures { result ≡ first_line self.now.lines.lasting }
     {
@@ -121,8 +122,8 @@ impl<S: LineServer> LineServer for Lasting<S> {
 
     ghost whole = { kept_lines_are_whole S.serves S.whole };
 
-    /// Has the line answered by the server, and keeps it while it lasts. An error says that memory is short; then nothing is
-    /// served any more.
+    /// Has the line answered by the server, and keeps it while it lasts. An error says that it is out of memory; then
+    /// nothing is served any more.
     fn serve(
         &mut self,
         alloc: Global,
@@ -152,7 +153,6 @@ impl<S: LineServer> BatchServer for Lasting<S> {
     }
 }
 
-/// What a line did that was answered so.
 fn done_by(answer: &Option<Answer>) -> Option<Done>
     ensures { result ≡ (reply_of answer.now).done }
 {
@@ -163,7 +163,6 @@ fn done_by(answer: &Option<Answer>) -> Option<Done>
 }
 
 impl Drawn {
-    /// Nothing.
     const NOTHING: Drawn = Drawn {
         events: 0,
         bytes: 0,
@@ -227,7 +226,7 @@ impl Model for LastingLines {
 }
 
 impl LastingLines {
-    /// One more that declares something. An error says that memory is short.
+    /// Adds a line that declares something.
     fn declare(
         &mut self,
         alloc: Global,
@@ -248,7 +247,7 @@ impl LastingLines {
         }
     }
 
-    /// One more of an open slot. An error says that memory is short.
+    /// Adds a line of an open slot.
     fn put(&mut self, alloc: Global, number: u64, line: &[u8]) -> Result<(), AllocError>
         ensures { OnOk result (self.new ≡ record self.old { events = insert_entry nat_cmp self.old.events number line.now }) }
     {
@@ -261,7 +260,6 @@ impl LastingLines {
     }
 }
 
-/// The bytes of a line. An error says that memory is short.
 fn copy_of(alloc: Global, line: &[u8]) -> Result<Vec<u8>, AllocError>
     ensures { IfOk result (λ text. text.items ≡ line.now) }
 {
@@ -294,8 +292,8 @@ impl Model for SlotLines {
     ghost view = { λ slot. record { lines = slot.lines.items; drawn = slot.drawn } };
 }
 
-/// A network that is declared: the numbers of the lines that declared it, whether an event has named it, what events drew
-/// that are not of open slots, and its open slots.
+/// A network that is declared: the numbers of the lines that declared it, whether an event has named it, what events
+/// drew that are not of open slots, and its open slots.
 #[derive(Drop)]
 struct NetworkLines {
     declared: Vec<u64>,
@@ -325,7 +323,7 @@ impl NetworkLines {
         }
     }
 
-    /// A line with this number did this. An error says that memory is short.
+    /// Notes what the line with this number did.
     fn note(
         &mut self,
         alloc: Global,
@@ -363,7 +361,7 @@ impl NetworkLines {
         }
     }
 
-    /// The line with this number was applied at a slot. An error says that memory is short.
+    /// Notes that the line with this number was applied at a slot.
     fn note_event(
         &mut self,
         alloc: Global,
@@ -388,7 +386,7 @@ impl NetworkLines {
         }
     }
 
-    /// A line that drew so much closed a slot, whose lines do not last.
+    /// A line that drew `drawn` closed a slot, whose lines do not last.
     fn close(&mut self, slot: u64, drawn: Drawn, events: &mut BTreeMap<u64, EventLine>)
         ensures network { self.new ≡ record self.old { lost = both_drawn self.old.lost (both_drawn (drawn_at (value_at self.old.slots slot)) drawn); slots = without slot self.old.slots } }
         ensures events { events.new.entries ≡ events_but (value_at self.old.slots slot) events.old.entries }
@@ -436,7 +434,7 @@ impl Model for Lines {
 }
 
 impl Lines {
-    /// There was none. It takes no memory.
+    /// No line was answered yet. It takes no memory.
     fn none(alloc: Global) -> Lines
         ensures { result ≡ no_lines }
     {
@@ -449,7 +447,7 @@ impl Lines {
         }
     }
 
-    /// A line was answered, and did this. An error says that memory is short.
+    /// Notes what a line did that was answered.
     fn note(
         &mut self,
         alloc: Global,
@@ -472,7 +470,7 @@ impl Lines {
         }
     }
 
-    /// A line changed a network. An error says that memory is short.
+    /// Notes a line whose network is there after it.
     fn change_network(
         &mut self,
         alloc: Global,
@@ -494,7 +492,7 @@ impl Lines {
         }
     }
 
-    /// A line took a network back. An error says that memory is short.
+    /// Notes a line that took a network back.
     fn drop_network(
         &mut self,
         alloc: Global,
@@ -525,7 +523,7 @@ impl Lines {
         }
     }
 
-    /// The shorter journal. An error says that memory is short.
+    /// The bytes of the shorter journal.
     fn compacted(&self, alloc: Global) -> Result<Vec<u8>, AllocError>
         ensures { IfOk result (λ text. text.items ≡ compacted self.now) }
     {
@@ -591,7 +589,7 @@ impl Lines {
     }
 }
 
-/// Adds a line that is refused and names a network, where an event has named it and no slot is open.
+/// Adds a line that is refused and names a network, if an event has named it and no slot is open.
 fn push_naming(text: &mut Vec<u8>, number: u32, network: &NetworkLines) -> Result<(), AllocError>
     ensures { OnOk result (text.new.items ≡ text.old.items ++ naming_text (number, network.now)) }
 {
@@ -612,7 +610,7 @@ fn push_event(text: &mut Vec<u8>, line: &EventLine) -> Result<(), AllocError>
     Ok(())
 }
 
-/// Adds a line that declares a network, or its roster, with budgets that are so much less.
+/// Adds a line that declares a network, or its roster, with budgets that are less by this.
 #[tactic(auto, unfolding(crate::specs::Lasting::lowered))]
 fn push_lowered(text: &mut Vec<u8>, by: Drawn, line: &[u8]) -> Result<(), AllocError>
     ensures { OnOk result (text.new.items ≡ text.old.items ++ lowered by line.now) }
@@ -654,7 +652,7 @@ fn split_once(words: &[u8]) -> Option<(&[u8], &[u8])>
     }
 }
 
-/// Adds a word, the number that it spells less by so much.
+/// Adds a word; of one that spells a number, this number less `by`.
 fn push_word(text: &mut Vec<u8>, by: u64, word: &[u8]) -> Result<(), AllocError>
     ensures { OnOk result (text.new.items ≡ text.old.items ++ lowered_word by word.now) }
 {
@@ -664,7 +662,6 @@ fn push_word(text: &mut Vec<u8>, by: u64, word: &[u8]) -> Result<(), AllocError>
     }
 }
 
-/// Adds a number.
 fn push_number(text: &mut Vec<u8>, number: u64) -> Result<(), AllocError>
     ensures { OnOk result (text.new.items ≡ text.old.items ++ decimal number) }
 {

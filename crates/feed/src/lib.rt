@@ -1,11 +1,11 @@
 //! A live host's loop: lines come, are answered, kept and told.
 //!
-//! A [`Feed`] reads lines until the input ends and gives each to a [`LineServer`]. A [`Desk`] has the line in its journal,
-//! on the disk, before what the line is answered is told. However much comes, what is kept is one line, of at most
-//! [`LONGEST_LINE`] bytes, the lines that came with it in one read, as many as a [`BatchServer`] takes at once, and their
-//! answers, which it gives together; behind answers of many bytes fewer lines are taken. [`replay`] has the lines of a
-//! journal answered again, [`Lasting`] finds which of them concern what is still declared and open, and [`compact`] makes
-//! a shorter journal of these.
+//! A [`Feed`] reads lines until the input ends and gives them to a [`LineServer`]. A [`Desk`] has each line in its
+//! journal, on the disk, before its answer is told. However much comes, only one line is kept, of at most
+//! [`LONGEST_LINE`] bytes, with those that came with it in one read, and their answers. At most as many lines are taken
+//! together as a [`BatchServer`] takes at once, and fewer behind answers of many bytes. [`replay`] has the lines of a
+//! journal answered again, [`Lasting`] finds which of them concern what is still declared and open, and [`compact`]
+//! makes a shorter journal of these.
 #![tactic(auto)]
 
 mod answering;

@@ -16,8 +16,8 @@ pub const LONGEST_LINE: usize = 262_144;
 /// How many bytes of lines are read at a time (this host's profile).
 pub const READ_SIZE: usize = 65_536;
 
-/// A line as far as it has come. Once it has more than `LONGEST_LINE` bytes nothing is kept of it but whether a byte of it
-/// is 0.
+/// A line as far as it has come. Of one with more than `LONGEST_LINE` bytes it shows only that, and whether a byte of
+/// it is 0.
 #[derive(Drop)]
 pub struct KeptLine {
     bytes: Vec<u8>,
@@ -58,7 +58,7 @@ impl KeptLine {
         self.hole = false;
     }
 
-    /// Takes what comes next of the line. An error says that memory is short.
+    /// Takes what comes next of the line.
     fn add(&mut self, more: &[u8]) -> Result<(), AllocError>
         ensures { OnOk result (self.new ≡ longer LONGEST_LINE self.old more.now) }
     {
@@ -73,7 +73,7 @@ impl KeptLine {
         Ok(())
     }
 
-    /// The line, or `None` where it is too long.
+    /// The line, or `None` if it is too long.
     pub fn given(&self) -> Option<&[u8]>
         ensures { option_map (λ bytes. bytes.now) result ≡ self.now.given }
     {
@@ -109,8 +109,8 @@ pub(crate) enum Piece {
     End,
 }
 
-/// Reads the next line and the line feed behind it, and answers whether a further line is at hand, which needs no waiting.
-/// `None` says that the input has ended; what stood behind its last line feed is no line.
+/// Reads the next line and the line feed behind it, and answers whether a further line is at hand, which needs no
+/// waiting. `None` says that the input has ended; what stood behind its last line feed is no line.
 ///
 /// A line with more than `LONGEST_LINE` bytes is read to its line feed and not kept. After an error a part of the line
 /// may have been read.

@@ -23,14 +23,14 @@ pub struct JournalEnd {
     pub bytes: u64,
 }
 
-/// Has the lines of a journal answered again, up to its end, which is before the first line that has a byte 0 in it or
-/// lacks its line feed. What lines from a number on are answered is written; of the others, and without a number,
-/// nothing is. No more is kept than the lines that come in one read, which are answered together, as many as the server
-/// takes at once, and their answers. Behind answers of many bytes fewer lines are taken.
+/// Has the lines of a journal answered again, up to its end. That is before the first line that has a byte 0 in it or
+/// lacks its line feed. What lines from the number `from` on are answered is written; of the others, and without a
+/// number, nothing is. Only lines that come in one read are kept, and their answers. They are answered together, as
+/// many as the server takes at once, and fewer behind answers of many bytes.
 ///
-/// It stops early where a line is no line of a journal ([`Stop::BadLine`], with its number), because it is too long, or
-/// because its answer says that a journal does not keep it; where a read fails, memory is short, a write fails, or no
-/// number below 2^64 is left ([`Stop::TooLong`]).
+/// It stops early if a line is no line of a journal ([`Stop::BadLine`], with its number): it is too long, or its answer
+/// says that a journal does not keep it. It also stops if a read or a write fails, or if it is out of memory; and if no
+/// number below 2^64 is left for the lines or their bytes ([`Stop::TooLong`]).
 pub fn replay<X: Threads + Wait + AllocGlobal + Sync, S: BatchServer, R: BufRead, W: Write>(
     rt: &X,
     server: &mut S,
@@ -57,15 +57,15 @@ pub fn replay<X: Threads + Wait + AllocGlobal + Sync, S: BatchServer, R: BufRead
     unreachable!()
 }
 
-/// Where a line stands: behind so much of a journal; and from which line on answers are told.
+/// Where the journal ends before a line, and from which line on answers are told.
 #[derive(Clone, Copy)]
 struct Place {
     from: Option<u64>,
     end: JournalEnd,
 }
 
-/// Has lines answered again, and tells that if it is asked for. It answers where the journal ends behind them, and adds up
-/// of how many bytes their answers are.
+/// Has lines answered again, and tells the answers that are asked for. It answers where the journal ends behind them,
+/// and adds to `answered` how many bytes all their answers have.
 fn replay_lines<X: Threads + AllocGlobal + Sync, S: BatchServer, W: Write>(
     rt: &X,
     server: &mut S,
@@ -95,7 +95,7 @@ fn replay_lines<X: Threads + AllocGlobal + Sync, S: BatchServer, W: Write>(
     Ok(end)
 }
 
-/// Of how many bytes an answer is.
+/// How many bytes an answer has.
 fn length_of(answer: &Option<Answer>) -> usize {
     match answer {
         Some(answer) => answer.block.len(),
@@ -103,7 +103,8 @@ fn length_of(answer: &Option<Answer>) -> usize {
     }
 }
 
-/// Takes a line that was answered again, and tells that if it is asked for. It answers where the journal ends behind it.
+/// Takes a line that was answered again, and tells its answer if that is asked for. It answers where the journal ends
+/// behind it.
 fn take_line<S: LineServer, W: Write>(
     line: &KeptLine,
     answer: Option<Answer>,
@@ -122,7 +123,7 @@ fn take_line<S: LineServer, W: Write>(
     end_behind(place.end, number, bytes)
 }
 
-/// Tells what a line of a journal was answered, if that is asked for.
+/// Tells what a line of a journal was answered, if that is asked for and it is a line of a journal.
 fn tell_again<W: Write>(
     answer: Option<Answer>,
     number: u64,

@@ -27,7 +27,7 @@ pub struct Feed<S: BatchServer> {
 }
 
 impl<S: BatchServer> Feed<S> {
-    /// A host of which so many lines have been served.
+    /// A host of which `count` lines have been served.
     pub fn new(alloc: Global, server: S, count: u64) -> Feed<S>
         ensures server { result.server ≡ server }
         ensures count { result.count ≡ count }
@@ -47,11 +47,12 @@ impl<S: BatchServer> Feed<S> {
     /// stands in the journal, and the journal is on the disk, before anything is told of it. The lines at hand go there
     /// together, and what they are answered is told before a further one is waited for.
     ///
-    /// A line ends with its line feed, and is given without it; what stands behind the last line feed when the input ends
-    /// is no line. One with more than [`LONGEST_LINE`] bytes is given as too long, and skipped.
+    /// A line ends with its line feed, and is given without it; what stands behind the last line feed when the input
+    /// ends is no line. One with more than [`LONGEST_LINE`] bytes is given as too long, and skipped.
     ///
-    /// It stops early at a [`Fault`]. Where a read fails, no number is left, or memory is short, the lines before have been
-    /// told. Where a line cannot be written to the journal they have been told too, if they could be brought to the disk.
+    /// It stops early at a [`Fault`]. If a read fails, no number is left, or it is out of memory, the lines before have
+    /// been told. If a line cannot be written to the journal they have been told too, unless they could not be brought
+    /// to the disk.
     pub fn serve<X: Threads + Wait + Sync, R: BufRead, D: Desk>(
         &mut self,
         rt: &X,
@@ -103,7 +104,7 @@ impl<S: BatchServer> Feed<S> {
         Ok(())
     }
 
-    /// Writes a line to the journal that was answered. What is told of it waits.
+    /// Writes a line that was answered to the journal. What is told of it waits.
     fn settle<D: Desk>(
         &mut self,
         line: &KeptLine,
@@ -150,7 +151,7 @@ impl<S: BatchServer> Feed<S> {
     }
 }
 
-/// Adds what is told of a line, and answers whether the journal keeps the line. An error says that memory is short.
+/// Adds what is told of a line, and answers whether the journal keeps the line.
 fn push_answer(waiting: &mut Vec<u8>, answer: Option<Answer>) -> Result<bool, AllocError>
     ensures answered { IfOk result (λ kept. (kept ≡ is_kept (reply_of answer)) × (waiting.new.items ≡ waiting.old.items ++ (reply_of answer).text)) }
     ensures unanswered { OnErr result (waiting.new.items ≡ waiting.old.items) }

@@ -37,7 +37,7 @@ impl Model for Flat {
 }
 
 impl Flat {
-    /// The flat form of slices. An error says that memory is short.
+    /// The flat form of slices. An error says that it is out of memory.
     pub fn of(alloc: Global, nested: &Nested) -> Result<Flat, AllocError>
         ensures { IfOk result (λ f. f ≡ nested.now) }
     {
@@ -47,7 +47,7 @@ impl Flat {
         Ok(Flat { names, sets })
     }
 
-    /// The same slices as a tree. An error says that memory is short.
+    /// The same slices as a tree. An error says that it is out of memory.
     pub fn to_nested(&self, alloc: Global) -> Result<Nested, AllocError>
         ensures { IfOk result (λ n. n ≡ self.now) }
     {
@@ -92,7 +92,7 @@ impl SliceFamily for Flat {
     }
 }
 
-/// Whether a set of nodes satisfies the set with this number or, where `blocking` is said, blocks it.
+/// Whether a set of nodes satisfies the set with this number or, if `blocking`, blocks it.
 fn is_met(
     names: &[NodeId],
     sets: &[FlatSet],
@@ -120,7 +120,7 @@ fn is_met(
     count >= needed_of(set.threshold(), members.len(), blocking)
 }
 
-/// How many members of so many have to meet a set: its threshold or, to block it, one more than it can spare.
+/// How many of `members` members have to meet a set: its threshold or, to block it, one more than it can spare.
 fn needed_of(threshold: u8, members: usize, blocking: bool) -> usize
     requires { members < 2 ^ 63 }
     ensures { result ≡ (if blocking then members + 1 - threshold else threshold) }
@@ -132,7 +132,7 @@ fn needed_of(threshold: u8, members: usize, blocking: bool) -> usize
     }
 }
 
-/// The set with this number as a tree. An error says that memory is short.
+/// The set with this number as a tree. An error says that it is out of memory.
 fn tree_of(
     alloc: Global,
     names: &[NodeId],
@@ -192,7 +192,7 @@ fn own_weight(member: &NodeId, node: &NodeId) -> Option<Weight>
     }
 }
 
-/// Adds a set and those inside it to a list, each before those inside it. Where memory is wanting, some may have been
+/// Adds a set and those inside it to a list, each before those inside it. If it is out of memory, some may have been
 /// added.
 fn push_sets(
     alloc: Global,

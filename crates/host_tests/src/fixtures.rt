@@ -15,7 +15,7 @@ pub fn slices_of(alloc: Global, number: u64) -> Option<Nested> {
     Nested::new(alloc, SliceSet::new(1, members)).ok()?
 }
 
-/// The node of a number alone, which needs one other or itself.
+/// Only the node of this number, which needs the node of number `needed`.
 pub fn one_node(alloc: Global, number: u64, needed: u64) -> Option<Vec<HostedNode>> {
     let slices = slices_of(alloc, needed)?;
     vec![in alloc; HostedNode::new(name(number), slices)].ok()

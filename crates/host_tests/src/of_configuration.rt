@@ -1,5 +1,5 @@
-//! That a network is configured and copied where there is memory, and that faults have words. What a configuration has, and
-//! which fault is answered, is said by contracts; each limit is tried through the program.
+//! That a network is configured and copied if there is memory, and that faults have words. What a configuration has,
+//! and which fault is answered, is said by contracts; each limit is tried through the program.
 
 use crate::fixtures::{name, one_node};
 use configuration::{Budgets, ConfigError, NetConfig, Reservation, Shares};
@@ -13,7 +13,7 @@ const SHARES: Shares = Shares {
     opens: 4,
 };
 
-/// A network whose one node trusts itself alone, with a roster of two names.
+/// A network whose one node trusts only itself, with a roster of two names.
 fn config(alloc: Global) -> Option<NetConfig> {
     let nodes = one_node(alloc, 7, 7)?;
     let roster = Reservation {

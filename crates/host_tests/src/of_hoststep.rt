@@ -1,4 +1,4 @@
-//! That machines and journals answer where there is memory: no clause says so. What they answer is said by contracts.
+//! That machines and journals answer if there is memory: no clause says so. What they answer is said by contracts.
 
 use crate::fixtures::{name, one_node, slices_of};
 use codec::encode;
@@ -26,7 +26,6 @@ fn vote(alloc: Global) -> Option<Envelope> {
     Envelope::new(name(2), 5, slices, body)
 }
 
-/// Its bytes.
 fn vote_bytes(alloc: Global) -> Option<Bytes> {
     let vote = vote(alloc)?;
     let encoded = encode(alloc, &vote);

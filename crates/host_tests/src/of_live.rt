@@ -1,5 +1,5 @@
-//! That a served network answers where there is memory, and what it tells: no clause says the first, and a story shows
-//! the second.
+//! That a served network answers if there is memory, and what it tells: no clause says the first, and a story shows the
+//! second.
 
 use crate::fixtures::{name, slices_of};
 use configuration::HostedNode;
@@ -10,7 +10,7 @@ use std::alloc::Global;
 use std::test::Fail;
 use types::{Bytes, Event, Out};
 
-/// A network of nodes 1 and 2, both of which need node 1 alone.
+/// A network of nodes 1 and 2, both of which need only node 1.
 fn network(alloc: Global) -> Option<ServedNetwork<BoxShelf>> {
     let mut nodes = Vec::new(alloc);
     nodes
@@ -39,7 +39,8 @@ fn proposed(alloc: Global) -> Option<Served> {
     served.ok()
 }
 
-/// Whether the step of a node gave out so many things, the last of which is a decision or is none.
+/// Whether the step of a node gave out `count` things, and the last of them is a decision if `decides` and none
+/// otherwise.
 fn gave_out(told: &Told, node: u64, count: usize, decides: bool) -> bool {
     match &told.answer {
         Ok(outs) => {

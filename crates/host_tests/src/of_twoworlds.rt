@@ -1,4 +1,4 @@
-//! That many questions about two worlds are answered in threads where there is memory: no clause says so. Which verdicts
+//! That many questions about two worlds are answered in threads if there is memory: no clause says so. Which verdicts
 //! these are is said by contracts.
 
 use crate::fixtures::{name, one_node};
@@ -22,7 +22,7 @@ fn subject(net: u32) -> Subject {
     }
 }
 
-/// A network whose one node trusts itself alone.
+/// A network whose one node trusts only itself.
 fn config(alloc: Global, net: u32) -> Option<NetConfig> {
     let nodes = one_node(alloc, 1, 1)?;
     NetConfig::new(alloc, net, nodes, Budgets::new(100, 100, 1)?).ok()
@@ -51,12 +51,13 @@ fn propose(alloc: Global, world: &mut TestWorld, net: u32) -> Option<bool> {
     Some(applies(world, net, event))
 }
 
-/// Networks 1 and 2, where the node of the first proposes.
+/// Networks 1 and 2; the node of the first proposes.
 fn build(alloc: Global, world: &mut TestWorld) -> Option<bool> {
     Some(add(alloc, world, 1)? && add(alloc, world, 2)? && propose(alloc, world, 1)?)
 }
 
-/// What is asked of two worlds that are built alike, where in one the node of network 2 proposes too.
+/// Whether two worlds that are built alike are compared as expected, when in one of them the node of network 2 proposes
+/// too.
 fn ask(
     rt: &(impl Threads + Sync),
     alloc: Global,
@@ -81,7 +82,7 @@ fn are_expected(verdicts: &[Verdict]) -> bool {
     }
 }
 
-/// Whether the node alone is a member, and it nominated, decided and externalized at once.
+/// Whether only the node is a member, and it nominated, decided and externalized at once.
 fn has_decided_alone(members: &[MemberOuts]) -> bool {
     match members {
         [member] => match member.outs() {

@@ -11,9 +11,8 @@ use configuration::NetConfig;
 use envstore::Shelf;
 use types::{Nested, NodeId};
 
-/// A journal announces what its deliveries and its changes of slices do. A hosted node is found by a binary
-/// search; so are its slices at the end of the journal, since those at an open slot are the ones that the node
-/// there has, and else they are the configured ones.
+/// A journal announces what its deliveries and its changes of slices do. A hosted node is found by a binary search. So
+/// are its slices at the end of the journal: those of the node at an open slot, or else the configured ones.
 impl<S: Shelf> Announcements for Journal<S> {
     ghost nodes = { λ j. j.config.nodes };
 
@@ -54,7 +53,7 @@ impl<S: Shelf> Announcements for Journal<S> {
     }
 }
 
-/// The configured slices of a node, where it is hosted, by a binary search.
+/// The configured slices of a node, if it is hosted, by a binary search.
 fn configured_slices<'a>(config: &'a NetConfig, node: &NodeId) -> Option<&'a Nested>
     ensures value { option_map (λ q. q.now) result ≡ slices_of config.now.nodes node.now }
     ensures ascending { IsAscending (map (λ h. h.name) config.now.nodes) }

@@ -1,4 +1,4 @@
-//! What an event leaves that was entered, and the whole copy of what it gave out.
+//! What is left of an event that was entered, and a whole copy of what it gave out.
 
 ghost use Rattle.std.specs.Prelude.{◌≡◌, List, map};
 ghost use Rattle.slot.specs.Filings.{copies_of};
@@ -6,15 +6,15 @@ ghost use Rattle.types.specs.declared.event.Out.{Out};
 
 use types::Out;
 
-/// By which numbers the emissions of an entered event are named, and a whole copy of what it gave out; of nothing none
-/// is made.
+/// The numbers that name the emissions of an entered event, and a whole copy of what it gave out; of nothing none is
+/// made.
 #[derive(Drop)]
 pub(crate) struct Entered {
     pub marks: Vec<u64>,
     pub copies: Vec<Vec<Out>>,
 }
 
-/// The one copy that was asked for. It takes no memory.
+/// The one copy that was asked for; of nothing there is none. It takes no memory.
 pub(crate) fn only_copy(mut copies: Vec<Vec<Out>>) -> Vec<Out>
     ensures { (outs : List Out) → map (λ v. v.items) copies.items ≡ copies_of 1 outs → result.items ≡ outs }
 {

@@ -6,9 +6,8 @@ ghost use Rattle.hoststep.specs.Boxing.{HasBoxFor, is_large, is_wide};
 use std::alloc::{AllocError, Global};
 use types::Event;
 
-/// A box for an event that brings a value or slices of its own, or wide numbers, so that the entries of all others are
-/// small.
-/// Where such an event is refused, the box stays for the next one; what lies in it until then means nothing.
+/// A box for an event that brings a value, slices of its own or wide numbers, so that the entries of all others are
+/// small. If such an event is refused, the box stays for the next one; what lies in it until then means nothing.
 #[derive(Drop)]
 pub(crate) struct EventRoom {
     boxed: Option<Box<Event>>,
@@ -20,7 +19,7 @@ impl EventRoom {
         EventRoom { boxed: None }
     }
 
-    /// Room for this event, made where it is large and there is none yet. An error says that memory is short.
+    /// Makes room for this event, if it is large and there is none yet. An error says that it is out of memory.
     pub(crate) fn make(&mut self, alloc: Global, event: &Event) -> Result<(), AllocError>
         ensures { OnOk result (HasBoxFor event.now self.new) }
     {
@@ -34,7 +33,7 @@ impl EventRoom {
         Ok(())
     }
 
-    /// The event in the box that is there for it. It takes no memory.
+    /// The event, in the box that was made for it. It takes no memory.
     pub(crate) fn fill(&mut self, event: Event) -> Box<Event>
         requires { is_some self.old.boxed ≡ true }
         ensures { box_value result ≡ event }
@@ -59,7 +58,6 @@ pub(crate) fn is_large(event: &Event) -> bool
     }
 }
 
-/// Whether a number has more than 32 bits.
 fn is_wide(number: u64) -> bool
     ensures { result ≡ is_wide number }
 {

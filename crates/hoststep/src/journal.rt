@@ -26,13 +26,12 @@ use types::{Event, Nested, NodeId, Out, Refusal};
 
 /// A network with the events that were applied to it and what they gave out, numbered from 0.
 ///
-/// Contracts see it as its configuration and its entries, with whole envelopes: by its type they are a run of
-/// that configuration, each an event that was not refused after the entries before it, with what that event
-/// gives out.
+/// Contracts see it as its configuration and its entries, with whole envelopes. By its type these are a run of that
+/// configuration: each entry is an event that was not refused after the entries before it, with what that event gives
+/// out.
 ///
 /// For example, the first entry may open slot 1, and the second be a proposal there; no journal begins with the
-/// proposal, which would be refused. Where the second entry alone gave anything out, one list is kept, that of entry
-/// 1.
+/// proposal, which would be refused. If only the second entry gave anything out, one list is kept, that of entry 1.
 #[derive(Drop)]
 pub struct Journal<S: Shelf> {
     alloc: Global,
@@ -102,8 +101,8 @@ impl<S: Shelf> Journal<S> {
         let _entries = &self.entries;
     }
 
-    /// The slices of a hosted node at an open slot, as they are after all entries; `None` where the slot is
-    /// not open then, and where the node is not hosted. It takes no memory.
+    /// The slices of a hosted node at an open slot, as they are after all entries; `None` if the slot is not open then
+    /// or the node is not hosted. It takes no memory.
     pub(crate) fn slices_now(&self, slot: u64, node: &NodeId) -> Option<&Nested>
         ensures value { option_map (λ q. q.now) result ≡ slices_at (state_of self.now.config self.now.entries) slot node.now }
         ensures there { is_some result ≡ (is_open (state_of self.now.config self.now.entries) slot && is_some (slices_of self.now.config.nodes node.now)) }
@@ -111,19 +110,19 @@ impl<S: Shelf> Journal<S> {
         self.network.slices(slot, node)
     }
 
-    /// Why an event is refused for which somebody else has no room: the first refusal that applies after all
-    /// entries, or else that memory is short. Nothing is changed.
+    /// Why an event is refused if its caller has no room for it: the first refusal that applies after all entries, or
+    /// else that it is out of memory. Nothing is changed.
     pub fn refusal(&self, event: &Event) -> Refusal
         ensures { IsRefused self.now (step_of event.now) result }
     {
         self.network.refusal(event)
     }
 
-    /// One event, entered in the journal where it is not refused; what it gives out is answered whole.
+    /// Applies one event, and enters it in the journal if it is not refused. What it gives out is answered whole.
     ///
-    /// An error is the first refusal that applies. Or it says that memory is short: then no refusal applies, or
-    /// bytes came to a hosted node that may take memory to be read, which are at most 65,536, with a version and
-    /// a kind that there are. The journal is as it was.
+    /// An error is the first refusal that applies, or says that it is out of memory. In the latter case no refusal
+    /// applies, or bytes came to a hosted node that may take memory to be read. Those are at most 65,536, of a version
+    /// and a kind that exist. The journal is as it was.
     pub fn apply(&mut self, event: Event) -> Result<Vec<Out>, Refusal>
         ensures ok { IfOk result (λ v. IsEntered self.old (step_of event) v.items) }
         ensures entered { IfOk result (λ v. self.new ≡ with_entry self.old (step_of event) v.items) }
@@ -134,8 +133,8 @@ impl<S: Shelf> Journal<S> {
         Ok(only_copy(entered.copies))
     }
 
-    /// One event as by [`Journal::apply`], with the entry that it makes and by which numbers its emissions
-    /// are named.
+    /// Applies one event as [`Journal::apply`] does, and answers the entry that it makes and the numbers that name its
+    /// emissions.
     pub fn apply_recorded(&mut self, event: Event) -> Result<Recorded, Refusal>
         ensures ok { IfOk result (λ r. IsEntered self.old (step_of event) r.outs.items) }
         ensures entered { IfOk result (λ r. self.new ≡ with_entry self.old (step_of event) r.outs.items) }
@@ -167,7 +166,7 @@ impl<S: Shelf> Journal<S> {
         }
     }
 
-    /// One event, entered where it is not refused, with a whole copy of what it gives out. An error is as of
+    /// Enters one event, if it is not refused, with a whole copy of what it gives out. An error is as of
     /// [`Journal::apply`].
     fn enter(&mut self, event: Event) -> Result<Entered, Refusal>
         ensures ok { IfOk result (IsEnteredWith self.old (step_of event) 1) }
@@ -204,8 +203,8 @@ impl<S: Shelf> Journal<S> {
         }
     }
 
-    /// The entry of this number, made from the places of its envelopes: the event, a delivery with its bytes,
-    /// and what it gave out; `None` past the last. An error says that memory is short.
+    /// The entry of this number, made from the places of its envelopes: the event, with its bytes if it is a delivery,
+    /// and what it gave out; `None` past the last. An error says that it is out of memory.
     pub fn entry(
         &self,
         alloc: Global,
@@ -235,7 +234,7 @@ impl<S: Shelf> Journal<S> {
     }
 
     /// What the entry of this number decided, read in place: all of it, since an event decides one value at most.
-    /// `None` where it decided none, and past the last. It takes no memory.
+    /// `None` if it decided none, and past the last. It takes no memory.
     pub fn decision(&self, number: usize) -> Option<LentDecision<'_>>
         ensures { option_to_list (option_map decided_by result) ≡ decisions_at self.now.entries number }
     {
@@ -247,7 +246,7 @@ impl<S: Shelf> Journal<S> {
 
     /// Appends what the entry of this number gave out, with whole envelopes; nothing past the last.
     ///
-    /// An error says that memory is short; then what was there stands in front of what was appended by then.
+    /// An error says that it is out of memory. What was there then still stands in front of what was appended.
     pub fn push_outs(
         &self,
         alloc: Global,

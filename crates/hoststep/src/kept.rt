@@ -1,6 +1,6 @@
 //! Entries of a journal as they are kept, in places of its archive.
 //!
-//! Where a function here answers an error, memory is short.
+//! An error of a function here says that it is out of memory.
 
 ghost use Rattle.std.specs.Prelude.{◌≡◌, ◌++◌, IfOk, IfSome, List, OnErr, OnOk, false, length, option_map, slice_get, take};
 ghost use Rattle.codec.specs.Steps.{IsBytes};
@@ -26,9 +26,9 @@ use slot::FiledOut;
 use std::alloc::{AllocError, Global};
 use types::{Bytes, Event, Kind, Out};
 
-/// An applied event, as it is kept: what was delivered lies in the archive of the network, nodes are named by
-/// their places among the hosted ones, and a large event lies in a box: sixteen bytes. Small fields come first, since
-/// fields lie as they are written here.
+/// An applied event, as it is kept, in sixteen bytes. What was delivered lies in the archive of the network, nodes are
+/// named by their places among the hosted ones, and a large event lies in a box. Small fields come first, since fields
+/// lie as they are written here.
 #[derive(Drop)]
 pub(crate) enum KeptEvent {
     /// The slot was opened.
@@ -45,7 +45,8 @@ pub(crate) enum KeptEvent {
         size: u32,
         envelope: Filed,
     },
-    /// A hosted node heard from another one its emission of a kind with this number; neither it nor the slot is wide.
+    /// A hosted node heard an emission of another one, named by its kind and number; neither the number nor the slot is
+    /// wide.
     Hear {
         node: NodePlace,
         from: NodePlace,
@@ -103,8 +104,8 @@ pub(crate) fn entry_at<'a, S: Shelf>(
     }
 }
 
-/// An event as it is kept, a large one in the box that is there for it. For the bytes of a delivery stands the
-/// place where their envelope was filed. It takes no memory.
+/// An event as it is kept, a large one in the box that was made for it. The place of the filed envelope stands for the
+/// bytes of a delivery. It takes no memory.
 pub(crate) fn kept_event(
     config: &NetConfig,
     room: &mut EventRoom,
@@ -126,7 +127,6 @@ pub(crate) fn kept_event(
     kept
 }
 
-/// An event that is not large, as it is kept.
 fn kept_small(config: &NetConfig, event: &Event, delivered: Option<Filed>) -> KeptEvent
     requires small { is_large event.now ≡ false }
     requires hosted { NamesNodes config.now.nodes (step_of event.now) }
@@ -190,7 +190,6 @@ fn kept_delivery(node: NodePlace, bytes: &Bytes, delivered: Option<Filed>) -> Ke
     }
 }
 
-/// How many bytes there are.
 fn count_bytes(bytes: &[u8]) -> u64
     ensures count { result ≡ length bytes.now }
     ensures bytes { IsBytes bytes.now }
@@ -198,7 +197,6 @@ fn count_bytes(bytes: &[u8]) -> u64
     bytes.len() as u64
 }
 
-/// A number that is not wide, in 32 bits.
 fn narrow(number: u64) -> u32
     requires { is_wide number ≡ false }
     ensures { result ≡ number }
@@ -206,7 +204,7 @@ fn narrow(number: u64) -> u32
     number as u32
 }
 
-/// The event as it came, a delivery with its bytes: they are the one spelling of its envelope.
+/// The event as it came. A delivery has its bytes, since they are the one spelling of its envelope.
 pub(crate) fn whole_event<S: Shelf>(
     alloc: Global,
     network: &Network<S>,
@@ -267,8 +265,8 @@ fn whole_bytes<S: Shelf>(
     Ok(Bytes::new(bytes))
 }
 
-/// Appends what was given out, with whole envelopes. With an error what was there stands in front of what was
-/// appended by then.
+/// Appends what was given out, with whole envelopes. After an error, what was there still stands in front of what was
+/// appended.
 pub(crate) fn push_whole_outs<S: Shelf>(
     alloc: Global,
     network: &Network<S>,
@@ -285,7 +283,6 @@ pub(crate) fn push_whole_outs<S: Shelf>(
     Ok(())
 }
 
-/// One of what was given out, with its whole envelope.
 fn whole_out<S: Shelf>(
     alloc: Global,
     network: &Network<S>,

@@ -14,7 +14,7 @@ use network::Network;
 use slot::FiledOut;
 use types::{Event, NodeId, Value};
 
-/// A hosted node externalized a value for a slot. The value stands where the journal has it.
+/// A hosted node externalized a value for a slot. The value stands where the journal keeps it.
 #[derive(Clone, Copy)]
 pub struct LentDecision<'a> {
     pub slot: u64,
@@ -22,7 +22,7 @@ pub struct LentDecision<'a> {
     pub value: &'a Value,
 }
 
-/// What an entry decided with this event that gave these out, read in place. It takes no memory.
+/// What an entry with this event and these outs decided, read in place. It takes no memory.
 pub(crate) fn lent_decision<'a, S: Shelf>(
     network: &'a Network<S>,
     event: &'a KeptEvent,
@@ -35,7 +35,6 @@ pub(crate) fn lent_decision<'a, S: Shelf>(
     decision_at(slot_and_node_of(network, event), first_value(outs))
 }
 
-/// The value, decided at this slot by this node.
 fn decision_at(place: Option<(u64, NodeId)>, value: Option<&Value>) -> Option<LentDecision<'_>>
     ensures { option_to_list (option_map decided_by result) ≡ decided_at place (option_to_list (option_map (λ v. v.now) value.entry)) }
 {
@@ -48,7 +47,6 @@ fn decision_at(place: Option<(u64, NodeId)>, value: Option<&Value>) -> Option<Le
     }
 }
 
-/// The first value that is externalized, of all that was given out.
 fn first_value(outs: &[FiledOut]) -> Option<&Value>
     ensures { option_map (λ v. v.now) result ≡ slice_get (values_in (outs_of outs.now)) 0 }
 {
@@ -59,7 +57,7 @@ fn first_value(outs: &[FiledOut]) -> Option<&Value>
     }
 }
 
-/// The slot and the node of an event, where it is one of a node.
+/// The slot and the node of an event, if it is one of a node.
 fn slot_and_node_of<S: Shelf>(network: &Network<S>, event: &KeptEvent) -> Option<(u64, NodeId)>
     requires { IsKeptEvent network.now.config.nodes network.now.archive event.now }
     ensures { result ≡ slot_and_node_of (step_in event.now) }
@@ -77,7 +75,6 @@ fn slot_and_node_of<S: Shelf>(network: &Network<S>, event: &KeptEvent) -> Option
     }
 }
 
-/// The slot and the node of a large event.
 fn place_of_large(event: &Event) -> Option<(u64, NodeId)>
     requires { is_large event.now ≡ true }
     ensures { result ≡ slot_and_node_of (step_of event.now) }

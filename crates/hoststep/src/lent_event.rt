@@ -14,8 +14,8 @@ use envstore::{Filed, Shelf};
 use network::Network;
 use types::{Bytes, Envelope, Event, Kind, Nested, NodeId};
 
-/// An event that a network applied, without a copy of anything: values, envelopes and slices stand where the
-/// network and its journal have them.
+/// An event that a network applied, without a copy of anything: values, envelopes and slices stand where the network
+/// and its journal keep them.
 #[derive(Clone, Copy)]
 pub enum LentEvent<'a> {
     /// The slot was opened.
@@ -32,14 +32,14 @@ pub enum LentEvent<'a> {
         node: NodeId,
         value: &'a Bytes,
     },
-    /// So many bytes reached a hosted node, the one spelling of the envelope.
+    /// `size` bytes reached a hosted node, the one spelling of the envelope.
     Deliver {
         node: NodeId,
         size: u64,
         envelope: &'a Envelope,
     },
-    /// A hosted node heard from another one its emission of a kind with this number, from 1 on since the slot
-    /// was opened.
+    /// A hosted node heard an emission of another one, named by its kind and its number, from 1 on since the slot was
+    /// opened.
     Hear {
         slot: u64,
         node: NodeId,
@@ -114,7 +114,6 @@ pub(crate) fn lent_event<'a, S: Shelf>(
     }
 }
 
-/// A large event, read in place.
 fn lent_large(event: &Event) -> LentEvent<'_>
     requires { is_large event.now ≡ true }
     ensures { lent_step result ≡ step_of event.now }
@@ -147,7 +146,6 @@ fn lent_large(event: &Event) -> LentEvent<'_>
     }
 }
 
-/// A delivery as it is kept, with its envelope read in place.
 fn lent_delivery<'a, S: Shelf>(
     network: &'a Network<S>,
     node: NodeId,

@@ -16,8 +16,8 @@ use types::{Event, Out, Refusal};
 /// One network: its configuration, its open slots with the hosted nodes there, and how much of its budgets and
 /// shares is used up. Its envelopes lie in an archive of its own on the shelf.
 ///
-/// Contracts see its parts with whole envelopes, and say of which networks of the protocol's definitions it
-/// keeps the state: those with these parts, whose draws come to these counts.
+/// Contracts see its parts with whole envelopes, and say which networks of the protocol's definitions have this state:
+/// those with these parts, whose draws come to these counts.
 #[derive(Drop)]
 pub struct NetMachine<S: Shelf> {
     network: Network<S>,
@@ -53,11 +53,11 @@ impl<S: Shelf> NetMachine<S> {
         self.network.config()
     }
 
-    /// One event. It is the network's step for every network of the definitions that the machine stands for:
-    /// what it gives out is answered whole, and the machine stands for the network after it.
+    /// Applies one event. It is the step of every network of the definitions that the machine stands for: what it gives
+    /// out is answered whole, and the machine stands for the network after it.
     ///
-    /// An error is the first refusal that applies. Or it says that memory is short: then no refusal applies, or
-    /// bytes came to a hosted node that may take memory to be read. The machine is as it was.
+    /// An error is the first refusal that applies, or says that it is out of memory. In the latter case no refusal
+    /// applies, or bytes came to a hosted node that may take memory to be read. The machine is as it was.
     pub fn apply(&mut self, event: Event) -> Result<Vec<Out>, Refusal>
         ensures ok { IfOk result (λ v. IsStep self.old (step_of event) v.items self.new) }
         ensures err { IfErr result (IsRefusal self.old (step_of event)) }

@@ -7,22 +7,22 @@ ghost use Rattle.protocol.specs.Sets.{IsAscending};
 use slot::FiledOut;
 use std::snapshot::Snapshot;
 
-/// What the entry of this number gave out, where that is anything: most give nothing out.
+/// What the entry of this number gave out, if it gave out anything, which most do not.
 #[derive(Drop)]
 pub(crate) struct EntryOuts {
     entry: usize,
     outs: Vec<FiledOut>,
 }
 
-/// What an entry gave out, as contracts know it. It takes no bytes: the list stands among those of the journal, and is
-/// found there by the number of the entry.
+/// What an entry gave out, as contracts know it. It takes no bytes: the list stands among those of the journal, where
+/// it is found by the number of the entry.
 #[derive(Drop)]
 pub(crate) struct KeptOuts {
     outs: Snapshot<Vec<FiledOut>>,
 }
 
 impl KeptOuts {
-    /// What the entry of this number gave out, put behind what entries before it did. It takes no memory.
+    /// Puts what the entry of this number gave out behind that of earlier entries. It takes no memory.
     pub(crate) fn put(lists: &mut Vec<EntryOuts>, entry: usize, outs: Vec<FiledOut>) -> KeptOuts
         requires room { vec_len lists.old < vec_capacity lists.old }
         ensures outs { kept_outs result ≡ outs.items }

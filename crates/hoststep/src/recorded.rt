@@ -2,8 +2,8 @@
 
 use types::{Event, Out};
 
-/// An applied event with its number in the journal, from 0 on; what it gave out; and by which numbers, from 1 on,
-/// a Hear names each of its emissions.
+/// An applied event with its number in the journal, from 0 on; what it gave out; and the numbers, from 1 on, by which a
+/// Hear names its emissions.
 #[derive(Drop)]
 pub struct Recorded {
     pub number: usize,

@@ -1,6 +1,6 @@
-//! How many bytes an entry of a journal takes in place, beside a list of what it gave out: a field that grows by a
-//! buffer is seen here, and not only as memory of long journals. This is a bound of this host's profile and
-//! nothing that contracts speak of.
+//! How many bytes an entry of a journal takes in place, beside a list of what it gave out. So a field that grows by a
+//! buffer is seen here, and not only as memory of long journals. These bounds are this host's profile; no contract
+//! speaks of them.
 
 use crate::kept::{KeptEvent, StoredEntry};
 use std::mem::size_of;

@@ -8,7 +8,8 @@ use scripts::Stop;
 /// Why a live host does not start from a journal.
 #[derive(Clone, Copy, Debug, PartialEq, Eq)]
 pub enum JournalFault {
-    /// The file cannot be opened, made, locked or read, or it is no regular file.
+    /// The file cannot be opened, made, locked or read, it is no regular file, or it has more than 2^64 - 1 lines or
+    /// bytes.
     CannotRead,
     /// Another process has the file.
     InUse,
@@ -18,7 +19,7 @@ pub enum JournalFault {
     CannotWrite,
     /// What lines were answered cannot be written.
     CannotTell,
-    /// There was no memory.
+    /// It was out of memory.
     NoMemory,
 }
 

@@ -1,8 +1,9 @@
 //! The journal of a live host: a file that has each line before anything is told of it.
 //!
-//! [`open_journal`] locks the file and brings it to the disk. [`resume`] runs its lines up to its end, cuts it there and says
-//! how many there are. From then on [`append_line`] writes each line behind them. What a stop leaves of such a file is
-//! said where lines are served, in `feed`. That a file of the system is as it is supposed there, no contract can say.
+//! [`open_journal`] locks the file and brings it to the disk. [`resume`] runs its lines up to its end, cuts it there
+//! and says how many there are. From then on [`append_line`] writes each line behind them. What a stop leaves of such a
+//! file is said where lines are served, in `feed`. That a file of the system is as it is supposed there, no contract
+//! can say.
 #![tactic(auto)]
 
 mod appending;

@@ -6,11 +6,11 @@ use crate::fault::JournalFault;
 use std::fs::{File, Files, OpenOptions, TryLockError};
 use std::path::Path;
 
-/// Opens the file of this name, or makes it, for reading and for writing behind its end; locks it, and brings it and its
-/// name to the disk, since whoever made it may have been stopped before that.
+/// Opens the file of this name, or makes it, for reading and for writing behind its end, and locks it. Then it brings
+/// the file and its name to the disk, since whoever made the file may have been stopped before that.
 ///
-/// It is refused where it cannot be opened, made or locked or is no regular file ([`JournalFault::CannotRead`]), where
-/// another process has it ([`JournalFault::InUse`]), and where it or its name cannot be brought to the disk
+/// It is refused if it cannot be opened, made or locked, or is no regular file ([`JournalFault::CannotRead`]). It is
+/// also refused if another process has it ([`JournalFault::InUse`]), or if it or its name cannot be brought to the disk
 /// ([`JournalFault::CannotWrite`]).
 pub fn open_journal<R: Files<File = File>>(rt: &R, name: &str) -> Result<File, JournalFault>
     ensures { IfErr result (λ why. (n : _) → why ≢ JournalFault.BadLine n) }
@@ -32,8 +32,8 @@ pub fn open_journal<R: Files<File = File>>(rt: &R, name: &str) -> Result<File, J
     }
 }
 
-/// Opens or makes the file of this name. Where a standard stream is closed the system gives its number to the file, which
-/// would then get what is meant for the stream: the number of a copy is another.
+/// Opens or makes the file of this name. If a standard stream is closed the system gives its number to the file, which
+/// would then get what is meant for the stream. A copy has another number.
 fn open_file<R: Files<File = File>>(rt: &R, name: &str) -> Result<File, JournalFault>
     ensures { IfErr result (λ why. (n : _) → why ≢ JournalFault.BadLine n) }
 {

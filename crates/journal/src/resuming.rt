@@ -11,12 +11,12 @@ use std::io::{BufReader, Seek, SeekFrom, Write, sink};
 use std::sync::Wait;
 use std::thread::Threads;
 
-/// Has the lines of a journal answered, up to its end, cuts the file there, brings it to the disk, and writes
-/// `resumed L`, L being how many lines the file has, which is answered too. What the lines from a number on are answered
-/// is written before that; of the others, and without a number, nothing is.
+/// Has the lines of a journal answered, up to its end, cuts the file there and brings it to the disk. Then it writes
+/// `resumed L`, where L is how many lines the file has, and answers L. What lines from the number `from` on are
+/// answered is written before that; of the others, and without a number, nothing is.
 ///
-/// After an error the file has the lines that it had; behind their end it may have been cut ([`JournalFault::CannotWrite`],
-/// [`JournalFault::CannotTell`]).
+/// After an error the file has the lines that it had; behind their end it may have been cut
+/// ([`JournalFault::CannotWrite`], [`JournalFault::CannotTell`]).
 pub fn resume<X: Threads + Wait + AllocGlobal + Sync, S: BatchServer, W: Write>(
     rt: &X,
     file: &File,
@@ -33,8 +33,8 @@ pub fn resume<X: Threads + Wait + AllocGlobal + Sync, S: BatchServer, W: Write>(
     write_resumed(end.lines, out)
 }
 
-/// The first line of a journal that concerns a slot which is still open at its end, as a server with no networks answers the
-/// lines; `None` where no slot is open. The file is as it was.
+/// The number of the first line of a journal that concerns a slot which is still open at its end; `None` if no slot is
+/// open. The lines are answered by `server`, which has no networks yet. The file is as it was.
 pub fn first_open_line<X: Threads + Wait + AllocGlobal + Sync, S: LineServer + Drop>(
     rt: &X,
     file: &File,
@@ -74,7 +74,7 @@ fn replay_file<X: Threads + Wait + AllocGlobal + Sync, S: BatchServer, W: Write>
     Ok(replayed?)
 }
 
-/// Writes how many lines a journal has, and hands it on.
+/// Writes how many lines a journal has, and flushes it.
 fn write_resumed<W: Write>(lines: u64, out: &mut W) -> Result<u64, JournalFault>
     ensures written { IfOk result (λ n. (n ≡ lines) × Appends (W.contents out.old) (W.contents out.new) (resumed_line lines)) }
     ensures failed { IfErr result (λ why. why ≡ JournalFault.CannotTell) }

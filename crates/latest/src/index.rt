@@ -48,7 +48,7 @@ impl Index {
         self.places(sender).place(kind)
     }
 
-    /// The places of a sender's rows; none, where it has no row.
+    /// The places of a sender's rows; none, if it has no row.
     pub fn places(&self, sender: &NodeId) -> RowPlaces
         ensures { of_sender sender.now result ≡ places_in_index self.now sender.now }
     {
@@ -58,7 +58,7 @@ impl Index {
         }
     }
 
-    /// Notes the place of a new row. Where memory is wanting the index stays as it was.
+    /// Notes the place of a new row. If it is out of memory, the index stays as it was.
     pub fn note(&mut self, sender: NodeId, kind: Kind, place: usize) -> Result<(), AllocError>
         requires ascends { ascends self.old ≡ true }
         requires small { place < 2 ^ 64 - 1 }
@@ -70,7 +70,7 @@ impl Index {
         Ok(())
     }
 
-    /// Forgets the place of a row, and its sender where it has no other. It takes no memory.
+    /// Forgets the place of a row, and its sender if it has no other. It takes no memory.
     pub fn forget(&mut self, sender: &NodeId, kind: Kind)
         requires { ascends self.old ≡ true }
         ensures { self.new ≡ index_without_place self.old sender.now kind }
@@ -97,7 +97,7 @@ impl Index {
         self.by_sender.len()
     }
 
-    /// A copy. An error says that memory is short.
+    /// A copy. An error says that it is out of memory.
     pub fn try_copy(&self) -> Result<Index, AllocError>
         ensures { IfOk result (λ index. index ≡ self.now) }
     {

@@ -8,10 +8,10 @@ use types::{Ballot, Statement, Values};
 
 /// Whether the first statement is newer than the second, so that it replaces it as its sender's row.
 ///
-/// A NOMINATE is newer when both its sets contain the old ones and one is larger. A ballot statement
-/// is newer by phase (PREPARE, COMMIT, EXTERNALIZE), then by its fields in message order, where no
-/// prepared ballot is below any. Nothing is newer than an EXTERNALIZE, no statement is newer than
-/// itself, and none is newer than one of the other kind. It takes no memory.
+/// A NOMINATE is newer if both its sets contain the old ones and one is larger. A ballot statement is newer by phase
+/// (PREPARE, COMMIT, EXTERNALIZE), then by its fields in message order, in which no prepared ballot counts as below
+/// any. Nothing is newer than an EXTERNALIZE, no statement is newer than itself, and none is newer than one of the
+/// other kind. It takes no memory.
 pub fn is_newer(new: &Statement, old: &Statement) -> bool
     ensures { result ≡ is_newer new.now old.now }
 {

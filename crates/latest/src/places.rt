@@ -7,7 +7,7 @@ use std::marker::Model;
 use std::mem::size_of;
 use types::Kind;
 
-/// The place of a row in the list of all rows, or none: eight bytes, where an `Option` of a place has sixteen.
+/// The place of a row in the list of all rows, or none: eight bytes, while an `Option` of a place has sixteen.
 ///
 /// Contracts see it as that `Option`: 0 is none, and 3 is the place 2.
 #[derive(Clone, Copy, Debug, PartialEq, Eq)]
@@ -62,7 +62,7 @@ impl RowPlace {
     }
 }
 
-/// The places of one sender's rows in the list of all rows, where it has any.
+/// The places of one sender's rows in the list of all rows, if it has any.
 #[derive(Clone, Copy)]
 pub struct RowPlaces {
     pub nomination: RowPlace,
@@ -91,7 +91,7 @@ impl RowPlaces {
         }
     }
 
-    /// The same with this place for the row of a kind.
+    /// These places, with this one for the row of a kind.
     pub(crate) fn with_place(self, kind: Kind, place: usize) -> RowPlaces
         requires { place < 2 ^ 64 - 1 }
         ensures { (u : ℕ) → of_sender u result ≡ with_place (of_sender u self) kind place }
@@ -108,7 +108,7 @@ impl RowPlaces {
         }
     }
 
-    /// The same with no place for the row of a kind.
+    /// These places, with none for the row of a kind.
     pub(crate) fn without_place(self, kind: Kind) -> RowPlaces
         ensures { (u : ℕ) → of_sender u result ≡ without_place (of_sender u self) kind }
     {

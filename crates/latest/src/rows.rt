@@ -20,7 +20,7 @@ use types::{Envelope, Kind, NodeId};
 ///
 /// Contracts see it as the envelopes of these rows, in the order of the table.
 ///
-/// Each row lies in this archive: a table with the rows 0 and 2 stands with one of three envelopes or more.
+/// Each row lies in this archive: if the rows are those of the numbers 0 and 2, the archive has three numbers or more.
 #[derive(Drop)]
 pub struct Rows<'a, S: envstore::Places> {
     table: &'a Table,
@@ -43,7 +43,7 @@ impl<'a, S: envstore::Places> Model for Rows<'a, S> {
     ghost invariant = { λ a. AreFiled a.archive.now a.table.now };
 }
 
-/// The rows of one sender, where it has any.
+/// The rows of one sender, if it has any.
 #[derive(Drop)]
 pub struct SenderRows<'a> {
     pub nomination: Option<&'a Envelope>,
@@ -66,8 +66,8 @@ impl<'a, S: envstore::Places> Rows<'a, S> {
         self.table.row(self.archive, sender, kind)
     }
 
-    /// The place of the sender's row of a kind among all rows. A newer row stands in its place, and a first
-    /// one behind all others, so a place stays as long as the table only takes envelopes. It takes no memory.
+    /// The place of the sender's row of a kind among all rows. A newer row stands in the place of the older one, and a
+    /// first one behind all others. So a place stays as long as the table only takes envelopes. It takes no memory.
     pub fn place(&self, sender: &NodeId, kind: Kind) -> RowPlace
         ensures { result ≡ place_of_row self.now sender.now kind }
     {
@@ -115,7 +115,7 @@ impl<'a, S: envstore::Places> Rows<'a, S> {
         }
     }
 
-    /// The row at this place, if there are so many. It takes no memory.
+    /// The row at this place, `None` behind the last one. It takes no memory.
     pub fn at(&self, place: usize) -> Option<&'a Envelope>
         ensures { option_map (λ r. r.now) result ≡ slice_get self.now place }
     {

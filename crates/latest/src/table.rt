@@ -61,12 +61,12 @@ impl Put {
 ///
 /// A row is the number of an envelope in an archive, which the caller lends to each call that reads a row.
 ///
-/// Contracts see it as the list of its rows, in the order in which their senders first had one of
-/// that kind; a newer envelope stands in the place of the older one. A look-up, a row
-/// more and one less each take a number of steps that is logarithmic in the number of senders.
+/// Contracts see it as the list of its rows, in the order in which their senders first had one of that kind; a newer
+/// envelope stands in the place of the older one. A look-up, a row more and one less each take a number of steps that
+/// is logarithmic in the number of senders.
 ///
-/// The index follows the rows: where they are a ballot row of B, then rows of both kinds of A, it has A with
-/// the places 1 and 2, and B with 0; and no sender has two rows of one kind.
+/// The index follows the rows: if they are a ballot row of B, then rows of both kinds of A, it has A with the places 1
+/// and 2, and B with 0; and no sender has two rows of one kind.
 #[derive(Drop)]
 pub struct Table {
     rows: Vec<Filed>,
@@ -103,9 +103,9 @@ impl Table {
 
     /// Takes an envelope that is newer than its sender's row of its kind, or the first of them.
     ///
-    /// It is stale exactly where it is not newer. Memory is asked for only where its sender has no row
-    /// of its kind. Where the answer is not [`Offer::Replaced`], the table is as it was. Offers of a
-    /// whole list, one after another, make the table of that list.
+    /// It is stale exactly if it is neither. Memory is asked for only if its sender has no row of its kind. If the
+    /// answer is not [`Offer::Replaced`], the table is as it was. Offers of a whole list, one after another, make the
+    /// table of that list.
     pub fn offer<S: envstore::Places>(&mut self, archive: &Archive<S>, envelope: Filed) -> Offer
         requires rows { AreFiled archive.now self.old }
         requires envelope { IsFiled archive.now envelope }
@@ -122,8 +122,7 @@ impl Table {
     /// Takes an envelope as [`Table::offer`] does, and answers what leads back: for a step that may
     /// still fail after it.
     ///
-    /// It is stale exactly where it is not newer. Memory is asked for only where its sender has no row
-    /// of its kind.
+    /// Memory is asked for only if its sender has no row of its kind.
     pub fn put<S: envstore::Places>(&mut self, archive: &Archive<S>, envelope: Filed) -> Put
         requires rows { AreFiled archive.now self.old }
         requires envelope { IsFiled archive.now envelope }
@@ -145,8 +144,8 @@ impl Table {
         }
     }
 
-    /// Undoes what [`Table::put`] made of an envelope. It takes no memory, and cannot fail. Where the
-    /// table is as that call left it, it is then as it was before that call.
+    /// Undoes what [`Table::put`] made of an envelope. It takes no memory, and cannot fail. If the table is as that
+    /// call left it, it is then as it was before that call.
     pub fn undo<S: envstore::Places>(&mut self, archive: &Archive<S>, put: Put)
         requires rows { AreFiled archive.now self.old }
         requires known { IsFiledPut archive.now put }
@@ -175,7 +174,7 @@ impl Table {
         }
     }
 
-    /// The row at this place among all rows, if there are so many. It takes no memory.
+    /// The row at this place among all rows, `None` behind the last one. It takes no memory.
     pub(crate) fn row_at<'a, S: envstore::Places>(
         &self,
         archive: &'a Archive<S>,
@@ -228,7 +227,7 @@ impl Table {
         self.rows.is_empty()
     }
 
-    /// A copy, whose rows are numbers of the same archive. An error says that memory is short.
+    /// A copy, whose rows are numbers of the same archive. An error says that it is out of memory.
     pub fn try_copy<S: envstore::Places>(
         &self,
         alloc: Global,
@@ -283,7 +282,7 @@ impl Table {
         mem::replace(&mut self.rows[place], envelope)
     }
 
-    /// Puts a row back in the place of its sender's row of its kind, where there is one.
+    /// Puts a row back in the place of its sender's row of its kind, if there is one.
     fn restore<S: envstore::Places>(&mut self, archive: &Archive<S>, row: Filed)
         requires { IsFiled archive.now row }
         ensures { self.new ≡ with_known_row row self.old }
@@ -294,7 +293,7 @@ impl Table {
         }
     }
 
-    /// Removes the last row, where there is one.
+    /// Removes the last row, if there is one.
     fn remove_last<S: envstore::Places>(&mut self, archive: &Archive<S>)
         requires { AreFiled archive.now self.old }
         ensures { self.new ≡ without_last self.old }
@@ -305,8 +304,7 @@ impl Table {
         }
     }
 
-    /// Adds an envelope whose sender has no row of its kind. Where memory is wanting the table stays
-    /// as it was.
+    /// Adds an envelope whose sender has no row of its kind. If it is out of memory, the table stays as it was.
     fn add(&mut self, sender: NodeId, kind: Kind, envelope: Filed) -> Result<(), AllocError>
         requires none { place_of_row (sents_of self.old) (sent_of envelope).sender (kind_of (sent_of envelope).body) ≡ None }
         requires sender { sender ≡ (sent_of envelope).sender }
@@ -322,7 +320,7 @@ impl Table {
     }
 }
 
-/// Adds an envelope where there is room for it.
+/// Adds an envelope, for which there is room.
 fn push_reserved(rows: &mut Vec<Filed>, envelope: Filed)
     requires { vec_len rows.old < vec_capacity rows.old }
     ensures { rows.new.items ≡ rows.old.items ++ envelope ∷ [] }
@@ -330,7 +328,6 @@ fn push_reserved(rows: &mut Vec<Filed>, envelope: Filed)
     let _ = rows.push(envelope);
 }
 
-/// A copy of rows.
 fn copy_of_rows<S: envstore::Places>(
     alloc: Global,
     archive: &Archive<S>,

@@ -35,8 +35,8 @@ impl Candidate {
         self.priority > other.priority || self.priority == other.priority && self.node > other.node
     }
 
-    /// The better of this candidate and a node of this weight, where that is a neighbour. Whether it is one is asked
-    /// only of a node that would be better: few are, so most nodes are hashed once, and the candidate itself is not.
+    /// The better of this candidate and a node of this weight, if that is a neighbour. Whether it is one is asked only
+    /// of a node that would be better: few are, so most nodes are hashed once, and the candidate itself is not.
     pub(crate) fn or_node(self, draw: Draw, node: &NodeId, weight: Weight) -> Candidate
         requires { self.priority ≡ hash draw.slot 2 draw.round self.node }
         ensures node { result.node ≡ better (is_drawn draw.slot draw.round) (beats draw.slot draw.round) node.now weight self.node }

@@ -14,16 +14,15 @@ use crate::draw::Draw;
 use slices::Weight;
 use types::{Member, Nested, NodeId, SliceSet};
 
-/// The node that leads a round of nomination, as this node with these slices sees it: of its
-/// neighbours in the round the one with the greatest priority, and of several the one with the
-/// greatest name: itself or a name of its slices. It takes no memory, and makes at most two hashes for
-/// each name of the slices and one more; a name that is not better than the best before it costs one.
+/// The node that leads a round of nomination, as this node with these slices sees it: of its neighbours in the round
+/// the one with the greatest priority, and of several such the one with the greatest name. It is the node itself or a
+/// name of its slices. It takes no memory, and makes at most two hashes for each name of the slices and one more; a
+/// name that is not better than the best before it costs one.
 ///
-/// A node is a neighbour where the first hash, 64 bits, lies below the share of all hashes that its
-/// weight is; the node itself weighs all and so is always a neighbour. The second hash is the
-/// priority (the Stellar Consensus Protocol draft, of neighbors and leaders; the hashes are this
-/// host's profile: the first eight bytes of the SHA-256 digest of slot, a tag of 1 or 2, round and
-/// name, 45 bytes with all numbers big-endian).
+/// A node is a neighbour if the first hash, 64 bits, lies below the share of all hashes that its weight is; the node
+/// itself weighs all and so is always a neighbour. The second hash is the priority (the Stellar Consensus Protocol
+/// draft, of neighbors and leaders). The hashes are this host's profile: the first eight bytes of the SHA-256 digest of
+/// slot, a tag of 1 or 2, round and name, 45 bytes with all numbers big-endian.
 pub fn leader(slot: u64, round: u32, node: &NodeId, slices: &Nested) -> NodeId
     ensures best { IsLeader slot round node.now slices.now result }
     ensures known { IsTrue (also node.now (among (names slices.now)) result) }
@@ -34,7 +33,7 @@ pub fn leader(slot: u64, round: u32, node: &NodeId, slices: &Nested) -> NodeId
     best_in(draw, slices.set(), Weight::one(), own).node
 }
 
-/// The best of a candidate and of the neighbours among the names of a set that weighs so much.
+/// The best of a candidate and of the neighbours among the names of a set whose weight is `outer`.
 fn best_in(draw: Draw, set: &SliceSet, outer: Weight, own: Candidate) -> Candidate
     requires threshold { HasThreshold set.now.threshold set.now.members }
     requires inner_sets { HaveThresholds set.now.members }

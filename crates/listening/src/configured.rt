@@ -6,7 +6,7 @@ use std::alloc::AllocError;
 use types::{Nested, NodeId};
 use view::Own;
 
-/// Who a node is, at which slot, and the slices that are configured at this moment.
+/// Who a node is, at which slot, and the slices that are configured at the moment.
 #[derive(Drop)]
 pub struct Configured {
     pub name: NodeId,

@@ -1,6 +1,6 @@
-//! What a listener knows of the nodes that it reaches: it is kept from one event to the next, and a row that
-//! comes leaves its region, changes one entry of it, widens or moves it, or makes it unknown. If it stays known, the
-//! ballots and the nominated values that are listed follow the row.
+//! What a listener knows of the nodes that it reaches, kept from one event to the next. A row that comes leaves its
+//! region, changes one entry of it, widens or moves it, or makes it unknown. If it stays known, the ballots and
+//! nominated values that are listed follow the row.
 
 ghost use Rattle.std.specs.Prelude.{◌≡◌, IfOk, IfSome, IsTrue, List, None, Some, is_some, box_value, option_map};
 ghost use Rattle.envstore.specs.Archives.{AreFiled, IsFiled, sent_of, sents_of};
@@ -28,7 +28,7 @@ pub(crate) enum Effect {
     Nothing,
     /// This entry is set.
     Sets(RegionEntry),
-    /// Whom the node reaches is of this extent.
+    /// The node reaches others, to this extent.
     Reach(Extent),
     /// It is not known any more.
     Forgets,
@@ -41,7 +41,7 @@ pub(crate) struct FiledRow<'a, S: Places> {
     pub envelope: Filed,
 }
 
-/// What is known, or else is found now; it is not known afterwards. An error says that memory is short.
+/// Takes what is known, or finds it now; nothing is known afterwards. An error says that it is out of memory.
 pub(crate) fn take_known<S: Places>(
     alloc: Global,
     known: &mut Option<Box<KnownReach>>,
@@ -64,8 +64,8 @@ pub(crate) fn take_known<S: Places>(
     }
 }
 
-/// What is known on the heap, so that a listener has no place for it before it is found. An error says that memory is
-/// short.
+/// Puts what is known on the heap, so that a listener has no place for it before it is found. An error says that it is
+/// out of memory.
 fn on_heap(alloc: Global, known: KnownReach) -> Result<Box<KnownReach>, AllocError>
     ensures { IfOk result (λ b. box_value b ≡ known) }
 {
@@ -76,7 +76,6 @@ fn on_heap(alloc: Global, known: KnownReach) -> Result<Box<KnownReach>, AllocErr
     }
 }
 
-/// A copy of what is known. An error says that memory is short.
 pub(crate) fn copy_of_known(
     alloc: Global,
     known: &Option<Box<KnownReach>>,
@@ -92,8 +91,8 @@ pub(crate) fn copy_of_known(
     }
 }
 
-/// Puts the row into the table, and says whether the node surely reaches whom it reached before. What is known is
-/// afterwards as the row wants it; where memory is short for that, nothing is known, and the put goes on.
+/// Puts the row into the table, and says whether the node surely reaches whom it reached before. What is known follows
+/// the row; if it is out of memory for that, nothing is known, and the put goes on.
 pub(crate) fn put_row<S: Places>(
     alloc: Global,
     configured: &Configured,
@@ -111,7 +110,7 @@ pub(crate) fn put_row<S: Places>(
     ensures filed { AreFiled row.entry.archive.now table.new }
     ensures replaced { IsFiledPut row.entry.archive.now result.0 }
 {
-    // What memory an entry wants, it wants before the table changes.
+    // Memory for an entry is asked for before the table changes.
     let effect = effect_of(alloc, configured, known, table, &row);
     let FiledRow { archive, envelope } = row;
     let copy = archive.copy_of(&envelope);
@@ -138,7 +137,7 @@ pub(crate) fn put_row<S: Places>(
     }
 }
 
-/// What the row does to the region that is known where the table takes it.
+/// What the row does to the region that is known if the table takes it.
 fn effect_of<S: Places>(
     alloc: Global,
     configured: &Configured,
@@ -161,7 +160,6 @@ fn effect_of<S: Places>(
     }
 }
 
-/// What the envelope does to a region that is known where the table takes it.
 fn effect_on<S: Places>(
     alloc: Global,
     configured: &Configured,
@@ -182,7 +180,8 @@ fn effect_on<S: Places>(
     }
 }
 
-/// Does it where the nodes that are reached stay. The ballots and values that are listed stay as they are.
+/// Has the region follow a row by which the reach stays; after any other one nothing is known. The ballots and values
+/// that are listed stay as they are.
 fn apply(known: &mut Option<Box<KnownReach>>, effect: Effect)
     ensures known { (c : Configured) (table : List Sent) (e : Sent) → IsEffect c table e (region_of (reach_in known.old)) effect → KnowsRegion c table (region_of (reach_in known.old)) → KnowsRegion c (with_row e table) (region_of (reach_in known.new)) }
     ensures reach { IsTrue (is_some known.new) → (c : Configured) (table : List Sent) (e : Sent) → IsEffect c table e (region_of (reach_in known.old)) effect → KnowsRegion c table (region_of (reach_in known.old)) → ReachesSame c.name c.slices table (with_row e table) }
@@ -199,7 +198,7 @@ fn apply(known: &mut Option<Box<KnownReach>>, effect: Effect)
     }
 }
 
-/// A row that a table has now, and what the put answered.
+/// A row that a table has taken, and what the put answered.
 #[derive(Drop)]
 struct HeardRow<'a, S: Places> {
     archive: &'a Archive<S>,
@@ -207,8 +206,8 @@ struct HeardRow<'a, S: Places> {
     put: &'a Put,
 }
 
-/// Has the region follow a row that the table has now, and by which the node reaches others, if it was asked for since it
-/// followed another one. Else, and where memory is short, nothing is known.
+/// Has the region follow a row by which the node reaches others, if it was asked for since the last such row. If it was
+/// not, or is out of memory, nothing is known.
 fn change<S: Places>(
     alloc: Global,
     known: &mut Option<Box<KnownReach>>,
@@ -237,7 +236,7 @@ fn change<S: Places>(
     }
 }
 
-/// Has the ballots and values that are listed follow a row that the table has now, where the region does already.
+/// Has the ballots and values that are listed follow a row that the region follows already.
 fn hear<S: Places>(
     alloc: Global,
     known: &mut Option<Box<KnownReach>>,
@@ -273,7 +272,7 @@ fn row_before<'a, S: Places>(archive: &'a Archive<S>, put: &Put) -> Option<&'a E
     }
 }
 
-/// Whether the table has the envelope now.
+/// Whether the table has taken the envelope.
 fn is_put(put: &Put) -> bool
     ensures { result ≡ is_put put.now }
 {

@@ -1,8 +1,8 @@
-//! What a node listens with: who it is, the rows that it took, and the nodes that it reaches by them, which are
-//! kept from one event to the next.
+//! What a node listens with: who it is, the rows that it took, and the nodes that it reaches by them. These are kept
+//! from one event to the next.
 //!
-//! A [`Listener`] runs no rule. Who asks what follows from its rows takes its region, hands it to a
-//! `view::View` of them, and gives it back.
+//! A [`Listener`] runs no rule. Who asks what follows from its rows takes what it knows of its reach, makes a
+//! `view::View` of the rows with it, and gives it back.
 #![tactic(auto)]
 
 mod configured;

@@ -20,18 +20,20 @@ use view::KnownReach;
 
 /// Who a node is, and the rows that it has.
 ///
-/// The nodes that it reaches and their slices, compiled, are kept from one event to the next. A reached node's row that
-/// surely leaves the reach, and has slices that are new there, changes one entry; after one by which the node reaches
-/// others they are what the table gives then, if they were asked for since the last such row, and else they are forgotten, as
-/// where the node's own slices change. With them the ballots are kept that rows of reached nodes speak of, in order, and the
-/// values that their nominations do, once the owner has listed them: such a row adds its own, and takes away the ballots
-/// that the row before it alone spoke of.
+/// What is known of the reach is kept from one event to the next: the nodes that it reaches and their slices, compiled.
+/// If a reached node's row surely leaves the reach as it is, but its slices are new, one entry changes. After a row by
+/// which the node reaches others, it follows if it was asked for since the last such row; else it is forgotten, as when
+/// the node's own slices change.
+///
+/// With it the ballots are kept that rows of reached nodes speak of, in order, and the values of their nominations,
+/// once the owner has listed them. Such a row adds its own, and takes away the ballots that only the row before it
+/// spoke of.
 ///
 /// The rows lie in one archive, which is lent to each call that reads one. Contracts see who the node is and its
 /// rows, and nothing of what is known.
 ///
-/// What is known is what the configuration and the table give: for example, where A's slices name B alone, and B's
-/// row names C, it is of A, B and C, or nothing is known.
+/// What is known is what the configuration and the table give. For example, if A's slices name only B, and B's row
+/// names C, it is of A, B and C, or nothing is known.
 #[derive(Drop)]
 pub struct Listener {
     configured: Configured,
@@ -55,7 +57,7 @@ impl Model for Listener {
 }
 
 impl Listener {
-    /// A listener that has taken nothing. It takes no memory.
+    /// A listener that has taken no row. It takes no memory.
     pub fn new(alloc: Global, configured: Configured) -> Listener
         ensures { result ≡ record { configured = configured; table = [] } }
     {
@@ -66,7 +68,7 @@ impl Listener {
         }
     }
 
-    /// A copy, which knows what this one knows. An error says that memory is short.
+    /// A copy, which knows what this one knows. An error says that it is out of memory.
     pub fn try_copy<S: Places>(
         &self,
         alloc: Global,
@@ -96,7 +98,7 @@ impl Listener {
         &self.table
     }
 
-    /// Whether the nodes that are reached are known, and the sender is not among them.
+    /// Whether the sender is surely not reached: the reached nodes are known, and it is not among them.
     pub fn is_stranger(&self, sender: &NodeId) -> bool
         ensures { IsTrue result → IsStranger self.now sender.now }
     {
@@ -106,7 +108,8 @@ impl Listener {
         }
     }
 
-    /// Offers the envelope to the table. An error says that memory is short, and nothing changed.
+    /// Offers the envelope to the table, which takes it unless it is stale. An error says that it is out of memory, and
+    /// nothing changed.
     pub fn offer<S: Places>(
         &mut self,
         alloc: Global,
@@ -155,7 +158,7 @@ impl Listener {
         )
     }
 
-    /// Undoes a put, as [`Table::undo`] does.
+    /// Undoes a put, as [`Table::undo`] does. The reach is not known afterwards.
     pub fn undo<S: Places>(&mut self, archive: &Archive<S>, put: Put)
         requires rows { AreFiled archive.now self.old.table }
         requires known { IsFiledPut archive.now put }
@@ -165,8 +168,7 @@ impl Listener {
         self.known = None;
     }
 
-    /// These are the configured slices from now on; those that were are handed back. The nodes that are
-    /// reached are not known afterwards.
+    /// Configures these slices from now on, and hands back those before. The reach is not known afterwards.
     pub fn exchange_slices(&mut self, slices: Nested) -> Nested
         ensures now { self.new ≡ record self.old { configured = record self.old.configured { slices = slices } } }
         ensures before { result ≡ self.old.configured.slices }
@@ -175,8 +177,8 @@ impl Listener {
         mem::replace(&mut self.configured.slices, slices)
     }
 
-    /// What is known of the node's reach, or else is found now. It is not known afterwards, until
-    /// [`Listener::keep_reach`] gives it back. An error says that memory is short.
+    /// What is known of the node's reach, or found now. It is not known afterwards, until [`Listener::keep_reach`]
+    /// gives it back. An error says that it is out of memory.
     pub fn take_reach<S: Places>(
         &mut self,
         alloc: Global,

@@ -14,15 +14,14 @@ use network::{Emission, Network};
 use std::alloc::{AllocError, Global};
 use types::{Event, NodeId, Out, Refusal};
 
-/// Whose step it was, and what it gave out, or why it was refused.
+/// A step that is told: of which node, and what it gave out or why it was refused.
 #[derive(Drop)]
 pub struct Told {
     pub node: NodeId,
     pub answer: Result<Vec<Out>, Refusal>,
 }
 
-/// The emissions of one line, in their order, those that wait behind those that were heard; and what is told of the
-/// line.
+/// The emissions of one line, heard ones first and then those that wait; and what is told of the line.
 #[derive(Drop)]
 pub(crate) struct Following {
     pub emissions: Vec<Emission>,
@@ -40,8 +39,8 @@ impl Following {
         }
     }
 
-    /// A step of a node was answered: its emissions wait behind the others, and it is told if it gave anything out or
-    /// was refused. An error says that memory is short; then a part may have been noted.
+    /// Notes the answer to a node's step: its emissions wait behind the others, and it is told if it gave anything out
+    /// or was refused. An error says that it is out of memory; then a part may have been noted.
     pub fn note(&mut self, node: NodeId, answer: Result<Given, Refusal>) -> Result<(), AllocError>
         ensures emissions { OnOk result (self.new.emissions.items ≡ self.old.emissions.items ++ emissions_of answer) }
         ensures told { OnOk result (tellings_of self.new.told.items ≡ tellings_of self.old.told.items ++ told_of node (outcome_of answer)) }
@@ -64,7 +63,6 @@ impl Following {
         }
     }
 
-    /// One step more is told.
     fn tell(&mut self, node: NodeId, answer: Result<Vec<Out>, Refusal>) -> Result<(), AllocError>
         ensures emissions { self.new.emissions ≡ self.old.emissions }
         ensures told { OnOk result (self.new.told.items ≡ self.old.told.items ++ (record { node = node; answer = answer }) ∷ []) }
@@ -77,8 +75,8 @@ impl Following {
     }
 }
 
-/// The emissions among what was given out wait behind the others, each by its number. Where memory is short, a part
-/// may have been added.
+/// Has the emissions among these outs wait behind the others, each by its number. If it is out of memory, a part may
+/// have been added.
 fn push_named(outs: &[Out], marks: &[u64], waiting: &mut Vec<Emission>) -> Result<(), AllocError>
     ensures { OnOk result (waiting.new.items ≡ waiting.old.items ++ named (emissions outs.now) marks.now) }
 {
@@ -103,8 +101,8 @@ fn push_named(outs: &[Out], marks: &[u64], waiting: &mut Vec<Emission>) -> Resul
     }
 }
 
-/// All other nodes of a network hear the emissions of a line, and those that hearings give out behind them, until none
-/// waits. A hearing that is refused is told, and not tried again. An error says that memory is short for what is
+/// Has all other nodes of a network hear the emissions of a line, and then those that hearings give out, until none
+/// waits. A hearing that is refused is told, and not tried again. An error says that it is out of memory for what is
 /// told; then some were heard.
 pub(crate) fn hear_all<S: Shelf>(
     alloc: Global,
@@ -126,7 +124,7 @@ pub(crate) fn hear_all<S: Shelf>(
     Ok(())
 }
 
-/// Each other node hears an emission, ascending.
+/// Has each other node hear an emission, ascending.
 fn let_others_hear<S: Shelf>(
     alloc: Global,
     network: &mut Network<S>,
@@ -145,7 +143,7 @@ fn let_others_hear<S: Shelf>(
     Ok(())
 }
 
-/// A node hears an emission, unless it is its own.
+/// Has a node hear an emission, unless it is its own.
 fn hear<S: Shelf>(
     alloc: Global,
     network: &mut Network<S>,
@@ -166,7 +164,6 @@ fn hear<S: Shelf>(
     following.note(node, answer)
 }
 
-/// The event by which a node hears an emission.
 fn hearing(slot: u64, node: NodeId, emission: &Emission) -> Event
     ensures { result ≡ Hear slot node emission.now.from emission.now.kind emission.now.number }
 {

@@ -1,7 +1,7 @@
 //! The networks of a live host: what one line does to a network whose nodes hear one another (this host's profile).
 //!
-//! A [`ServedNetwork`] has the state of one network and no journal. Each event that is served is followed by
-//! hearings, until no emission waits: so between two lines nothing waits, and a network is a function of its lines.
+//! A [`ServedNetwork`] has the state of one network and no journal. Each event that is served is followed by hearings,
+//! until no emission waits. So between two lines nothing waits, and a network is a function of its lines.
 #![tactic(auto)]
 
 mod hearing;

@@ -18,10 +18,10 @@ use std::alloc::{AllocError, Global};
 use std::marker::Model;
 use types::{Event, NodeId, Refusal};
 
-/// A network in which what hosted nodes emit is heard by the others without a line that says so: its configuration,
+/// A network in which hosted nodes hear what the others emit, without a line that says so. It has its configuration,
 /// its open slots with the nodes there, and how much of its budgets and shares is used up. It keeps no journal.
 ///
-/// Contracts see its parts with whole envelopes, and say of which networks of the definitions it keeps the state.
+/// Contracts see its parts with whole envelopes, and say which networks of the definitions have this state.
 #[derive(Drop)]
 pub struct ServedNetwork<S: Shelf> {
     alloc: Global,
@@ -29,14 +29,16 @@ pub struct ServedNetwork<S: Shelf> {
     names: Vec<NodeId>,
 }
 
-/// What came of an event and of what the others heard of it: why it was refused, if it was; whether it was stale, that
-/// is applied without a change; the slot, where it is the event of a node; and each step that gave anything out or was
-/// refused, in order, the event's own first.
+/// What came of an event, and of what the other nodes heard of it.
 #[derive(Drop)]
 pub struct Served {
+    /// Why the event was refused, if it was.
     pub refused: Option<Refusal>,
+    /// Whether the event was stale: it was applied, and changed nothing.
     pub stale: bool,
+    /// The slot, if the event was applied and is one of a node; else it means nothing.
     pub slot: u64,
+    /// Each step that gave anything out, the event's own first, and each hearing that was refused, in order.
     pub told: Vec<Told>,
 }
 
@@ -64,7 +66,7 @@ impl<S: Shelf> Model for ServedNetwork<S> {
 }
 
 impl<S: Shelf + Drop> ServedNetwork<S> {
-    /// A network where nothing has happened, whatever lies on the shelf. An error says that memory is short.
+    /// A network where nothing has happened, whatever lies on the shelf. An error says that it is out of memory.
     pub fn new(alloc: Global, config: NetConfig, shelf: S) -> Result<ServedNetwork<S>, AllocError>
         ensures parts { IfOk result (λ n. n ≡ record { config = config; slots = []; events = 0; bytes = 0; opens = 0 }) }
         ensures state { IfOk result (λ n. StandsFor n (new_net config)) }
@@ -95,8 +97,8 @@ impl<S: Shelf + Drop> ServedNetwork<S> {
         self.network.used()
     }
 
-    /// A hosted node at an open slot, as it is now, and the rows of its table; `None` where the slot is not open, and where
-    /// the node is not hosted. It takes no memory.
+    /// A hosted node at an open slot, as it is now, and the rows of its table; `None` if the slot is not open or the
+    /// node is not hosted. It takes no memory.
     pub fn seen(&self, slot: u64, node: &NodeId) -> Option<Seen<'_, S>>
         ensures value { (net : Net) → StandsFor self.now net → option_map (λ s. s.node.now.node) result ≡ node_at net slot node.now }
         ensures rows { IfSome result (λ s. s.rows ≡ s.node.now.node.table) }
@@ -110,10 +112,10 @@ impl<S: Shelf + Drop> ServedNetwork<S> {
         }
     }
 
-    /// An event, and then all that the other nodes hear of it, until no emission waits. Behind an opening and a closing,
-    /// envelopes of closed slots are let go.
+    /// Serves an event: applies it, and then has the other nodes hear what comes of it, until no emission waits. After
+    /// an opening or a closing, envelopes of closed slots are let go.
     ///
-    /// An error says that there is no memory for what is told; some of it happened then.
+    /// An error says that it is out of memory for what is told; some of it happened then.
     pub fn serve(&mut self, event: &Event) -> Result<Served, AllocError>
         ensures { IfOk result (IsServedBy self.old (step_of event.now) self.new) }
     {

@@ -18,8 +18,8 @@ use network::{Network, Outcome, Reading, read};
 use std::alloc::{AllocError, Global};
 use types::{Envelope, Event, NodeId, Out, Refusal};
 
-/// What an applied event gave out, whole; by which numbers, from 1 on, its emissions are heard; at which slot and by which
-/// node, where it is the event of a node; and whether it is stale.
+/// What an applied event gave out, whole; by which numbers, from 1 on, its emissions are heard; the slot and the node,
+/// if it is an event of a node; and whether it is stale.
 #[derive(Drop)]
 pub(crate) struct Given {
     pub place: Option<(u64, NodeId)>,
@@ -28,7 +28,8 @@ pub(crate) struct Given {
     pub marks: Vec<u64>,
 }
 
-/// One event. An error is the first refusal that applies, or says that memory is short; then the network is as it was.
+/// Applies one event. An error is the first refusal that applies, or says that it is out of memory; then the network is
+/// as it was.
 pub(crate) fn step<S: Shelf>(
     alloc: Global,
     network: &mut Network<S>,
@@ -59,8 +60,8 @@ pub(crate) fn step<S: Shelf>(
     })
 }
 
-/// Whether an event, if nothing refuses it, is stale: an envelope is delivered that is not newer than what its node has,
-/// or a timer fires that is not live. An error says that memory is short.
+/// Whether an event, if nothing refuses it, is stale: a delivered envelope is not newer than what its node has, or a
+/// timer that fires is not live. An error says that it is out of memory.
 fn is_stale<S: Shelf>(
     alloc: Global,
     network: &Network<S>,
@@ -93,7 +94,7 @@ fn is_stale<S: Shelf>(
     }
 }
 
-/// Whether a hosted node at the slot of an envelope has one of its sender and kind than which it is not newer.
+/// Whether a hosted node has an envelope of the same slot, sender and kind than which this one is not newer.
 #[tactic(auto, unfolding(protocol::specs::Nodes::change))]
 fn is_old<S: Shelf>(network: &Network<S>, node: &NodeId, envelope: &Envelope) -> bool
     ensures { (net : Net) → StandsFor (machine_of network.now) net → result ≡ is_left (node_at net envelope.now.slot node.now) (node_event.Take envelope.now) }
@@ -126,7 +127,7 @@ fn is_counter_over<S: Shelf>(network: &Network<S>, slot: u64, node: &NodeId, cou
     }
 }
 
-/// The slot and the node of an event, where it is one of a node. Of a delivery it is the slot of its envelope.
+/// The slot and the node of an event, if it is one of a node. A delivery is at the slot of its envelope.
 fn place_of<S: Shelf>(
     network: &Network<S>,
     event: &Event,

@@ -1,7 +1,7 @@
 //! What was planned is done.
 //!
-//! Where a function here answers an `AllocError`, memory is short, and nothing happened but that the archive may
-//! have what was filed for the event before.
+//! An `AllocError` of a function here says that it is out of memory. Then nothing changed, but the archive may have
+//! what was already filed for the event.
 
 ghost use Rattle.std.specs.Prelude.{◌≡◌, ◌<◌, ◌≤◌, ◌+◌, ◌^◌, ◌++◌, ◌∷◌, [], IfErr, IfOk, List, None, OnErr, OnOk, Some, length, true, ℕ};
 ghost use Rattle.std.specs.List.{All, remove};
@@ -33,15 +33,15 @@ use std::alloc::{AllocError, Global};
 use types::{Envelope, Event, Out, Refusal};
 
 impl<S: Shelf> Network<S> {
-    /// One event: it is tested in the order of the refusals, what needs memory is made, and then it is done.
-    /// Of what it gives out so many whole copies are made as are asked for.
+    /// Applies one event. It is tested in the order of the refusals, what needs memory is made, and then it is done.
+    /// `copies` whole copies are made of what it gives out.
     ///
-    /// An error is the first refusal that applies. Or it says that memory is short: then no refusal applies, or
-    /// bytes came to a hosted node that may take memory to be read, which are at most 65,536, with a version and
-    /// a kind that there are.
+    /// An error is the first refusal that applies, or says that it is out of memory. In the latter case no refusal
+    /// applies, or bytes came to a hosted node that may take memory to be read. Those are at most 65,536, of a version
+    /// and a kind that exist.
     ///
-    /// After a refusal that applies, all is as it was, the archive too. If none applies and memory was short, the
-    /// archive may have what was filed for the event before, and all else is as it was.
+    /// After a refusal that applies all is as it was, the archive too. If none applies and it is out of memory, all
+    /// else is as it was, but the archive may have what was already filed for the event.
     pub fn apply(&mut self, event: &Event, copies: usize) -> Result<Outcome, Refusal>
         ensures applied { IfOk result (IsApplied self.old (step_of event.now) copies self.new) }
         ensures err { IfErr result (IsRefusal (machine_of self.old) (step_of event.now)) }
@@ -57,7 +57,7 @@ impl<S: Shelf> Network<S> {
         }
     }
 
-    /// What was planned for an event is done and counted.
+    /// Does and counts what was planned for an event.
     fn carry_out(&mut self, event: &Event, plan: Plan, copies: usize) -> Result<Outcome, AllocError>
         requires { IsPlan self.old (step_of event.now) plan }
         ensures applied { IfOk result (IsApplied self.old (step_of event.now) copies self.new) }
@@ -101,7 +101,7 @@ impl<S: Shelf> Network<S> {
     }
 }
 
-/// Counts an event where it draws on the budgets, or on openings and closings.
+/// Counts an event that draws on the budgets, or on openings and closings.
 fn count(events: &mut u64, bytes: &mut u64, opens: &mut u64, charge: &Charge)
     requires { HasRoomOnNetwork charge.now.drawn charge.now.size events.old bytes.old opens.old }
     ensures events { events.new ≡ events.old + on_budgets_of charge.now.drawn 1 }
@@ -118,7 +118,7 @@ fn count(events: &mut u64, bytes: &mut u64, opens: &mut u64, charge: &Charge)
     }
 }
 
-/// Does a deed, and counts it where it draws on a share of a node.
+/// Does a deed, and counts it if it draws on a share of a node.
 fn perform<S: Shelf>(
     alloc: Global,
     archive: &mut Archive<S>,
@@ -156,7 +156,6 @@ fn perform<S: Shelf>(
     }
 }
 
-/// One open slot more, of a number that none of them has.
 fn open<S: Shelf>(
     alloc: Global,
     archive: &Archive<S>,
@@ -175,7 +174,7 @@ fn open<S: Shelf>(
     Ok(nothing(alloc, archive))
 }
 
-/// The open slot at this place is let go. It takes no memory.
+/// Lets the open slot at this place go. It takes no memory.
 fn close<S: Shelf>(
     alloc: Global,
     archive: &Archive<S>,
@@ -193,7 +192,6 @@ fn close<S: Shelf>(
     nothing(alloc, archive)
 }
 
-/// One event of the node at these places.
 fn act<S: Shelf>(
     archive: &mut Archive<S>,
     slots: &mut Vec<OpenSlot>,
@@ -219,7 +217,7 @@ fn act<S: Shelf>(
     })
 }
 
-/// The node at these places is handed an envelope, which is filed first.
+/// Hands an envelope, which is filed first, to the node at these places.
 fn hand<S: Shelf>(
     archive: &mut Archive<S>,
     slots: &mut Vec<OpenSlot>,
@@ -246,7 +244,7 @@ fn hand<S: Shelf>(
     })
 }
 
-/// Nothing is given out, and so in no copies. It takes no memory.
+/// Nothing is given out, whatever number of copies was asked for. It takes no memory.
 fn nothing<S: Shelf>(alloc: Global, archive: &Archive<S>) -> Outcome
     ensures { (count : ℕ) → IsAnswer [] [] None count archive.now result }
 {

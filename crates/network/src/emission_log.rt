@@ -23,8 +23,8 @@ use types::{Kind, Out};
 /// The most emissions of one event.
 const MOST_EMISSIONS: usize = 2;
 
-/// What an applied event gave out, filed, by which numbers its emissions are named, and as many whole copies
-/// of what it gave out as were asked for.
+/// What an applied event gave out, filed; the numbers that name its emissions; and as many whole copies of what it gave
+/// out as were asked for.
 #[derive(Drop)]
 pub(crate) struct NumberedOuts {
     pub outs: Vec<FiledOut>,
@@ -32,12 +32,12 @@ pub(crate) struct NumberedOuts {
     pub copies: Vec<Vec<Out>>,
 }
 
-/// What a hosted node has emitted since its slot was opened, in order, with the places of each kind: so the
-/// emission of a kind with a number is found at once, however many there are. Room for the numbers of the next
-/// event's emissions is kept where the last event had none, as most have.
+/// What a hosted node has emitted since its slot was opened, in order. The places of each kind are kept with it, so the
+/// emission of a kind with a number is found at once, however many there are. Most events emit nothing; the room that
+/// was made for the numbers of one is then kept for the next.
 ///
-/// For example, where a nomination, a ballot and again a nomination were emitted, the places of nominations are 0 and
-/// 2, and that of ballots is 1.
+/// For example, if a nomination, a ballot and again a nomination were emitted, the places of nominations are 0 and 2,
+/// and that of ballots is 1.
 #[derive(Drop)]
 pub(crate) struct EmissionLog {
     emitted: Vec<Filed>,
@@ -45,7 +45,7 @@ pub(crate) struct EmissionLog {
     room: Vec<u64>,
 }
 
-/// Where among what a node has emitted its nominations stand, and where its ballots.
+/// Where the nominations stand among what a node has emitted, and where its ballots.
 #[derive(Drop)]
 pub(crate) struct PlacesByKind {
     pub nominations: Vec<usize>,
@@ -84,7 +84,7 @@ impl EmissionLog {
         }
     }
 
-    /// The emission of a kind with this number, from 1 on.
+    /// The emission of a kind with this number, which counts from 1.
     pub(crate) fn emission(&self, kind: Kind, number: u64) -> Option<&Filed>
         ensures sent { option_map (λ f. sent_of f.now) result ≡ nth_of kind number (sents_of self.now) }
         ensures filed { (archive : Archived) → AreFiled archive self.now → IfSome result (λ f. IsFiled archive f.now) }
@@ -98,7 +98,7 @@ impl EmissionLog {
         }
     }
 
-    /// The place of the emission of a kind with this number, from 0 on.
+    /// The place of the emission of a kind with this number, which counts from 0 here.
     fn place(&self, kind: Kind, number: usize) -> Option<usize>
         ensures { result ≡ slice_get (places_of_kind kind (sents_of self.now)) number }
     {
@@ -108,9 +108,9 @@ impl EmissionLog {
         }
     }
 
-    /// One event of the node whose emissions these are: what it emits is kept. Room for that is made before
-    /// the event, of which few emissions come, so that nothing grows after it. An error says that memory is
-    /// short; then nothing happened but that the archive may have more.
+    /// Does one event of the node whose emissions these are, and keeps what it emits. An event has few emissions, so
+    /// room for them is made before it, and nothing grows after it. An error says that it is out of memory; then
+    /// nothing changed, but the archive may have more.
     pub(crate) fn advance<S: Shelf>(
         &mut self,
         archive: &mut Archive<S>,
@@ -154,7 +154,6 @@ impl EmissionLog {
     }
 }
 
-/// Makes room for the emissions of one event.
 fn make_room(
     emitted: &mut Vec<Filed>,
     places: &mut PlacesByKind,
@@ -172,7 +171,7 @@ fn make_room(
     places.ballots.reserve(MOST_EMISSIONS)
 }
 
-/// The numbers, where there are any; the room of none is kept.
+/// The numbers, if there are any; if not, their room is kept for the next event.
 fn given_or_kept(alloc: Global, marks: Vec<u64>, room: &mut Vec<u64>) -> Vec<u64>
     ensures { result.items ≡ marks.items }
 {
@@ -184,7 +183,7 @@ fn given_or_kept(alloc: Global, marks: Vec<u64>, room: &mut Vec<u64>) -> Vec<u64
     }
 }
 
-/// Keeps what is emitted among these outs, where there is room for it.
+/// Keeps what these outs emit, for which there is room.
 #[tactic(auto, unfolding(crate::specs::Marks::numbers_by_kind))]
 fn log_outs<S: Shelf>(
     archive: &Archive<S>,
@@ -207,7 +206,7 @@ fn log_outs<S: Shelf>(
     }
 }
 
-/// Keeps what is emitted where this out is an emission, and there is room for it.
+/// Keeps what this out emits, if it does, for which there is room.
 #[tactic(auto, unfolding(crate::specs::Marks::numbers_by_kind))]
 fn log_out<S: Shelf>(
     archive: &Archive<S>,
@@ -232,7 +231,7 @@ fn log_out<S: Shelf>(
     }
 }
 
-/// Keeps one emission, where there is room for it.
+/// Keeps one emission, for which there is room.
 fn log_emission<S: Shelf>(
     archive: &Archive<S>,
     filed: &Filed,
@@ -257,7 +256,7 @@ fn log_emission<S: Shelf>(
     marks.push_reserved(mark);
 }
 
-/// Notes the place of an emission of this kind, and counts those of its kind.
+/// Notes the place of an emission, and answers its number among those of its kind, from 1 on.
 fn note(places: &mut PlacesByKind, kind: Kind, place: usize) -> u64
     requires nominations { vec_len places.old.nominations < vec_capacity places.old.nominations }
     requires ballots { vec_len places.old.ballots < vec_capacity places.old.ballots }
@@ -281,7 +280,6 @@ fn note(places: &mut PlacesByKind, kind: Kind, place: usize) -> u64
     }
 }
 
-/// What was filed there.
 fn filed_at(emitted: &[Filed], place: usize) -> Option<&Filed>
     ensures { option_map (λ f. f.now) result ≡ slice_get emitted.now place }
 {

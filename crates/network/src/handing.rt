@@ -1,4 +1,4 @@
-//! What is to be done where an envelope reaches a node, delivered or heard, or why it is refused.
+//! What is to be done if an envelope reaches a node, delivered or heard, or why it is refused.
 
 ghost use Rattle.std.specs.Prelude.{◌≡◌, IfOk, MatchResult, Some, length, ℕ};
 ghost use Rattle.protocol.specs.Networks.Reading.{Read};
@@ -17,8 +17,8 @@ use slot::FiledEvent;
 use types::{Envelope, NodeId, Refusal};
 
 impl<S: Shelf> Network<S> {
-    /// What is to be done where bytes reach a node. A growth that is refused in reading them is answered at
-    /// once; here alone memory is wanting beside a refusal that applies.
+    /// What is to be done if bytes reach a node. If it is out of memory to read them, that is answered at once: only
+    /// here can it hide a refusal that applies.
     pub(crate) fn plan_deliver(&self, node: &NodeId, bytes: &[u8]) -> Result<Plan, Refusal>
         ensures { IsPlanned self.now (Delivers node.now (length bytes.now) (reading bytes.now)) result }
     {
@@ -29,7 +29,7 @@ impl<S: Shelf> Network<S> {
         }
     }
 
-    /// What is to be done where a node gets what was read in so many bytes. It takes no memory.
+    /// What is to be done if `size` bytes that say this reach a node. It takes no memory.
     fn plan_read(
         &self,
         node_at: usize,
@@ -62,8 +62,8 @@ impl<S: Shelf> Network<S> {
         }
     }
 
-    /// The place of the slot of an envelope of so many bytes that reaches a node, and on what it draws, where
-    /// nothing refuses it. It takes no memory.
+    /// The place of an envelope's slot, and on what its delivery draws, or the first refusal that applies. It takes no
+    /// memory.
     fn envelope_room(
         &self,
         node_at: usize,
@@ -85,7 +85,7 @@ impl<S: Shelf> Network<S> {
         Ok((slot_at, drawn))
     }
 
-    /// What is to be done where a node hears what another one has emitted. It takes no memory.
+    /// What is to be done if a node hears what another one has emitted. It takes no memory.
     pub(crate) fn plan_hear(
         &self,
         slot: u64,
@@ -120,7 +120,7 @@ impl<S: Shelf> Network<S> {
         })
     }
 
-    /// On what it draws that comes to a node from a name, where there is room on it for one more event.
+    /// On what an envelope from a name to a node draws, if that has room for one more event.
     fn pair_room(&self, spot: &Spot, node: &NodeId, from: &NodeId) -> Result<Drawn, Refusal>
         requires slot { (i : ℕ) × IsSlotThere self.now i spot.now.slot_at }
         requires node { index_of_name self.now.config.nodes node.now ≡ Some spot.now.node_at }

@@ -78,7 +78,7 @@ impl Instance {
         self.node.slices()
     }
 
-    /// The node's emission of a kind with this number, from 1 on.
+    /// The node's emission of a kind with this number, which counts from 1.
     pub(crate) fn emission(&self, kind: Kind, number: u64) -> Option<&Filed>
         ensures sent { option_map (λ f. sent_of f.now) result ≡ nth_of kind number (instance_in self.now).emitted }
         ensures filed { (archive : Archived) → IsLodged archive self.now → IfSome result (λ f. IsFiled archive f.now) }
@@ -86,29 +86,29 @@ impl Instance {
         self.emitted.emission(kind, number)
     }
 
-    /// How many of its own events it drew since the slot was opened.
+    /// How many events of its own it drew since the slot was opened.
     pub(crate) fn own_events(&self) -> u64
         ensures { result ≡ self.now.own }
     {
         self.own
     }
 
-    /// How many events it drew from a name since the slot was opened.
+    /// How many events from a name it drew since the slot was opened.
     pub(crate) fn events_from(&self, from: &NodeId) -> u64
         ensures { result ≡ events_from self.now.heard from.now }
     {
         self.heard.events_from(from)
     }
 
-    /// How many delivered bytes it drew from a name since the slot was opened.
+    /// How many delivered bytes from a name it drew since the slot was opened.
     pub(crate) fn bytes_from(&self, from: &NodeId) -> u64
         ensures { result ≡ bytes_from self.now.heard from.now }
     {
         self.heard.bytes_from(from)
     }
 
-    /// One event of the node; what it emits is kept, and the event is counted where it draws on a share of the
-    /// node. An error says that memory is short; then nothing happened but that the archive may have more.
+    /// Does one event of the node, keeps what it emits, and counts the event if it draws on a share of the node. An
+    /// error says that it is out of memory; then nothing changed, but the archive may have more.
     #[tactic(auto, unfolding(protocol::specs::Networks::after_event))]
     pub(crate) fn act<S: Shelf>(
         &mut self,

@@ -1,8 +1,8 @@
 //! One network of hosted validators: what each event does to it, and why one is refused (this host's
 //! profile).
 //!
-//! A [`Network`] owns the archive in which all its envelopes lie. Its contracts see that archive and speak of
-//! numbers in it; whoever shows a network to others shows it without them.
+//! A [`Network`] owns the archive in which all its envelopes lie. Its contracts speak of numbers in that archive; who
+//! shows a network to others shows it without them.
 #![tactic(auto)]
 
 mod applied;

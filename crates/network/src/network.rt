@@ -18,8 +18,8 @@ use std::alloc::Global;
 use std::marker::Model;
 use types::{Envelope, Nested, NodeId, Refusal};
 
-/// How much a network has used up: events and delivered bytes of its budgets, openings and closings of its roster; and how
-/// many slots are open.
+/// How much a network has used up: events and delivered bytes of its budgets, and openings and closings of its roster;
+/// and how many slots are open.
 #[derive(Clone, Copy)]
 pub struct Used {
     pub events: u64,
@@ -31,11 +31,11 @@ pub struct Used {
 /// One network: its configuration, its archive, its open slots with the hosted nodes there, and how much of
 /// its budgets is used up.
 ///
-/// Contracts see all of it, numbers in the archive too; whoever owns it shows it without them.
+/// Contracts see all of it, also numbers in the archive; its owner shows it without them.
 ///
 /// All envelopes lie in its archive, no slot is open twice, each has the hosted nodes in their order, and the bytes
-/// keep the budget: for example, where A and C are hosted, slot 5, once it is open, has a node A, then a node C; and
-/// of a budget of 100 bytes at most 100 are used up.
+/// keep to the budget. For example, if A and C are hosted, an open slot 5 has a node A, then a node C; and of a budget
+/// of 100 bytes at most 100 are used up.
 #[derive(Drop)]
 pub struct Network<S: Shelf> {
     pub(crate) alloc: Global,
@@ -93,7 +93,7 @@ impl<S: Shelf> Network<S> {
         self.archive.read(filed)
     }
 
-    /// The same place of the archive once more. It takes no memory.
+    /// The same place in the archive once more. It takes no memory.
     pub fn copy_of(&self, filed: &Filed) -> Filed
         requires { IsFiled self.now.archive filed.now }
         ensures { result ≡ filed.now }
@@ -101,8 +101,8 @@ impl<S: Shelf> Network<S> {
         self.archive.copy_of(filed)
     }
 
-    /// A hosted node at an open slot, as it is now; `None` where the slot is not open, and where the node is not
-    /// hosted. It takes no memory.
+    /// A hosted node at an open slot, as it is now; `None` if the slot is not open or the node is not hosted. It takes
+    /// no memory.
     pub fn node(&self, slot: u64, node: &NodeId) -> Option<&Node>
         ensures value { (net : Net) → StandsFor (machine_of self.now) net → option_map (λ n. n.now.node) result ≡ node_at net slot node.now }
         ensures filed { IfSome result (λ n. AreFiled self.now.archive n.now.rows) }
@@ -121,9 +121,10 @@ impl<S: Shelf> Network<S> {
         node.rows(&self.archive)
     }
 
-    /// What was filed for slots that are closed by now is let go, if that is due ([`Archive::is_due`]). It takes no memory.
+    /// Lets go of what was filed for slots that are closed by now, if that is due ([`Archive::is_due`]). It takes no
+    /// memory.
     ///
-    /// Whoever goes on reading what was given out at a closed slot, as a journal does, does not call this.
+    /// Who goes on reading what was given out at a closed slot, as a journal does, does not call this.
     pub fn forget_closed(&mut self)
         ensures state { machine_of self.new ≡ machine_of self.old }
         ensures config { self.new.config ≡ self.old.config }
@@ -133,7 +134,8 @@ impl<S: Shelf> Network<S> {
         }
     }
 
-    /// How much of its budgets, and of the openings and closings of its roster, is used up, and how many slots are open.
+    /// How much of its budgets, and of the openings and closings of its roster, is used up, and how many slots are
+    /// open.
     pub fn used(&self) -> Used
         ensures { result ≡ record { events = self.now.events; bytes = self.now.bytes; slots = length self.now.slots; opens = self.now.opens } }
     {
@@ -145,8 +147,8 @@ impl<S: Shelf> Network<S> {
         }
     }
 
-    /// The slices of a hosted node at an open slot, as they are now; `None` where the slot is not open, and
-    /// where the node is not hosted. It takes no memory.
+    /// The slices of a hosted node at an open slot, as they are now; `None` if the slot is not open or the node is not
+    /// hosted. It takes no memory.
     pub fn slices(&self, slot: u64, node: &NodeId) -> Option<&Nested>
         ensures value { (net : Net) → StandsFor (machine_of self.now) net → option_map (λ q. q.now) result ≡ slices_at net slot node.now }
         ensures there { (net : Net) → StandsFor (machine_of self.now) net → is_some result ≡ (is_open net slot && is_some (slices_of self.now.config.nodes node.now)) }
@@ -157,8 +159,8 @@ impl<S: Shelf> Network<S> {
         }
     }
 
-    /// A hosted node at an open slot with what it has emitted and drawn; `None` where the slot is not open, and where
-    /// the node is not hosted. It takes no memory.
+    /// A hosted node at an open slot with what it has emitted and drawn; `None` if the slot is not open or the node is
+    /// not hosted. It takes no memory.
     fn hosted(&self, slot: u64, node: &NodeId) -> Option<&Instance>
         ensures value { (net : Net) → StandsFor (machine_of self.now) net → option_map (λ p. instance_in p.now) result ≡ node_where_open (instances_at net.slots slot) node.now }
         ensures there { (net : Net) → StandsFor (machine_of self.now) net → is_some result ≡ (is_open net slot && is_some (slices_of self.now.config.nodes node.now)) }
@@ -173,14 +175,14 @@ impl<S: Shelf> Network<S> {
         }
     }
 
-    /// The place of a hosted node.
+    /// The place of a hosted node, or [`Refusal::NoSuchNode`].
     pub(crate) fn node_place(&self, node: &NodeId) -> Result<usize, Refusal>
         ensures { MatchResult result (λ at. index_of_name self.now.config.nodes node.now ≡ Some at) (λ r. (r ≡ Refusal.NoSuchNode) × (index_of_name self.now.config.nodes node.now ≡ None)) }
     {
         self.config.place(node).ok_or(Refusal::NoSuchNode)
     }
 
-    /// The place of an open slot.
+    /// The place of an open slot, or [`Refusal::SlotNotOpen`].
     pub(crate) fn open_slot(&self, slot: u64) -> Result<usize, Refusal>
         ensures { MatchResult result (λ at. index_of_slot (map slot_of (machine_of self.now).slots) slot ≡ Some at) (λ r. (r ≡ Refusal.SlotNotOpen) × (index_of_slot (map slot_of (machine_of self.now).slots) slot ≡ None)) }
     {

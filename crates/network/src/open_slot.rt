@@ -39,8 +39,8 @@ impl Model for OpenSlot {
 }
 
 impl OpenSlot {
-    /// A slot that is just opened: each hosted node begins anew, and has drawn nothing. An error says that
-    /// memory is short.
+    /// A slot that is just opened: each hosted node begins anew, and has drawn nothing. An error says that it is out of
+    /// memory.
     pub(crate) fn new(
         alloc: Global,
         number: u64,
@@ -69,7 +69,7 @@ impl OpenSlot {
         &self.instances
     }
 
-    /// One event of the node at this place, as by [`Instance::act`].
+    /// Does one event of the node at this place, as [`Instance::act`].
     pub(crate) fn act<S: Shelf>(
         &mut self,
         archive: &mut Archive<S>,
@@ -93,7 +93,6 @@ impl OpenSlot {
     }
 }
 
-/// A fresh instance of each hosted node. An error says that memory is short.
 #[tactic(auto, unfolding(protocol::specs::Networks::instances_of_new_slot))]
 fn fresh_instances(
     alloc: Global,

@@ -12,13 +12,13 @@ use envstore::Slots;
 use std::alloc::{AllocError, Global};
 use std::marker::Model;
 
-/// The open slots, in the order in which they were opened, with the place of each by its number: so a slot is
-/// found by a binary search among them.
+/// The open slots, in the order in which they were opened, with the place of each by its number, so that a slot is
+/// found by a binary search.
 ///
-/// Contracts see the slots alone. An event of a node is lent them without the places, since it leaves the
-/// numbers as they are.
+/// Contracts see only the slots. An event of a node is lent them without the places, since it leaves the numbers as
+/// they are.
 ///
-/// For example, where slot 7 was opened and then 3, the place of 7 is 0, that of 3 is 1, and no other number has one.
+/// For example, if slot 7 was opened and then 3, the place of 7 is 0, that of 3 is 1, and no other number has one.
 #[derive(Drop)]
 pub(crate) struct OpenSlots {
     pub(crate) slots: Vec<OpenSlot>,
@@ -86,8 +86,8 @@ impl OpenSlots {
         self.index.place(number)
     }
 
-    /// One open slot more, of a number that none of them has. An error says that memory is short; then
-    /// nothing happened.
+    /// Adds an open slot, of a number that none of them has. An error says that it is out of memory; then nothing
+    /// changed.
     pub(crate) fn open(&mut self, slot: OpenSlot) -> Result<(), AllocError>
         requires { index_in (numbers_of self.old) slot.number ≡ None }
         ensures open { OnOk result (self.new ≡ self.old ++ slot ∷ []) }
@@ -99,7 +99,7 @@ impl OpenSlots {
         Ok(())
     }
 
-    /// The slot at this place is let go. It takes no memory.
+    /// Lets the slot at this place go. It takes no memory.
     pub(crate) fn close(&mut self, place: usize)
         requires at { place < length self.old }
         requires apart { all_differ (numbers_of self.old) ≡ true }

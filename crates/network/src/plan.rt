@@ -4,8 +4,8 @@ use crate::open_slot::OpenSlot;
 use slot::FiledEvent;
 use types::{Envelope, Kind, NodeId};
 
-/// What is to be done, by places among the open slots and among the hosted nodes. What needs memory is made
-/// already, save that a delivered envelope is filed when it is handed over.
+/// What is to be done, by places among the open slots and among the hosted nodes. What needs memory is made already,
+/// but a delivered envelope is filed only when it is handed over.
 #[derive(Drop)]
 pub(crate) enum Deed {
     /// This slot is to be open.
@@ -40,7 +40,7 @@ pub(crate) enum Drawn {
         slot_at: usize,
         node_at: usize,
     },
-    /// What the node at these places gets from that name.
+    /// The share of the node at these places in what comes from that name.
     Pair {
         slot_at: usize,
         node_at: usize,
@@ -69,8 +69,8 @@ pub(crate) struct Terms {
     pub copies: usize,
 }
 
-/// An emission by the name under which another node hears it: by whom, of which kind, and its number among
-/// those of that kind since the slot was opened, from 1 on.
+/// The name by which another node hears an emission: by whom, of which kind, and its number among those of that kind
+/// since the slot was opened, from 1 on.
 #[derive(Clone, Copy)]
 pub struct Emission {
     pub from: NodeId,

@@ -18,8 +18,8 @@ use slot::FiledEvent;
 use types::{Event, MAX_VALUE_LENGTH, Nested, NodeId, Refusal, Value};
 
 impl<S: Shelf> Network<S> {
-    /// What is to be done for an event, or the first refusal that applies. Or memory is short: then no refusal
-    /// applies, or bytes came to a hosted node that may take memory to be read. Nothing is changed.
+    /// What is to be done for an event, or the first refusal that applies, or that it is out of memory. In the last
+    /// case no refusal applies, or bytes came to a hosted node that may take memory to be read. Nothing is changed.
     #[tactic(auto, using(crate::proofs::Planned::planned))]
     pub(crate) fn plan(&self, event: &Event) -> Result<Plan, Refusal>
         ensures { IsPlanned self.now (step_of event.now) result }
@@ -57,8 +57,8 @@ impl<S: Shelf> Network<S> {
         }
     }
 
-    /// Why an event is refused for which somebody else has no room: the first refusal that applies, or else that
-    /// memory is short. Nothing is changed.
+    /// Why an event is refused if its caller has no room for it: the first refusal that applies, or else that it is out
+    /// of memory. Nothing is changed.
     pub fn refusal(&self, event: &Event) -> Refusal
         ensures { IsRefusal (machine_of self.now) (step_of event.now) result }
     {
@@ -72,7 +72,6 @@ impl<S: Shelf> Network<S> {
         }
     }
 
-    /// What is to be done to open a slot.
     fn plan_open(&self, slot: u64) -> Result<Plan, Refusal>
         ensures { IsPlanned self.now (Opens slot) result }
     {
@@ -94,7 +93,6 @@ impl<S: Shelf> Network<S> {
         }
     }
 
-    /// Whether as many slots are open as the budget has.
     fn slots_are_full(&self) -> bool
         ensures { result ≡ not (nat_lt (length self.now.slots) self.now.config.budgets.slots) }
     {
@@ -116,7 +114,7 @@ impl<S: Shelf> Network<S> {
         })
     }
 
-    /// What is to be done where a node is to propose a value: 1 to 256 bytes.
+    /// What is to be done if a node is to propose a value, which has 1 to 256 bytes.
     fn plan_propose(&self, slot: u64, node: &NodeId, value: &[u8]) -> Result<Plan, Refusal>
         ensures { IsPlanned self.now (Proposes slot node.now value.now) result }
     {
@@ -135,21 +133,22 @@ impl<S: Shelf> Network<S> {
         }
     }
 
-    /// What is to be done where a node's nomination timer fires. It takes no memory.
+    /// What is to be done if a node's nomination timer fires. It takes no memory.
     fn plan_nomination_timer(&self, slot: u64, node: &NodeId, round: u32) -> Result<Plan, Refusal>
         ensures { IsPlannedSurely self.now (NominationTimerFires slot node.now round) result }
     {
         self.plan_own(slot, node, FiledEvent::NominationTimer(round))
     }
 
-    /// What is to be done where a node's ballot timer fires. It takes no memory.
+    /// What is to be done if a node's ballot timer fires. It takes no memory.
     fn plan_ballot_timer(&self, slot: u64, node: &NodeId, counter: u32) -> Result<Plan, Refusal>
         ensures { IsPlannedSurely self.now (BallotTimerFires slot node.now counter) result }
     {
         self.plan_own(slot, node, FiledEvent::BallotTimer(counter))
     }
 
-    /// What is to be done for an event of a node's own that nothing else refuses. It takes no memory.
+    /// What is to be done for an event of a node's own that nothing but its place and its room can refuse. It takes no
+    /// memory.
     fn plan_own(&self, slot: u64, node: &NodeId, event: FiledEvent) -> Result<Plan, Refusal>
         requires { IsFiledEvent self.now.archive event }
         ensures { IsPlannedOwn self.now slot node.now event result }
@@ -160,7 +159,7 @@ impl<S: Shelf> Network<S> {
         Ok(plan_at(&spot, drawn, event))
     }
 
-    /// What is to be done where the slices of a node change.
+    /// What is to be done if the slices of a node change.
     fn plan_reslice(&self, slot: u64, node: &NodeId, slices: &Nested) -> Result<Plan, Refusal>
         ensures { IsPlanned self.now (Reslices slot node.now slices.now) result }
     {
@@ -173,7 +172,7 @@ impl<S: Shelf> Network<S> {
         }
     }
 
-    /// Where a hosted node stands at an open slot.
+    /// Where a hosted node stands at an open slot, or why it does not.
     fn spot(&self, slot: u64, node: &NodeId) -> Result<Spot, Refusal>
         ensures { MatchResult result (IsSpot self.now slot node.now) (IsSpotRefused self.now slot node.now) }
     {
@@ -182,7 +181,7 @@ impl<S: Shelf> Network<S> {
         Ok(Spot { slot_at, node_at })
     }
 
-    /// On what a node's own event draws, where there is room on it for one more.
+    /// On what a node's own event draws, if that has room for one more.
     fn own_room(&self, spot: &Spot, node: &NodeId) -> Result<Drawn, Refusal>
         requires slot { (i : ℕ) × IsSlotThere self.now i spot.now.slot_at }
         requires node { index_of_name self.now.config.nodes node.now ≡ Some spot.now.node_at }
@@ -201,7 +200,6 @@ fn is_bad(value: &[u8]) -> bool
     value.is_empty() || value.len() > MAX_VALUE_LENGTH
 }
 
-/// A node's own event is to be done there, and it draws on this.
 fn plan_at(spot: &Spot, drawn: Drawn, event: FiledEvent) -> Plan
     ensures { result ≡ record { deed = Act spot.now.slot_at spot.now.node_at event; drawn = drawn; size = 0 } }
 {

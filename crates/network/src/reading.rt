@@ -18,8 +18,8 @@ pub enum Reading {
     Faulty(u8),
 }
 
-/// What the bytes say. An error says that memory is short; it comes of no bytes that are too many, or have a
-/// fault in the version or in the kind.
+/// What the bytes say. An error says that it is out of memory. Bytes that are too many, or have a fault in the version
+/// or in the kind, never come to it.
 pub fn read(alloc: Global, bytes: &[u8]) -> Result<Reading, AllocError>
     ensures said { IfOk result (λ r. said_by r ≡ reading bytes.now) }
     ensures memory { IfErr result (λ _. MayTakeMemory (length bytes.now) (reading bytes.now)) }
@@ -33,15 +33,14 @@ pub fn read(alloc: Global, bytes: &[u8]) -> Result<Reading, AllocError>
     }
 }
 
-/// Of a text of bytes it is said exactly what it is: an envelope where it is the spelling of one, and the
-/// number of a fault where it has that fault. So what a network reads is what the grammar of envelopes
-/// leaves, without a choice.
+/// A law: bytes are read as an envelope exactly if they are its spelling, and as a number of a fault exactly if they
+/// have that fault. So what a network reads is what the grammar of envelopes says, without a choice.
 pub fn readings_are_exact()
     ensures { ReadingsAreExact }
 {}
 
-/// All texts that are read as one envelope have one length. So an envelope that is delivered tells the
-/// length of its delivery, and to compare envelopes is to compare lengths too.
+/// A law: all bytes that are read as one envelope have one length. So an envelope that was delivered tells the length
+/// of its delivery, and to compare envelopes is to compare lengths too.
 #[tactic(auto, using(crate::proofs::Readings::has_one_length))]
 pub fn envelopes_have_one_length()
     ensures { HasOneLength reading }

@@ -43,7 +43,7 @@ impl<S: Shelf> Network<S> {
         }
     }
 
-    /// On what comes to a node from a name draws.
+    /// On what an event from a name to a node draws.
     pub(crate) fn pair(&self, slot_at: usize, node_at: usize, node: &NodeId, from: &NodeId) -> Drawn
         requires node { index_of_name self.now.config.nodes node.now ≡ Some node_at }
         ensures drawn { (i : ℕ) → index_of_slot (map slot_of (machine_of self.now).slots) i ≡ Some slot_at → IsDrawn (machine_of self.now) result (pair_source self.now.config.roster i node.now from.now) }
@@ -65,7 +65,7 @@ impl<S: Shelf> Network<S> {
         }
     }
 
-    /// Whether there is room for one more event on what it draws.
+    /// Whether what is drawn on has room for one more event, or why not.
     pub(crate) fn has_room(&self, drawn: &Drawn) -> Result<(), Refusal>
         requires { IsDrawnThere (machine_of self.now) drawn.now }
         ensures { MatchResult result (λ _. HasRoom (machine_of self.now) drawn.now) (λ r. HasNoRoom (machine_of self.now) drawn.now r) }
@@ -95,7 +95,7 @@ impl<S: Shelf> Network<S> {
         }
     }
 
-    /// Whether there is room for so many bytes more on what is drawn by what comes to a node.
+    /// Whether what an event from a name to a node draws on has room for `size` more bytes, or why not.
     pub(crate) fn has_room_for_bytes(&self, drawn: &Drawn, size: u64) -> Result<(), Refusal>
         requires drawn { IsDrawnThere (machine_of self.now) drawn.now }
         requires paired { IsPaired drawn.now }
@@ -134,7 +134,7 @@ impl<S: Shelf> Network<S> {
     }
 }
 
-/// Whether so much more keeps within a limit; else this refusal. Their sum may be no `u64`.
+/// Whether `more` keeps within a limit; else this refusal. The sum may not fit a `u64`.
 fn keeps_within(used: u64, more: u64, limit: u64, refusal: Refusal) -> Result<(), Refusal>
     ensures { MatchResult result (λ _. used + more ≤ limit) (λ r. (r ≡ refusal) × (limit < used + more)) }
 {

@@ -7,7 +7,7 @@ ghost use Rattle.network.specs.SlotPlaces.{slot_places_without, place_without, k
 use std::alloc::{AllocError, Global};
 use std::marker::Model;
 
-/// Where among the open slots the slot of a number stands.
+/// Where the slot of a number stands among the open slots.
 #[derive(Clone, Copy)]
 pub(crate) struct SlotPlace {
     pub number: u64,
@@ -16,7 +16,7 @@ pub(crate) struct SlotPlace {
 
 /// The places of open slots, ascending by number, found by a binary search.
 ///
-/// For example, where slot 7 was opened and then 3, first comes 3 with the place 1, then 7 with the place 0.
+/// For example, if slot 7 was opened and then 3, first comes 3 with the place 1, then 7 with the place 0.
 #[derive(Drop)]
 pub(crate) struct SlotIndex {
     entries: Vec<SlotPlace>,
@@ -58,8 +58,8 @@ impl SlotIndex {
         }
     }
 
-    /// Keeps the place of a number for which none is kept. An error says that memory is short; then nothing
-    /// happened.
+    /// Keeps the place of a number for which none is kept. An error says that it is out of memory; then nothing
+    /// changed.
     pub(crate) fn note(&mut self, number: u64, place: usize) -> Result<(), AllocError>
         requires { kept_for self.old number ≡ None }
         ensures noted { OnOk result ((i : ℕ) → kept_for self.new i ≡ kept_with number place self.old i) }
@@ -72,7 +72,7 @@ impl SlotIndex {
         Ok(())
     }
 
-    /// Keeps nothing for a number any longer; each place that lies behind its own is one less.
+    /// Forgets a number; each place behind its own is one less.
     pub(crate) fn forget(&mut self, number: u64, place: usize)
         requires { kept_for self.old number ≡ Some place }
         ensures { (i : ℕ) → kept_for self.new i ≡ kept_without number place self.old i }
@@ -84,7 +84,7 @@ impl SlotIndex {
         close_up(&mut self.entries, place);
     }
 
-    /// Where a number stands, or where it would, by a binary search.
+    /// Where a number stands, or where it would stand, by a binary search.
     fn find(&self, number: u64) -> Result<usize, usize>
         ensures { IsKeyPlace number_kept self.now number result }
     {
@@ -93,7 +93,7 @@ impl SlotIndex {
     }
 }
 
-/// Each place that lies behind this one is one less.
+/// Has each place behind this one be one less.
 fn close_up(entries: &mut [SlotPlace], gone: usize)
     ensures { entries.new ≡ slot_places_without gone entries.old }
 {
@@ -105,7 +105,7 @@ fn close_up(entries: &mut [SlotPlace], gone: usize)
     }
 }
 
-/// A place, once what stood at another one is gone.
+/// A place, once the slot at `gone` is gone.
 fn place_without(gone: usize, place: usize) -> usize
     ensures { result ≡ place_without gone place }
 {

@@ -21,9 +21,9 @@ pub(crate) struct Tally {
 /// What a node drew from each name since its slot was opened: a tally for each name, ascending by name, found
 /// by a binary search.
 ///
-/// Contracts see the tallies, and for how many names more there is room.
+/// Contracts see the tallies, and for how many more names there is room.
 ///
-/// For example, where a node drew from C and then from A, the tally of A comes first; no name has two.
+/// For example, if a node drew from C and then from A, the tally of A comes first; no name has two.
 #[derive(Drop)]
 pub(crate) struct Tallies {
     entries: Vec<Tally>,
@@ -75,8 +75,8 @@ impl Tallies {
         }
     }
 
-    /// Makes room for one more name where an event draws on what a node gets from a name. An error says that
-    /// memory is short.
+    /// Makes room for one more name, if an event draws on what a node gets from a name. An error says that it is out of
+    /// memory.
     pub(crate) fn make_room(&mut self, drawn: &Drawn) -> Result<(), AllocError>
         ensures same { self.new.tallies ≡ self.old.tallies }
         ensures room { OnOk result (HasRoomToTally drawn.now self.new) }
@@ -87,7 +87,7 @@ impl Tallies {
         }
     }
 
-    /// Counts one event more from a name, with so many bytes, where there is room for the name.
+    /// Counts one more event from a name, with `size` bytes; there is room for the name.
     fn count_from(&mut self, from: &NodeId, size: u64)
         requires room { 0 < self.old.room }
         requires few_events { events_from self.old.tallies from.now < 2 ^ 40 }
@@ -118,7 +118,7 @@ impl Tallies {
     }
 }
 
-/// Counts an event of a node where it draws on a share of the node, for which there is room.
+/// Counts an event of a node, if it draws on a share of the node. There is room for it.
 pub(crate) fn count(own: &mut u64, heard: &mut Tallies, charge: &Charge)
     requires few { HasRoomInCounts charge.now.drawn charge.now.size own.old heard.old.tallies }
     requires room { HasRoomToTally charge.now.drawn heard.old }
@@ -133,7 +133,6 @@ pub(crate) fn count(own: &mut u64, heard: &mut Tallies, charge: &Charge)
     }
 }
 
-/// One event more, with so many bytes.
 fn add(tally: &mut Tally, size: u64)
     requires events { tally.old.events < 2 ^ 40 }
     requires bytes { FitsOrNone tally.old.bytes size }

@@ -1,6 +1,6 @@
 //! Choosing values from a list, and adding them to a set.
 //!
-//! Where a function here answers an error, memory is short.
+//! An error of a function here says that it is out of memory, or that a value has too many owners.
 
 ghost use Rattle.std.specs.Prelude.{◌≡◌, List, ℕ, Bool, not, IfOk, filter, take, unwrap_or};
 ghost use Rattle.types.specs.Votes.{has_value};
@@ -33,8 +33,7 @@ impl<'a> ValueTest for IsNew<'a> {
     }
 }
 
-/// The first of the values that pass, in their order, and at most so many; once there are as many, no other
-/// is tested.
+/// The first of the values that pass, in their order, and at most `most`; once there are as many, no other is tested.
 pub fn choose<T: ValueTest>(
     alloc: Global,
     values: &[Value],
@@ -57,7 +56,7 @@ pub fn choose<T: ValueTest>(
     Ok(chosen)
 }
 
-/// A set with these values too. An error says that memory is short, and the set handed over is dropped.
+/// A set with these values too. After an error the set that was handed over is dropped.
 pub fn with_all(set: Values, values: &[Value]) -> Result<Values, AllocError>
     ensures { IfOk result (λ v. v ≡ all_with values.now set) }
 {
@@ -70,7 +69,7 @@ pub fn with_all(set: Values, values: &[Value]) -> Result<Values, AllocError>
     Ok(set)
 }
 
-/// The set with these values too; `None` where there are none, which takes no memory.
+/// The set with these values too; `None` if there are no values to add, which takes no memory.
 pub fn larger_set(
     alloc: Global,
     set: &SharedValues,

@@ -1,6 +1,6 @@
 //! The rules of nomination, in their order.
 //!
-//! Where a function here answers an error, memory is short.
+//! An error of a function here says that it is out of memory, or that values have too many owners.
 
 ghost use Rattle.std.specs.Prelude.{◌≡◌, ◌-◌, ◌++◌, IfOk, OnOk, flat_map, length, option_map, option_to_list, unwrap_or};
 ghost use Rattle.drafts.specs.Drafted.{after};
@@ -17,9 +17,8 @@ use fedvote::Sight;
 use std::alloc::{AllocError, Global};
 use types::{Inputs, MAX_NOMINATED, NodeId, SharedValues, Value, Values, Votes};
 
-/// The rules of nomination, in order, each with what the one before it made; while no ballot is
-/// confirmed as prepared (after the Stellar Consensus Protocol draft). An error says that memory is
-/// short.
+/// The rules of nomination, in order, each with what the one before it made; while no ballot is confirmed as prepared
+/// (after the Stellar Consensus Protocol draft).
 #[tactic(auto, unfolding(protocol::specs::Nominating::nominate))]
 pub fn nominate<S: Sight>(
     alloc: Global,
@@ -55,7 +54,7 @@ fn echo<S: Sight>(
     }
 }
 
-/// The values that the node votes for by its leaders, with those that it voted for; `None` where these are all.
+/// The values that the node votes for by its leaders, with those that it voted for; `None` if there are no new ones.
 #[tactic(auto, unfolding(protocol::specs::Nominating::echo, protocol::specs::Candidates::with_up_to_sixteen))]
 fn values_to_vote_for<S: Sight>(
     alloc: Global,
@@ -91,7 +90,7 @@ fn accept_values<S: Sight>(
     }
 }
 
-/// The values that are accepted, with those that were; `None` where these are all.
+/// The values that are accepted, with those that were; `None` if there are no new ones.
 #[tactic(auto, unfolding(protocol::specs::Nominating::accept_values, protocol::specs::Candidates::with_up_to_sixteen))]
 fn values_to_accept<'a, S: Sight>(
     alloc: Global,
@@ -131,7 +130,7 @@ fn confirm_values<S: Sight>(
     }
 }
 
-/// The values that are confirmed, with those that were; `None` where these are all.
+/// The values that are confirmed, with those that were; `None` if there are no new ones.
 #[tactic(auto, unfolding(protocol::specs::Nominating::confirm_values))]
 fn values_to_confirm<'a, S: Sight>(
     alloc: Global,
@@ -147,8 +146,8 @@ fn values_to_confirm<'a, S: Sight>(
     Ok(larger)
 }
 
-/// What the node's leaders propose, ascending: the values of their nominations, and the node's own proposal
-/// where it is a leader.
+/// What the node's leaders propose, ascending: the values of their nominations, and the node's own proposal if it is a
+/// leader.
 fn proposed_values<S: Sight>(
     alloc: Global,
     own: &NodeId,
@@ -164,7 +163,7 @@ fn proposed_values<S: Sight>(
     Ok(proposed)
 }
 
-/// The node's own proposal, where it is a leader.
+/// The node's own proposal, if it is a leader.
 fn own_proposal<'a>(own: &NodeId, inputs: &'a Inputs) -> Option<&'a Value>
     ensures { option_to_list (option_map (λ v. v.now) result) ≡ own_proposal own.now inputs.now }
 {

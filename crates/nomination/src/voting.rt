@@ -1,6 +1,6 @@
 //! Federated voting on nominating one value.
 //!
-//! Where a function here answers an error, memory is short.
+//! An error of a function here says that it is out of memory, or that a value has too many owners.
 
 ghost use Rattle.std.specs.Prelude.{◌≡◌, IfOk, not, ◌&&◌};
 ghost use Rattle.types.specs.declared.statement.Statement.TheVariants.{Nominate};

@@ -1,6 +1,6 @@
 //! What the hosted nodes of a network have externalized at its open slots.
 //!
-//! Where a function here answers an error, memory is short.
+//! An error of a function here says that it is out of memory.
 
 ghost use Rattle.std.specs.Prelude.{◌≡◌, ◌++◌, IfOk, OnOk, filter, not, ◌==◌, option_map, slice_get};
 ghost use Rattle.hoststep.specs.Deciding.{decisions_at};
@@ -45,7 +45,7 @@ pub fn decided_in<S: Shelf>(
     Ok(found)
 }
 
-/// The same, in the order of the entries.
+/// What [`decided_in`] answers, in the order of the entries.
 fn decided_in_order<S: Shelf>(
     alloc: Global,
     journal: &Journal<S>,
@@ -74,7 +74,6 @@ fn note<S: Shelf>(
     push_decision(journal, number, found)
 }
 
-/// The slot that the entry of this number closes, if it closes one.
 fn closed_at<S: Shelf>(journal: &Journal<S>, number: usize) -> Option<u64>
     ensures { result ≡ closed_at (slice_get journal.now.entries number) }
 {
@@ -85,7 +84,6 @@ fn closed_at<S: Shelf>(journal: &Journal<S>, number: usize) -> Option<u64>
     }
 }
 
-/// Nothing that was externalized at the slot is left.
 fn forget(slot: u64, found: &mut Vec<ExternalizedValue>)
     ensures { found.new.items ≡ filter (λ d. not (d.slot == slot)) found.old.items }
 {
@@ -96,7 +94,6 @@ fn forget(slot: u64, found: &mut Vec<ExternalizedValue>)
     );
 }
 
-/// Adds what the entry of this number decides.
 fn push_decision<S: Shelf>(
     journal: &Journal<S>,
     number: usize,

@@ -49,7 +49,7 @@ impl<R: Wait + Drop> Model for OpenNetwork<R> {
 }
 
 impl<R: Wait + Drop> OpenNetwork<R> {
-    /// It joins a host. An error says that there is no room for it.
+    /// It joins a host. An error says that the host has no room for it, or has its number.
     pub fn join(self, host: &mut Host<SharedHandle<R>, R>) -> Result<(), AllocError>
         ensures ok { OnOk result (host.new ≡ nets_with self host.old) }
         ensures fresh { OnOk result (NoNet host.old self.cell.config.number) }
@@ -66,8 +66,8 @@ impl<R: Wait + Drop> OpenNetwork<R> {
     }
 }
 
-/// Opens a network with so many seats, over a copy of a handle on the store of all; its first slots are opened in
-/// order, refused or not. An error says that memory is short.
+/// Opens a network with `seats` seats, over a copy of a handle on the store of all; its first slots are opened in
+/// order, refused or not. An error says that it is out of memory.
 pub fn open_network<R: Wait + Drop + Copy>(
     rt: &R,
     alloc: Global,
@@ -87,7 +87,7 @@ pub fn open_network<R: Wait + Drop + Copy>(
 }
 
 /// Networks that are to be opened, each with its slots among the openings, which stand ascending by network. An error
-/// says that memory is short.
+/// says that it is out of memory.
 pub fn with_slots(
     alloc: Global,
     configs: Vec<NetConfig>,
@@ -113,7 +113,6 @@ fn own_slots(alloc: Global, number: u32, opens: &[(u32, u64)]) -> Result<Vec<u64
     own.iter().map(|open| open.1).collect(alloc)
 }
 
-/// Those that are of the network of a number, of openings that stand ascending by network.
 fn own_opens(number: u32, opens: &[(u32, u64)]) -> &[(u32, u64)]
     requires { IsNonDecreasingBy (λ o. o.0) opens.now }
     ensures { result.now ≡ filter (λ o. o.0 == number) opens.now }
@@ -149,7 +148,6 @@ fn open_slots<R: Wait + Drop>(
     }
 }
 
-/// Opens a slot, or is refused.
 fn open_slot<R: Wait + Drop>(
     rt: &R,
     cell: &Cell<SharedHandle<R>, R>,

@@ -1,6 +1,6 @@
 //! The networks of a pool are opened, by several threads, and join a host, by one.
 //!
-//! Where a function here answers an error, memory is short.
+//! An error of a function here says that it is out of memory.
 
 ghost use Rattle.std.specs.Prelude.{◌≡◌, ◌<◌, ◌≤◌, ◌++◌, IfOk, []};
 ghost use Rattle.std.specs.Thread.{IsSend, IsSync};
@@ -39,9 +39,8 @@ impl<R: Wait + Copy + Drop> UnopenedNetworks<R> {
     }
 }
 
-/// Opens networks, in their order, each with its seats and first slots. So many threads open them: each half
-/// of the networks is opened by half of the threads, as long as there are several, and by this one where no
-/// other can be started.
+/// Opens networks, in their order, each with its seats and first slots. `threads` threads open them: each half of the
+/// networks is opened by half of the threads, as long as there are several, and by this one if no other can be started.
 #[cycle(opening)]
 pub fn open_by<R: Threads + Wait + Sync + Send + Copy + Drop>(
     rt: &R,
@@ -73,7 +72,6 @@ pub fn open_by<R: Threads + Wait + Sync + Send + Copy + Drop>(
     Ok(all)
 }
 
-/// Some networks, and then others.
 fn concat<R: Wait + Drop>(
     mut first: Vec<OpenNetwork<R>>,
     mut others: Vec<OpenNetwork<R>>,

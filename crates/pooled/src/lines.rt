@@ -13,9 +13,8 @@ use std::alloc::{AllocError, Global};
 use std::fmt::Write;
 use workers::Report;
 
-/// Adds a line for each node that has externalized at an open slot, ascending by slot and then by name:
-/// `decided`, the number of the network, the slot, the name and the value. Where memory is wanting, a part
-/// may have been added.
+/// Adds a line for each node that has externalized at an open slot, ascending by slot and then by name: `decided`, the
+/// number of the network, the slot, the name and the value. If it is out of memory, a part may have been added.
 pub fn push_decided<S: Shelf>(
     alloc: Global,
     text: &mut String,
@@ -28,7 +27,6 @@ pub fn push_decided<S: Shelf>(
     push_all(text, number, &decided)
 }
 
-/// Adds a line for each of them.
 fn push_all(text: &mut String, number: u32, decided: &[ExternalizedValue]) -> Result<(), AllocError>
     ensures { OnOk result (string_bytes text.new ≡ string_bytes text.old ++ flat_map (decided_line number) decided.now) }
 {
@@ -38,7 +36,6 @@ fn push_all(text: &mut String, number: u32, decided: &[ExternalizedValue]) -> Re
     Ok(())
 }
 
-/// Adds the line of what one node has externalized.
 fn push_one(text: &mut String, number: u32, decided: &ExternalizedValue) -> Result<(), AllocError>
     ensures { OnOk result (string_bytes text.new ≡ string_bytes text.old ++ decided_line number decided.now) }
 {
@@ -50,8 +47,8 @@ fn push_one(text: &mut String, number: u32, decided: &ExternalizedValue) -> Resu
     text.push('\n')
 }
 
-/// Adds the line of a journal: `journal`, the number of its network, and how many entries it has. Where
-/// memory is wanting, a part may have been added.
+/// Adds the line of a journal: `journal`, the number of its network, and how many entries it has. If it is out of
+/// memory, a part may have been added.
 pub fn push_length<S: Shelf>(text: &mut String, journal: &Journal<S>) -> Result<(), AllocError>
     ensures { OnOk result (string_bytes text.new ≡ string_bytes text.old ++ length_line journal.now.config.number (length journal.now.entries)) }
 {
@@ -60,8 +57,8 @@ pub fn push_length<S: Shelf>(text: &mut String, journal: &Journal<S>) -> Result<
     write!(text, "journal {number} {entries}\n")
 }
 
-/// Adds the line of how many jobs were applied, refused and not run. Where memory is wanting, a part may have
-/// been added.
+/// Adds the line of how many jobs were applied, refused and not run. If it is out of memory, a part may have been
+/// added.
 pub fn push_report(text: &mut String, report: Report) -> Result<(), AllocError>
     ensures { OnOk result (string_bytes text.new ≡ string_bytes text.old ++ report_line report.applied report.refused report.unrun) }
 {

@@ -23,10 +23,10 @@ use types::Event;
 use work::{Job, Queue};
 use workers::{Crew, Host, Report, offer, run};
 
-/// How many places the queue has where there are fewer jobs (this host's profile).
+/// How many places the queue has if there are fewer jobs (this host's profile).
 const FEWEST_PLACES: usize = 1024;
 
-/// How many places the queue has where there are more jobs: as many as a queue may have (this host's profile).
+/// How many places the queue has if there are more jobs: as many as a queue may have (this host's profile).
 const MOST_PLACES: usize = 65_536;
 
 /// What is written of networks: what their nodes have externalized, and how long their journals are.
@@ -36,15 +36,15 @@ struct JournalLines {
     lengths: String,
 }
 
-/// Runs what is submitted as jobs of so many workers, 1 to 64, after the slots are opened that are named first,
-/// each with the number of its network, and answers what is printed: what each node has externalized at open
-/// slots, ascending by network, slot and name; the length of each network's journal; and how many jobs were
-/// applied, refused and not run. An error says that memory is short.
+/// Runs what is submitted as jobs of `workers` workers, 1 to 64, after the slots of `opens` are opened, each with the
+/// number of its network. It answers what is printed: what each node has externalized at open slots, ascending by
+/// network, slot and name; the length of each network's journal; and how many jobs were applied, refused and not run.
+/// An error says that it is out of memory.
 ///
-/// All networks have one store of envelopes. The queue has a place for each job, from 1,024 places up to 65,536;
-/// where there are more jobs, the workers do as many as there are places, and then the next. Which order the jobs
-/// take is open. The memory of the journals that were written of is not given back: this is for a process that ends
-/// with the answer.
+/// All networks have one store of envelopes. The queue has a place for each job, from 1,024 places up to 65,536; if
+/// there are more jobs, the workers do as many as there are places, and then the next. Which order the jobs take is
+/// open. The memory of the journals that were written of is not given back: this is for a process that ends with the
+/// answer.
 pub fn run_pool<R: Threads + Wait + Sync + Send + Copy + Drop>(
     rt: &R,
     alloc: Global,
@@ -68,8 +68,7 @@ pub fn run_pool<R: Threads + Wait + Sync + Send + Copy + Drop>(
     write_all(rt, alloc, host, threads, report)
 }
 
-/// The networks, each with so many seats, with their first slots open. As many threads as there are seats open
-/// them.
+/// The networks, each with `seats` seats, with their first slots open. As many threads as there are seats open them.
 fn host_networks<R: Threads + Wait + Sync + Send + Copy + Drop>(
     rt: &R,
     alloc: Global,
@@ -108,7 +107,6 @@ fn by_network(mut opens: Vec<(u32, u64)>) -> Result<Vec<(u32, u64)>, AllocError>
     Ok(opens)
 }
 
-/// The events as jobs, in order.
 fn jobs_of(alloc: Global, calls: Vec<(u32, Event)>) -> Result<Vec<Job>, AllocError>
     ensures { IfOk result (λ jobs. jobs.items ≡ jobs_of calls.items) }
 {
@@ -168,15 +166,15 @@ fn run_turn<R: Threads + Wait + Sync + Send + Drop>(
     Ok(run(rt, host, crew, (queue, passes), &Open))
 }
 
-/// How many places a queue has for so many jobs: a place for each, as far as it can.
+/// How many places a queue has for these jobs: a place for each, as far as it can.
 fn places_for(jobs: usize) -> usize
     ensures { (0 < result) × (result ≤ 65536) }
 {
     jobs.clamp(FEWEST_PLACES, MOST_PLACES)
 }
 
-/// Closes each network, and says, ascending, what became of it, and how many jobs were applied, refused and not
-/// run. So many threads close and write.
+/// Closes each network, and says, ascending, what became of it, and how many jobs were applied, refused and not run.
+/// `threads` threads close and write.
 fn write_all<R: Threads + Wait + Sync + Send + Drop>(
     rt: &R,
     alloc: Global,
@@ -196,8 +194,8 @@ fn write_all<R: Threads + Wait + Sync + Send + Drop>(
     Ok(decided)
 }
 
-/// Closes each network, and writes of it, by so many threads: each half of the networks by half of them, as long as
-/// there are several, and by this one where no other can be started.
+/// Closes each network, and writes of it, by `threads` threads: each half of the networks by half of them, as long as
+/// there are several, and by this one if no other can be started.
 #[cycle(writing)]
 fn write_by<R: Threads + Wait + Sync + Send + Drop>(
     rt: &R,
@@ -231,7 +229,6 @@ fn write_by<R: Threads + Wait + Sync + Send + Drop>(
     Ok(written)
 }
 
-/// What is written of some networks, and then of others.
 fn write_both(first: JournalLines, others: JournalLines) -> Result<JournalLines, AllocError>
     ensures { IfOk result (λ written. (string_bytes written.decided ≡ string_bytes first.decided ++ string_bytes others.decided) × (string_bytes written.lengths ≡ string_bytes first.lengths ++ string_bytes others.lengths)) }
 {
@@ -257,7 +254,8 @@ fn write_alone<R: Wait + Drop>(
     written
 }
 
-/// Closes one network after the other, ascending, and writes of it. The memory of what was written of is not given back.
+/// Closes one network after the other, ascending, and writes of it. The memory of what was written of is not given
+/// back.
 fn write_each<R: Wait + Drop>(
     rt: &R,
     alloc: Global,
@@ -269,15 +267,16 @@ fn write_each<R: Wait + Drop>(
     let mut lengths = String::new(alloc);
     while let Some((journal, _seats)) = host.close_next(rt) {
         let written = write_journal(alloc, &journal, &mut decided, &mut lengths);
-        // Piece by piece, into the heaps of the threads that took them, this cost a quarter of a run of four workers.
+        // To give it back piece by piece, into the heaps of the threads that took it, cost a quarter of a run of four
+        // workers.
         forget(journal);
         written?;
     }
     Ok(JournalLines { decided, lengths })
 }
 
-/// Says of one journal more what its nodes have externalized, and how long it is. Where memory is wanting, a part
-/// may have been added.
+/// Says of one journal more what its nodes have externalized, and how long it is. If it is out of memory, a part may
+/// have been added.
 fn write_journal<S: Shelf>(
     alloc: Global,
     journal: &Journal<S>,

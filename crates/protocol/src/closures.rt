@@ -8,8 +8,8 @@ pub fn closures_are_least()
     ensures { ClosuresAreLeast }
 {}
 
-/// A name is in a closure exactly where it is derived: it is the first name, or a rule gives it whose
-/// sources are all derived.
+/// A name is in a closure exactly if it is derived: it is the first name, or a rule gives it whose sources are all
+/// derived.
 pub fn closures_are_derived()
     ensures { ClosuresAreDerived }
 {}
@@ -20,8 +20,8 @@ pub fn reach_is_least()
     ensures { ReachIsLeast }
 {}
 
-/// A node is reached exactly where a chain leads to it, each next node being named in the slices of
-/// the one before, by the configuration or by a row.
+/// A node is reached exactly if a chain leads to it. Each next node of a chain is named in the slices of the one
+/// before, by the configuration or by a row.
 pub fn reach_follows_chains()
     ensures { ReachFollowsChains }
 {}
@@ -32,9 +32,8 @@ pub fn reach_holds_names()
     ensures { ReachHoldsNames }
 {}
 
-/// The reach of a node stays as it is where a row comes in the place of one with the same slices,
-/// where a row comes whose sender is not reached, and where a sender's first row of a kind comes that
-/// names reached nodes alone.
+/// The reach of a node stays as it is if a row comes in the place of one with the same slices, or one whose sender is
+/// not reached. So it does if a sender's first row of a kind comes that names only reached nodes.
 pub fn reach_stays()
     ensures slices { StaysWithSameSlices }
     ensures strangers { StaysWithStrangers }

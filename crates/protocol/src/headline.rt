@@ -6,11 +6,11 @@ ghost use Rattle.protocol.specs.Isolation.{Isolation, SameClosures};
 ghost use Rattle.protocol.specs.Runs.{JournalsAreRuns, RunsAreJournals};
 ghost use Rattle.protocol.specs.Verdicts.{IsolatedRuns, VerdictsAreUnique, VerdictsExist};
 
-/// For any two host histories, whatever networks, strangers and interleavings they hold: if the
-/// applied steps that concern a network, a slot and the validators reachable from one of its nodes
-/// through its own and announced slices are the same in order, then that node and each hosted
-/// validator that it reaches emit the same statements, arm the same timers and externalize the same
-/// value in both. It holds for every decoder of envelopes, and so for this host's.
+/// This holds for any two host histories, whatever networks, strangers and interleavings they have. It is about a
+/// network, a slot, and the validators that are reachable from one of its nodes through its own and announced slices.
+/// If the applied steps that concern these are the same in order, then that node and each hosted validator that it
+/// reaches emit the same statements in both, arm the same timers and externalize the same value. It holds for every
+/// decoder of envelopes, and so for this host's.
 #[tactic(auto, using(crate::proofs::Runs::Hosts::isolation))]
 pub fn isolation()
     ensures { Isolation }
@@ -53,9 +53,9 @@ pub fn verdicts_are_determined()
     ensures there { VerdictsExist }
 {}
 
-/// Where two worlds host the members of the first one's closure alike, no name twice, and the applied
-/// steps that concern them are the same in order, the closure is the same set of names in both. It
-/// holds for any entries, so for two runs and for a network in two histories.
+/// If two worlds host the members of the first one's closure alike, no name twice, and the applied steps that concern
+/// them are the same in order, the closure is the same set of names in both. It holds for any entries, so for two runs
+/// and for a network in two histories.
 #[tactic(auto, using(crate::proofs::Runs::SameClosures::same_closures))]
 pub fn closures_are_the_same()
     ensures { SameClosures }
@@ -67,11 +67,11 @@ pub fn members_stay_within_closures()
     ensures { PrefixOfWholeRun }
 {}
 
-/// Two networks that agree on a set of names at a slot still do after an applied step of each of which
-/// the same is kept for the set, and each member gives out the same in both: also where a member hears
-/// a member, though each network hands over what its own node emitted. A step of which nothing is kept
-/// leaves the agreement, and members give nothing out. The set stays closed for each network. New
-/// networks with the same members agree, and the closure of a run is closed after each beginning of it.
+/// Two networks that agree on a set of names at a slot still do after an applied step of each, if what is kept of the
+/// steps for the set is the same. Each member then gives out the same in both, also if a member hears a member, though
+/// each network hands over what its own node emitted. A step of which nothing is kept leaves the agreement, and members
+/// give nothing out. The set stays closed for each network. New networks with the same members agree, and the closure
+/// of a run is closed after each beginning of it.
 pub fn networks_agree()
     ensures new { NewNetworksAgree }
     ensures runs { RunsStayClosedIn }

@@ -1,5 +1,5 @@
-//! The protocol's own words: sets of names, satisfaction, quorums and blocking sets, newer statements
-//! and the rows of a table, as definitions in `specs/`, and the theorems that speak of them alone.
+//! The protocol's own words: sets of names, satisfaction, quorums and blocking sets, newer statements and the rows of a
+//! table, as definitions in `specs/`, and the theorems that speak only of them.
 //!
 //! There is no program here. Each function is a law: it does nothing, and its contract is a theorem
 //! about the definitions that every crate above cites.

@@ -5,10 +5,9 @@ ghost use Rattle.protocol.specs.Limits.{NodesAreCalm, SendsWellFormed, TimersAre
 ghost use Rattle.protocol.specs.Reslices.{ReslicesChangeVotes, SameSlicesAreQuiet, SlicesFollowEvents, SlicesFollowRuns};
 ghost use Rattle.protocol.specs.Strangers.{HeldIsClosed, LeadersAreNear, OutsidersAddRows, OutsidersAreQuiet, StrangersAddRows};
 
-/// Each nomination and each ballot statement that a node sends is well formed, whatever events led to
-/// it and whatever rows it has. Nor have more of its ballot timers fired than the counter of its
-/// ballot says, so that their number fits where a counter does; and one more pass would change
-/// nothing, so that a node's votes are at rest between events.
+/// Each nomination and each ballot statement that a node sends is well formed, whatever events led to it and whatever
+/// rows it has. Nor have more of its ballot timers fired than the counter of its ballot says, so their number fits
+/// where a counter does. And one more pass would change nothing, so a node's votes are at rest between events.
 #[tactic(auto, using(crate::proofs::Nodes::Lawful::nodes_are_calm, crate::proofs::Nodes::Lawful::timers_are_counted, crate::proofs::Nodes::Lawful::sends_well_formed))]
 pub fn nodes_send_well_formed()
     ensures calm { NodesAreCalm }
@@ -16,9 +15,9 @@ pub fn nodes_send_well_formed()
     ensures sends { SendsWellFormed }
 {}
 
-/// A node that takes an envelope whose sender it does not reach, and which is no leader of its, has the
-/// row more: nothing else of it changes, and it gives nothing out. Leaders stay when slices change, so a
-/// set that is to be closed for the node has the names of all slices that it has had.
+/// A node that takes an envelope whose sender it does not reach, and which is no leader of its, has one row more:
+/// nothing else of it changes, and it gives nothing out. Leaders stay when slices change, so a set that is to be closed
+/// for the node has the names of all slices that it has had.
 pub fn strangers_add_rows()
     ensures leaders { LeadersAreNear }
     ensures held { HeldIsClosed }
@@ -27,9 +26,8 @@ pub fn strangers_add_rows()
     ensures strangers { StrangersAddRows }
 {}
 
-/// A node has the slices that were given to it last, and in a run those that the run gave it last since
-/// the slot was opened. Beside them, new ones change its votes alone, and those that it has already
-/// change nothing.
+/// A node has the slices that were given to it last, and in a run those that the run gave it last since the slot was
+/// opened. Apart from them, new slices change only its votes, and those that it has already change nothing.
 #[tactic(auto, using(crate::proofs::Networks::SlicesOfRuns::slices_follow_runs, crate::proofs::Nodes::Reslices::slices_follow_events, crate::proofs::Nodes::Reslices::reslices_change_votes, crate::proofs::Nodes::Reslices::same_slices_are_quiet))]
 pub fn slices_follow_events()
     ensures slices { SlicesFollowEvents }
@@ -38,9 +36,9 @@ pub fn slices_follow_events()
     ensures same { SameSlicesAreQuiet }
 {}
 
-/// In a run, what a hosted node emitted last of each kind since its slot was opened is what it would
-/// send now, and it emitted none of a kind where it would send none. So a statement differs from the
-/// last one emitted exactly where it differs from the one that would have been sent before.
+/// In a run, what a hosted node emitted last of each kind since its slot was opened is what it would send now, and it
+/// emitted none of a kind if it would send none. So a statement differs from the last one emitted exactly if it differs
+/// from the one that would have been sent before.
 #[tactic(auto, using(crate::proofs::Sending::LastSent::last_is_sent))]
 pub fn last_emitted_is_sent()
     ensures { LastIsSent }

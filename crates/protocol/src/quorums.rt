@@ -3,8 +3,8 @@
 ghost use Rattle.protocol.specs.Satisfaction.{BlockingIsCounted};
 ghost use Rattle.protocol.specs.Quorums.{QuorumsAreFound, LocalCutsAreQuorums, NestedCutsAreQuorums};
 
-/// A set blocks slices, no set apart from it satisfying them, exactly when counting down the tree
-/// finds fewer members left than the threshold (Mazières 2015, of v-blocking sets).
+/// A set blocks slices if no set apart from it satisfies them. It does so exactly if counting down the tree finds fewer
+/// members left than the threshold (Mazières 2015, of v-blocking sets).
 pub fn blocking_is_counted()
     ensures { BlockingIsCounted }
 {}
@@ -21,7 +21,7 @@ pub fn quorum_cut<Q>()
     ensures { LocalCutsAreQuorums Q }
 {}
 
-/// So it is for nested slices.
+/// What [`quorum_cut`] says, of nested slices.
 pub fn nested_quorum_cut()
     ensures { NestedCutsAreQuorums }
 {}

@@ -6,19 +6,18 @@ ghost use Rattle.protocol.specs.Crowds.{CrowdsAreUnique, CrowdsExist};
 ghost use Rattle.protocol.specs.Submissions.{LengthsFollow, MembersAreNeverCrowdedOut, MembersOfRunsAreNeverCrowdedOut};
 ghost use Rattle.protocol.specs.WithoutRoster.{StaysWithout, StepsWithout};
 
-/// Of two host histories, in which a network has the same roster, equal shares and equal budgets of
-/// open slots: if the closure of one of its nodes in the first has the same hosted members with the
-/// same slices in both and lies in the roster, and the submitted steps that concern it are the same
-/// in order, then so are their replies, refusals included, and what each hosted member gives out. It
-/// holds for every decoder of envelopes, and so for this host's; and for two networks alone, whatever
-/// is submitted to each of them.
+/// Take two host histories, in which a network has the same roster, equal shares and equal budgets of open slots. Let
+/// the closure of one of its nodes in the first have the same hosted members with the same slices in both, and lie in
+/// the roster. If the submitted steps that concern it are the same in order, then so are their replies, refusals
+/// included, and what each hosted member gives out. It holds for every decoder of envelopes, and so for this host's;
+/// and for two single networks, whatever is submitted to each of them.
 pub fn members_are_never_crowded_out()
     ensures histories { MembersAreNeverCrowdedOut }
     ensures runs { MembersOfRunsAreNeverCrowdedOut }
 {}
 
-/// Submitted steps are compared with the lengths of deliveries. Where all spellings of an envelope
-/// have one length, as for this host's decoder, steps that are the same but for these are the same.
+/// Submitted steps are compared with the lengths of deliveries. If all spellings of an envelope have one length, as for
+/// this host's decoder, steps that are the same but for these are the same.
 #[tactic(auto, using(crate::proofs::Crowds::Lengths::lengths_follow))]
 pub fn lengths_follow_from_envelopes()
     ensures { LengthsFollow }
@@ -40,10 +39,9 @@ pub fn without_roster_nothing_changes()
     ensures stays { StaysWithout }
 {}
 
-/// What a network counts follows from its journal: on its budgets, and on openings and closings, what
-/// drew on them over its life; on a share, what drew on it since its slot was opened. A refusal for
-/// want of room says that what the step draws on is used up, and what is applied found room; so no
-/// more is ever drawn than there is.
+/// What a network counts follows from its journal: on its budgets, and on openings and closings, what drew on them over
+/// its life; on a share, what drew on it since its slot was opened. A refusal for lack of room says that what the step
+/// draws on is used up, and what is applied found room; so no more is ever drawn than there is.
 #[tactic(auto, using(crate::proofs::Networks::Counts::runs_are_counted, crate::proofs::Networks::Drawn::steps_are_counted, crate::proofs::Networks::Refusals::refused_where_met, crate::proofs::Networks::Refusals::applied_where_room))]
 pub fn room_is_counted()
     ensures runs { RunsAreCounted }

@@ -24,13 +24,13 @@ pub fn newer_is_strict()
     ensures along { (s t r : Statement) → is_newer s t ≡ true → is_newer t r ≡ true → is_newer s r ≡ true }
 {}
 
-/// Where a sender's row is an EXTERNALIZE, no offers change it.
+/// If a sender's row is an EXTERNALIZE, no offers change it.
 pub fn externalize_stays()
     ensures { (offers table : List Sent) (u : ℕ) (k : Kind) (e : Sent) → is_externalize e.body ≡ true → row table u k ≡ Some e → row (table_with_offers table offers) u k ≡ Some e }
 {}
 
-/// An offer changes at most the row of its own sender and kind. There the envelope stands after it
-/// exactly where the table takes it.
+/// An offer changes at most the row of its own sender and kind. There the envelope stands after it exactly if the table
+/// takes it.
 pub fn offers_change_one_row()
     ensures own { (table : List Sent) (e : Sent) → row (table_with_offer table e) e.sender (kind_of e.body) ≡ (if is_taken table e then Some e else row table e.sender (kind_of e.body)) }
     ensures other { (table : List Sent) (e : Sent) (u : ℕ) (k : Kind) → is_row_of u k e ≡ false → row (table_with_offer table e) u k ≡ row table u k }
@@ -41,9 +41,9 @@ pub fn rows_are_single()
     ensures { (taken : List Sent) → has_single_rows (table_after taken) ≡ true }
 {}
 
-/// The rows of a table follow from the whole list of envelopes that were offered to it: for ballots,
-/// the sender's first EXTERNALIZE, else the first of its greatest statements; for nominations, the
-/// last that was newer than the row standing before it.
+/// The rows of a table follow from the whole list of envelopes that were offered to it. For ballots, it is the sender's
+/// first EXTERNALIZE, else the first of its greatest statements. For nominations, it is the last that was newer than
+/// the row before it.
 pub fn rows_follow_from_all_offers()
     ensures rows { (taken : List Sent) (u : ℕ) (k : Kind) → row (table_after taken) u k ≡ row_of taken u k }
     ensures one_more { (taken : List Sent) (e : Sent) → table_after (taken ++ e ∷ []) ≡ table_with_offer (table_after taken) e }

@@ -10,7 +10,7 @@ use std::alloc::AllocError;
 use std::fmt::Write;
 
 /// How many events, delivered bytes and open slots the budgets of a network still allow, and how many openings and
-/// closings its roster; none where it has no roster.
+/// closings its roster; none if it has no roster.
 #[derive(Clone, Copy, Debug, PartialEq, Eq)]
 pub struct Left {
     pub events: u64,
@@ -49,8 +49,8 @@ pub fn all_left(outline: &Outline) -> Left
     }
 }
 
-/// Adds the line of what is left of a network: the number of the line that is answered and that of the network, and then
-/// `events`, `bytes`, `slots` and `opens`, a number behind each.
+/// Adds the line of what is left of a network: the number of the line that is answered and that of the network, and
+/// then `events`, `bytes`, `slots` and `opens`, a number behind each.
 pub fn push_left(text: &mut String, line: u64, network: u32, left: Left) -> Result<(), AllocError>
     ensures { OnOk result (string_bytes text.new ≡ string_bytes text.old ++ left_line line network left) }
 {
@@ -68,7 +68,7 @@ pub fn push_left(text: &mut String, line: u64, network: u32, left: Left) -> Resu
     text.push('\n')
 }
 
-/// Adds a number, or `-` where there is none.
+/// Adds a number, or `-` if there is none.
 fn push_opens(text: &mut String, opens: Option<u64>) -> Result<(), AllocError>
     ensures { OnOk result (string_bytes text.new ≡ string_bytes text.old ++ text_of_opens opens) }
 {

@@ -1,7 +1,7 @@
 //! What a live host prints of a network that it is asked about: what a node is at a slot, and what is left of budgets
 //! (this host's profile).
 //!
-//! [`push_node`] adds the lines of a node, and [`push_left`] the line of what is left. Where memory is wanting, a part
+//! [`push_node`] adds the lines of a node, and [`push_left`] the line of what is left. If it is out of memory, a part
 //! may have been added.
 #![tactic(auto)]
 

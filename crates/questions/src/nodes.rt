@@ -16,8 +16,8 @@ use std::alloc::{AllocError, Global};
 use std::fmt::Write;
 use types::{NodeId, SharedValues, Value, Votes};
 
-/// What the lines of a node begin with, up to its name: the number of the line that is answered, that of the network, and
-/// the slot.
+/// What the lines of a node begin with, up to its name: the number of the line that is answered, that of the network,
+/// and the slot.
 #[derive(Clone, Copy)]
 pub(crate) struct Place {
     pub line: u64,
@@ -25,8 +25,8 @@ pub(crate) struct Place {
     pub slot: u64,
 }
 
-/// Adds the lines of a node at a slot: how far it is, the values that it votes for, accepts and confirms, the rows of its
-/// table, and the names of its slices that have none.
+/// Adds the lines of a node at a slot: how far it is, the values that it votes for, accepts and confirms, the rows of
+/// its table, and the names of its slices that have no row.
 pub fn push_node<S: Shelf>(
     alloc: Global,
     text: &mut String,

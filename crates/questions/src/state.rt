@@ -10,7 +10,7 @@ use std::alloc::AllocError;
 use std::fmt::Write;
 use types::{Ballot, Phase, Votes};
 
-/// Adds how far a node is: its phase and ballots, and how often its timers were armed and fired.
+/// Adds how far a node is: its phase and ballots, its round of nomination, and its ballot timers.
 pub(crate) fn push_state_words(text: &mut String, node: &Node) -> Result<(), AllocError>
     ensures { OnOk result (string_bytes text.new ≡ string_bytes text.old ++ text_of_state node.now.node) }
 {
@@ -33,7 +33,8 @@ fn push_prepared(text: &mut String, votes: &Votes) -> Result<(), AllocError>
     write!(text, " aborted {aborted}")
 }
 
-/// Adds the highest ballot that is confirmed as prepared, the one whose commit is voted for, and the interval.
+/// Adds the highest ballot that is confirmed as prepared, the one from which on commits are voted for, and the
+/// interval.
 fn push_committed(text: &mut String, votes: &Votes) -> Result<(), AllocError>
     ensures { OnOk result (string_bytes text.new ≡ string_bytes text.old ++ text_of_committed votes.now) }
 {
@@ -45,7 +46,7 @@ fn push_committed(text: &mut String, votes: &Votes) -> Result<(), AllocError>
     push_interval(text, votes)
 }
 
-/// Adds the round of nomination, the counter for which the ballot timer was last armed, and how many of these have fired.
+/// Adds the round of nomination, the counter for which the ballot timer was last armed, and how many of these fired.
 fn push_timers(text: &mut String, node: &Node) -> Result<(), AllocError>
     ensures { OnOk result (string_bytes text.new ≡ string_bytes text.old ++ text_of_timers node.now.node) }
 {
@@ -55,7 +56,6 @@ fn push_timers(text: &mut String, node: &Node) -> Result<(), AllocError>
     write!(text, " round {round} armed {armed} fired {fired}")
 }
 
-/// Adds the word of a phase.
 fn push_phase(text: &mut String, phase: Phase) -> Result<(), AllocError>
     ensures { OnOk result (string_bytes text.new ≡ string_bytes text.old ++ text_of_phase phase) }
 {
@@ -66,7 +66,7 @@ fn push_phase(text: &mut String, phase: Phase) -> Result<(), AllocError>
     }
 }
 
-/// Adds a ballot, or `-` where there is none.
+/// Adds a ballot, or `-` if there is none.
 fn push_optional(text: &mut String, ballot: &Option<Ballot>) -> Result<(), AllocError>
     ensures { OnOk result (string_bytes text.new ≡ string_bytes text.old ++ text_of_optional ballot.now) }
 {
@@ -76,7 +76,8 @@ fn push_optional(text: &mut String, ballot: &Option<Ballot>) -> Result<(), Alloc
     }
 }
 
-/// Adds the ballot whose commit is voted for or, once it is externalized, that of the least counter of the interval.
+/// Adds the ballot from which on commits are voted for or, once it is externalized, that of the least counter of the
+/// interval.
 fn push_commit(text: &mut String, votes: &Votes) -> Result<(), AllocError>
     ensures { OnOk result (string_bytes text.new ≡ string_bytes text.old ++ text_of_commit votes.now.phase votes.now) }
 {
@@ -86,7 +87,7 @@ fn push_commit(text: &mut String, votes: &Votes) -> Result<(), AllocError>
     }
 }
 
-/// Adds the ballot of a counter and of the value of a ballot, or `-` where there is none.
+/// Adds the ballot of a counter and of the value of a ballot, or `-` if there is none.
 fn push_with_counter(
     text: &mut String,
     counter: u32,

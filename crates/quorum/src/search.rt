@@ -1,6 +1,6 @@
 //! The search for a quorum: nodes are taken away until the slices of all that are left are satisfied.
 //!
-//! Where a function here answers an error, memory is short.
+//! An error of a function here says that it is out of memory.
 
 ghost use Rattle.std.specs.Prelude.{◌≡◌, IfOk, IsTrue, ◌↔◌, filter};
 ghost use Rattle.protocol.specs.Sets.{among, IsAscending};
@@ -33,8 +33,8 @@ pub fn in_quorum<S: SlicesOf>(
     }
 }
 
-/// The same, where a region holds the node and all names of its members' slices: no supporter
-/// outside the region is looked at, and the answer is still that over all of them.
+/// What [`in_quorum`] answers, if a region holds the node and all names of its members' slices: no supporter outside
+/// the region is looked at, and the answer is still that over all of them.
 ///
 /// Supporters and region are ascending, none twice.
 pub fn in_quorum_within<S: SlicesOf>(

@@ -1,6 +1,6 @@
 //! Envelopes that leave a reach as it is.
 //!
-//! Where a function here answers an error, memory is short.
+//! An error of a function here says that it is out of memory.
 
 ghost use Rattle.std.specs.Prelude.{◌≡◌, ◌↔◌, ◌||◌, ℕ, IfOk, IsTrue, List, Some, option_map};
 ghost use Rattle.types.specs.Trees.{Slices};
@@ -17,10 +17,10 @@ use slices::{SliceFamily, is_among};
 use std::alloc::{AllocError, Global};
 use types::{Envelope, Nested, NodeId, push_names};
 
-/// Whether a reach surely stays as it is where the table takes the envelope: the sender is not in it,
-/// or the sender's row of that kind has the same slices. It takes no memory.
+/// Whether a reach surely stays as it is once the table takes the envelope: the sender is not in it, or the sender's
+/// row of that kind has the same slices. It takes no memory.
 ///
-/// Where the answer is no, the reach may be another one: slices may name more nodes, or fewer.
+/// If the answer is no, the reach may be another one: slices may name more nodes, or fewer.
 pub fn keeps_reach<S: Places>(reach: &[NodeId], table: &Rows<'_, S>, envelope: &Envelope) -> bool
     requires { IsAscending reach.now }
     ensures exactly { IsTrue result ↔ KeepsReach reach.now table.now envelope.now }
@@ -41,12 +41,13 @@ fn has_slices(row: Option<&Envelope>, slices: &Nested) -> bool
     }
 }
 
-/// Whether the envelope drops no name of the sender's row of that kind but such as the node reaches by
-/// itself: each name of that row is in the envelope's slices too, or is the node or a name of its configured
-/// slices. So it is where there is no such row.
+/// Whether the envelope drops no name of the sender's row of that kind but such as the node reaches by itself: each
+/// name of that row is in the envelope's slices too, or is the node or a name of its configured slices. It drops none
+/// if there is no such row.
 ///
-/// An envelope that drops none and names reached nodes alone leaves the reach as it is where the table takes
-/// it; one that drops none and is of a reached node adds to it whom it leads to. It costs some searches by name, however many rows there are.
+/// An envelope that drops none and names only reached nodes leaves the reach as it is once the table takes it. One that
+/// drops none and is of a reached node adds to the reach whom it leads to. The answer costs some searches by name,
+/// however many rows there are.
 #[tactic(auto, using(crate::proofs::Dropped::none_dropped, crate::proofs::Dropped::dropped_found, crate::proofs::Dropped::reach_stays))]
 pub fn drops_none<S: Places>(
     alloc: Global,
@@ -86,7 +87,7 @@ fn keeps_names(
     Ok(are_in_either(&old_names, &new_names, node, &own_names))
 }
 
-/// Whether each of the names is in one of the two sets, or is the node.
+/// Whether each of the names is in `new` or `own`, or is the node.
 fn are_in_either(names: &[NodeId], new: &[NodeId], node: &NodeId, own: &[NodeId]) -> bool
     requires new { IsAscending new.now }
     requires own { IsAscending own.now }
@@ -100,7 +101,7 @@ fn are_in_either(names: &[NodeId], new: &[NodeId], node: &NodeId, own: &[NodeId]
     true
 }
 
-/// Whether a name is in one of the two sets, or is the node.
+/// Whether a name is in `new` or `own`, or is the node.
 fn is_in_either(name: &NodeId, new: &[NodeId], node: &NodeId, own: &[NodeId]) -> bool
     requires new { IsAscending new.now }
     requires own { IsAscending own.now }

@@ -1,7 +1,7 @@
 //! Whom a node reaches: the nodes that its slices name, those that their slices name, and so on, as far as
 //! the rows of a table tell (this host's profile).
 //!
-//! What a node concludes from its table rests on the rows of these nodes alone. Rows of strangers
+//! What a node concludes from its table rests only on the rows of these nodes and of its leaders. Rows of strangers
 //! stay in the table, since their senders may be reached later.
 #![tactic(auto)]
 

@@ -1,6 +1,6 @@
 //! The reach of a node in one table.
 //!
-//! Where a function here answers an error, memory is short.
+//! An error of a function here says that it is out of memory.
 
 ghost use Rattle.std.specs.Prelude.{ℕ, IfOk, OnOk, option_map};
 ghost use Rattle.types.specs.Trees.{Slices};
@@ -42,7 +42,7 @@ pub fn reach<S: Places>(
 
 /// All nodes that a node reaches, as [`reach`] finds them, of whom most may be among known nodes.
 ///
-/// Rows of known nodes are read where they stand, and looked up of others alone. What is found of the known nodes is
+/// Rows of known nodes are read where they stand, and looked up only of others. What is found of the known nodes is
 /// marked at their places, and only other nodes' names are kept in order.
 pub fn reach_among<S: Places>(
     alloc: Global,
@@ -65,10 +65,10 @@ pub fn reach_among<S: Places>(
     Ok(nodes)
 }
 
-/// All nodes that a node reaches, as [`reach`] finds them, where it reaches these, ascending, and the rows of none of
-/// them but the sender name others.
+/// All nodes that a node reaches, as [`reach`] finds them, if it reaches `nodes`, ascending, and of these only the
+/// sender has rows that name others.
 ///
-/// Rows are looked at of the sender and of those alone who are reached besides: what it costs more is one pass over a
+/// Only rows of the sender and of those who are reached besides are looked at; beyond that it costs one pass over a
 /// list of all.
 pub fn wider_reach<S: Places>(
     alloc: Global,

@@ -1,6 +1,6 @@
 //! A search for the nodes that a node reaches, of whom most are known from an earlier one.
 //!
-//! Where a function here answers an error, memory is short.
+//! An error of a function here says that it is out of memory.
 
 ghost use Rattle.std.specs.Prelude.{◌≡◌, ◌<◌, ◌||◌, ℕ, IfOk, MatchOption, OnOk, false, get_or, length, option_map};
 ghost use Rattle.types.specs.declared.kind.Kind.{Kind};
@@ -107,7 +107,6 @@ impl<'a> Search<'a> {
         self.note_row(alloc, rows.ballot)
     }
 
-    /// Finds the names in a row, if there is one.
     fn note_row(&mut self, alloc: Global, row: Option<&Envelope>) -> Result<(), AllocError>
         requires { IsSearch self.old }
         ensures { OnOk result (Finds self.old self.new (names_in_row (option_map (λ r. r.now) row.entry))) }
@@ -118,7 +117,7 @@ impl<'a> Search<'a> {
         }
     }
 
-    /// Takes a pending node, if there is one: its rows.
+    /// Takes a pending node, if there is one, and answers its rows.
     pub fn take<'t, S: Places>(&mut self, table: &Rows<'t, S>) -> Option<SenderRows<'t>>
         requires known { AreKnown table.now self.old.known }
         requires search { IsSearch self.old }
@@ -182,7 +181,7 @@ fn marked_nodes(alloc: Global, nodes: &[NodeId], marks: &[bool]) -> Result<Vec<N
     Ok(picked)
 }
 
-/// Two ascending lists of other nodes each, as one.
+/// Two ascending lists without a common node, as one.
 pub(crate) fn join(nodes: Vec<NodeId>, others: &[NodeId]) -> Result<Vec<NodeId>, AllocError>
     requires nodes { IsAscending nodes.items }
     requires others { IsAscending others.now }

@@ -10,8 +10,8 @@ use std::collections::BTreeSet;
 use std::marker::Model;
 use types::NodeId;
 
-/// The nodes that were found, and those of them whose rows were not looked at yet. To find a name among the
-/// first, and to add one, takes a number of steps that is logarithmic in how many there are.
+/// The nodes that were found, and those of them whose rows were not looked at yet. To find a name among the first, and
+/// to add one, takes a number of steps that is logarithmic in their number.
 #[derive(Drop)]
 pub struct Sweep {
     found: BTreeSet<NodeId>,
@@ -64,7 +64,6 @@ impl Sweep {
         Ok(())
     }
 
-    /// Notes a node that is not known already.
     fn note_unknown(&mut self, node: &NodeId, known: &[NodeId]) -> Result<(), AllocError>
         requires found { IsAscending self.old.found }
         requires known { IsAscending known.now }
@@ -83,7 +82,7 @@ impl Sweep {
         self.pending.pop()
     }
 
-    /// All that was found. An error says that memory is short.
+    /// All that was found, ascending. An error says that it is out of memory.
     pub fn nodes(&self, alloc: Global) -> Result<Vec<NodeId>, AllocError>
         ensures { IfOk result (λ v. v.items ≡ self.now.found) }
     {

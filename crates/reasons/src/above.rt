@@ -12,7 +12,7 @@ pub(crate) struct Seen {
     pub is_declared: bool,
     /// It is declared as served.
     pub is_served: bool,
-    /// An event has named it.
+    /// An event or a `settle` line has named it.
     pub is_named: bool,
     /// How many nodes it has.
     pub nodes: usize,
@@ -31,7 +31,7 @@ pub(crate) fn seen_in(lines: &[u8], number: &[u8], name: &[u8]) -> Seen {
     seen
 }
 
-/// No line has named the network, and so many declare networks.
+/// No line has named the network, and `nets` lines declare networks.
 fn nothing(nets: usize) -> Seen {
     Seen {
         nets,
@@ -44,7 +44,6 @@ fn nothing(nets: usize) -> Seen {
     }
 }
 
-/// What one line more says.
 fn seen_with(seen: Seen, line: &[u8], number: &[u8], name: &[u8]) -> Seen {
     if matches!(line, [] | [b'#', ..]) {
         return seen;

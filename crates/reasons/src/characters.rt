@@ -2,7 +2,8 @@
 
 ghost use Rattle.std.specs.Prelude.{◌+◌, ◌<◌, ◌≤◌, IfSome, length};
 
-/// The place of the first character that is wrong, from 0 on, and why.
+/// The place of a wrong character, counted from 0, and why: of the first that no line has, or else of the first loose
+/// space.
 pub(crate) fn character_fault(line: &[u8]) -> Option<(usize, &'static str)>
     ensures { IfSome result (λ r. r.0 < length line.now) }
 {
@@ -18,7 +19,6 @@ pub(crate) fn character_fault(line: &[u8]) -> Option<(usize, &'static str)>
     }
 }
 
-/// Which characters a line has.
 fn allowed_in(line: &[u8]) -> &'static str {
     if is_comment(line) {
         "a comment has ASCII characters alone"
@@ -27,7 +27,7 @@ fn allowed_in(line: &[u8]) -> &'static str {
     }
 }
 
-/// The place of the first byte that no line has; a comment has any that is ASCII.
+/// The place of the first byte that no line has; a comment may have any that is ASCII.
 fn strange_byte(line: &[u8]) -> Option<usize>
     ensures { IfSome result (λ place. place < length line.now) }
 {
@@ -55,13 +55,12 @@ fn loose_space(line: &[u8]) -> Option<usize>
     None
 }
 
-/// Whether the line begins with `#`.
 fn is_comment(line: &[u8]) -> bool {
     matches!(line, [b'#', ..])
 }
 
-/// At which byte, counted from 1, the word of a line with a number begins, counted from 0. Where there are fewer words it
-/// is one past the last byte.
+/// At which byte of a line, counted from 1, its word of this number begins, counted from 0. If there are fewer words,
+/// it is one past the last byte.
 pub(crate) fn column_of(line: &[u8], word: usize) -> usize
     ensures first { 0 < result }
     ensures last { result ≤ length line.now + 1 }

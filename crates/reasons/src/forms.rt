@@ -2,7 +2,7 @@
 
 use crate::Kind;
 
-/// The form of the lines of a kind that begin with these words; `None` where there are no such lines.
+/// The form of the lines of a kind that begin with these words; `None` if there are no such lines.
 pub(crate) fn form_of(kind: Kind, words: &[&[u8]]) -> Option<&'static str> {
     let [first, ..] = words else {
         return None;
@@ -31,7 +31,6 @@ pub(crate) fn known_words(kind: Kind) -> &'static str {
     }
 }
 
-/// The form of the lines of a table file that begin with this word.
 fn form_of_table(first: &[u8]) -> Option<&'static str> {
     match first {
         b"self" => Some("self NAME SLOT SLICES"),
@@ -44,7 +43,6 @@ fn form_of_table(first: &[u8]) -> Option<&'static str> {
     }
 }
 
-/// The form of the lines of a live host that begin with these words.
 fn form_of_live(words: &[&[u8]], first: &[u8]) -> Option<&'static str> {
     match first {
         b"net" => Some("net N events E bytes B slots S served"),
@@ -54,7 +52,6 @@ fn form_of_live(words: &[&[u8]], first: &[u8]) -> Option<&'static str> {
     }
 }
 
-/// The form of the lines of a script that begin with these words.
 fn form_of_script(words: &[&[u8]], first: &[u8]) -> Option<&'static str> {
     match first {
         b"net" if has_word(words, 8, b"served") => Some("net N events E bytes B slots S served"),

@@ -1,8 +1,8 @@
 //! Why a line is bad, in words for whoever wrote it.
 //!
-//! What runs lines says of one only that it is bad. [`reason_of`] looks at that line again, and at those above it if they
-//! were kept, and says at which byte it is bad and why. The rules are those of the readers in `scripts`; which words a line
-//! has is said by its form, as `open N I`, which is also what the user is shown.
+//! What runs lines says of one only that it is bad. [`reason_of`] looks at that line again, and at those above it if
+//! they were kept, and says at which byte it is bad and why. The rules are those of the readers in `scripts`; which
+//! words a line has is said by its form, as `open N I`, which is also what the user is shown.
 #![tactic(auto)]
 
 ghost use Rattle.std.specs.Prelude.{◌+◌, ◌<◌, ◌≤◌, IfOk, length};
@@ -41,15 +41,15 @@ pub enum Kind {
 /// Why a line is bad.
 #[derive(Drop)]
 pub struct Reason {
-    /// At which of its bytes, counted from 1. It is one past the last where something is missing.
+    /// At which of its bytes, counted from 1. It is one past the last if something is missing.
     pub column: usize,
     /// Why, in words.
     pub text: String,
 }
 
 /// Why a line is bad that stands below these lines, each of them with its line feed and none of them bad. Without them
-/// (`None`: they were not kept) it says what may be. Of a line that is not bad it says nothing of use. An error says that
-/// memory is short.
+/// (`None`: they were not kept) it says what may be. Of a line that is not bad it says nothing of use. An error says
+/// that it is out of memory.
 pub fn reason_of(
     alloc: Global,
     kind: Kind,

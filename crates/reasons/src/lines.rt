@@ -2,7 +2,8 @@
 
 ghost use Rattle.std.specs.Prelude.{◌<◌, IfSome, length};
 
-/// The line with a number, counted from 1, of a text, and all that stands above it.
+/// All that stands above the line of a number, counted from 1, in a text, and that line without its line feed. `None`
+/// if the text has fewer lines.
 pub fn line_at(text: &[u8], number: usize) -> Option<(&[u8], &[u8])> {
     let mut start = 0;
     let mut left = number;
@@ -29,7 +30,6 @@ pub(crate) fn cut_word(text: &[u8]) -> (&[u8], &[u8]) {
     }
 }
 
-/// The place of the first space.
 fn space_in(text: &[u8]) -> Option<usize>
     ensures { IfSome result (λ place. place < length text.now) }
 {

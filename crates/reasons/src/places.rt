@@ -7,11 +7,11 @@ use crate::texts::{Fault, filled};
 use configuration::MAX_NODES;
 use std::alloc::{AllocError, Global};
 
-/// How many networks are declared at a time.
+/// The most networks that are declared at a time.
 const MAX_NETWORKS: usize = 4096;
 
-/// The word that is wrong wherever the line stands in a text of this kind, and why. A line of a table that has its form is
-/// bad by its place alone.
+/// The word that is wrong wherever the line stands in a text of this kind, and why. A line of a table that has its form
+/// is bad only by its place.
 pub(crate) fn fault_of_kind(kind: Kind, words: &[&[u8]]) -> Option<(usize, &'static str)> {
     let [first, ..] = words else {
         return None;
@@ -41,7 +41,7 @@ pub(crate) fn fault_of_kind(kind: Kind, words: &[&[u8]]) -> Option<(usize, &'sta
     }
 }
 
-/// The text, at the word that lines of served networks alone have.
+/// The text, at the word that only lines of served networks have.
 fn at_served(words: &[&[u8]], first: &[u8], text: &'static str) -> Option<(usize, &'static str)> {
     match first {
         b"drop" => Some((0, text)),
@@ -78,7 +78,7 @@ pub(crate) fn fault_of_place(
     }
 }
 
-/// What may be wrong with a line that begins with this word.
+/// What may be wrong with a line that begins with this word, if the lines above it were not kept.
 fn text_unseen(first: &[u8], for_all: bool) -> Option<&'static str> {
     match first {
         b"net" => Some("network % is declared already, or 4,096 networks are"),
@@ -116,7 +116,6 @@ fn text_seen(seen: &Seen, first: &[u8], for_all: bool) -> Option<&'static str> {
     }
 }
 
-/// What is wrong with a line that declares a network.
 fn text_of_net(seen: &Seen) -> Option<&'static str> {
     match seen.is_declared {
         true => Some("network % is declared above already"),

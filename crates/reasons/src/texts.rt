@@ -5,13 +5,12 @@ use std::alloc::{AllocError, Global};
 /// What is wrong with a line.
 #[derive(Drop)]
 pub(crate) struct Fault {
-    /// Which of its words is wrong, counted from 0; as many as it has where one is missing.
+    /// Which of its words is wrong, counted from 0; the count of its words if one is missing.
     pub word: usize,
     /// Why.
     pub text: String,
 }
 
-/// This is said of a word.
 pub(crate) fn fault_at(alloc: Global, word: usize, text: &str) -> Result<Fault, AllocError> {
     Ok(Fault {
         word,
@@ -19,7 +18,7 @@ pub(crate) fn fault_at(alloc: Global, word: usize, text: &str) -> Result<Fault, 
     })
 }
 
-/// This is said of a word, with the form of its line behind it. `@` in the text stands for the other word.
+/// This is said of a word, with the form of its line behind it. `@` in the text stands for `other`.
 pub(crate) fn fault_of(
     alloc: Global,
     word: usize,

@@ -10,7 +10,7 @@ use scripts::{
 use std::alloc::{AllocError, Global};
 use types::{Statement, is_ascending};
 
-/// The fault of the first word that is wrong, missing or too many in a line of this form.
+/// The fault of the first word that is wrong, missing or one too many in a line of this form.
 pub(crate) fn fault_of_words(
     alloc: Global,
     form: &str,
@@ -46,7 +46,7 @@ fn is_fixed(wanted: &[u8]) -> bool {
     matches!(wanted, [b'a'..=b'z' | b'*', ..])
 }
 
-/// Whether a word is one that may stand where a form has this word behind that one.
+/// Whether `word` may stand where a form has `wanted` behind `before`.
 fn is_right(alloc: Global, before: &[u8], wanted: &[u8], word: &[u8]) -> Result<bool, AllocError> {
     match wanted {
         b"N" | b"R" | b"C" => Ok(counter_of(word).is_some()),
@@ -64,7 +64,7 @@ fn is_right(alloc: Global, before: &[u8], wanted: &[u8], word: &[u8]) -> Result<
     }
 }
 
-/// What may stand where a form has this word behind that one.
+/// What may stand where a form has `wanted` behind `before`.
 fn rule_of(before: &[u8], wanted: &[u8]) -> &'static str {
     match wanted {
         b"N" => "a network is a number below 2^32, without zeros in front",
@@ -97,7 +97,7 @@ fn rule_of(before: &[u8], wanted: &[u8]) -> &'static str {
     }
 }
 
-/// Whether there is a number that a budget or a share behind this word may be.
+/// Whether there is a number, and a budget or a share behind `before` may be that.
 fn is_share(before: &[u8], number: Option<u64>) -> bool {
     match number {
         None => false,
@@ -106,7 +106,6 @@ fn is_share(before: &[u8], number: Option<u64>) -> bool {
     }
 }
 
-/// Whether a word is bytes that may be proposed.
 fn is_proposal(alloc: Global, word: &[u8]) -> Result<bool, AllocError> {
     match word {
         [b'#', digits @ ..] => Ok(digits_of(alloc, digits)?.is_some()),
@@ -114,7 +113,6 @@ fn is_proposal(alloc: Global, word: &[u8]) -> Result<bool, AllocError> {
     }
 }
 
-/// Whether a word is the names of a roster.
 fn is_roster(alloc: Global, word: &[u8]) -> Result<bool, AllocError> {
     let mut names = Vec::new(alloc);
     for name in word.split(|byte| *byte == b',') {
@@ -142,7 +140,6 @@ fn broken_by(
     }
 }
 
-/// The rules of a statement's kind.
 fn rules_of(statement: &Statement) -> &'static str {
     match statement {
         Statement::Nominate { .. } => {

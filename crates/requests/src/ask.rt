@@ -11,7 +11,7 @@ use scripts::{counter_of, name_of, number_of};
 use std::alloc::{AllocError, Global};
 use types::{Bytes, Event, NodeId};
 
-/// What a line asks of a live host, of the network of a number.
+/// What a line asks of a live host, of the network that it names.
 #[derive(Drop)]
 pub enum Ask {
     /// The network, or something of it, is declared.
@@ -28,8 +28,8 @@ pub enum Ask {
     Show(u64, NodeId),
 }
 
-/// The number of the network that a line names, and what it asks for; `None` where it has none of the forms, so that it is
-/// bad. An error says that memory is short.
+/// The number of the network that a line names, and what it asks for. It is `None` if the line has none of the forms,
+/// and so is bad. An error says that it is out of memory.
 pub fn ask_of(alloc: Global, fields: &[&[u8]]) -> Result<Option<(u32, Ask)>, AllocError>
     ensures { IfOk result (IsAsked (map (λ field. field.now) fields.now)) }
 {
@@ -53,7 +53,6 @@ fn net(alloc: Global, fields: &[&[u8]]) -> Result<Option<(u32, Ask)>, AllocError
     }
 }
 
-/// What a line asks for whose last word is this one, and that has these before it.
 fn served_net(
     alloc: Global,
     last: &[u8],
@@ -68,7 +67,6 @@ fn served_net(
     }
 }
 
-/// A line of scripts that is none of those which hand on what was emitted.
 fn of_script(alloc: Global, fields: &[&[u8]]) -> Result<Option<(u32, Ask)>, AllocError>
     ensures { IfOk result (IsOfScript asked_by (map (λ field. field.now) fields.now)) }
 {
@@ -78,7 +76,7 @@ fn of_script(alloc: Global, fields: &[&[u8]]) -> Result<Option<(u32, Ask)>, Allo
     }
 }
 
-/// What a request asks of a live host: whoever hears what was emitted, does without a line.
+/// `hear` and `settle` lines ask for nothing: in a live host the other nodes hear emissions without a line.
 fn ask_by(number: u32, request: Request) -> Option<(u32, Ask)>
     ensures { result ≡ asked_by (number, request) }
 {
@@ -103,7 +101,7 @@ fn for_all(alloc: Global, fields: &[&[u8]]) -> Result<Option<(u32, Ask)>, AllocE
     delivered(alloc, named.as_slice())
 }
 
-/// These words with a name behind the second.
+/// The line with the name `A` in place of the star, so that it is read as a line to one node.
 fn named<'a>(
     alloc: Global,
     word: &'a [u8],
@@ -130,7 +128,6 @@ fn delivered(alloc: Global, fields: &[&[u8]]) -> Result<Option<(u32, Ask)>, Allo
     }
 }
 
-/// The bytes of a delivery, for all nodes.
 fn for_all_by(number: u32, request: Request) -> Option<(u32, Ask)>
     ensures { result ≡ for_all_by (number, request) }
 {
@@ -179,7 +176,6 @@ fn show_in(fields: &[&[u8]]) -> Option<(u32, Ask)>
     }
 }
 
-/// The node of these words at their slot is to be shown, of the network of a number.
 fn shown(number: u32, slot: &[u8], node: &[u8]) -> Option<(u32, Ask)>
     ensures { result ≡ shown_of number slot.now node.now }
 {

@@ -11,7 +11,6 @@ use scripts::{
 use std::alloc::{AllocError, Global};
 use types::{Bytes, Envelope, Event, Kind, NodeId, Statement};
 
-/// The event that a line of this kind asks for, by its fields after the number of the network.
 pub(crate) fn event_of(
     alloc: Global,
     verb: EventVerb,
@@ -58,8 +57,8 @@ fn close(fields: &[&[u8]]) -> Option<Event>
     }
 }
 
-/// `I NAME VALUE`: the node is to propose the bytes of the value, whose number the network tests where they
-/// are written as digits.
+/// `I NAME VALUE`: the node is to propose these bytes. If they are written as digits, the network tests how many they
+/// are.
 fn propose(alloc: Global, fields: &[&[u8]]) -> Result<Option<Event>, AllocError>
     ensures { IfOk result (λ o. o ≡ proposal_in (map (λ field. field.now) fields.now)) }
 {
@@ -128,7 +127,6 @@ fn say(alloc: Global, fields: &[&[u8]]) -> Result<Option<Event>, AllocError>
     }
 }
 
-/// The bytes of the envelope of these words.
 fn envelope_bytes(
     alloc: Global,
     from: &[u8],
@@ -210,7 +208,6 @@ fn emission_of(from: &[u8], kind: &[u8], number: &[u8]) -> Option<(NodeId, Kind,
     }
 }
 
-/// The kind of an emission that a word names.
 fn kind_of(word: &[u8]) -> Option<Kind>
     ensures { result ≡ kind_in word.now }
 {
@@ -273,7 +270,6 @@ fn reslice(alloc: Global, fields: &[&[u8]]) -> Result<Option<Event>, AllocError>
     }
 }
 
-/// The slot and the node that words name.
 fn slot_and_node_in(slot: &[u8], node: &[u8]) -> Option<(u64, NodeId)>
     ensures { result ≡ slot_and_node_in slot.now node.now }
 {
@@ -286,7 +282,7 @@ fn slot_and_node_in(slot: &[u8], node: &[u8]) -> Option<(u64, NodeId)>
     }
 }
 
-/// Three fields, where there are as many.
+/// `None` if there are more or fewer.
 fn three_of<'a>(fields: &[&'a [u8]]) -> Option<(&'a [u8], &'a [u8], &'a [u8])>
     ensures { option_map (λ r. (r.0.now, r.1.now, r.2.now)) result ≡ three (map (λ field. field.now) fields.now) }
 {
@@ -296,7 +292,7 @@ fn three_of<'a>(fields: &[&'a [u8]]) -> Option<(&'a [u8], &'a [u8], &'a [u8])>
     }
 }
 
-/// Five fields, where there are as many.
+/// `None` if there are more or fewer.
 fn five_of<'a>(fields: &[&'a [u8]]) -> Option<(&'a [u8], &'a [u8], &'a [u8], &'a [u8], &'a [u8])>
     ensures { option_map (λ r. (r.0.now, r.1.now, r.2.now, r.3.now, r.4.now)) result ≡ five (map (λ field. field.now) fields.now) }
 {

@@ -22,7 +22,6 @@ pub enum Form {
     Script,
 }
 
-/// The form of a line with these fields.
 pub(crate) fn form_of(fields: &[&[u8]]) -> Form
     ensures { result ≡ form_in (map (λ field. field.now) fields.now) }
 {

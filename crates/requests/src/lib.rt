@@ -1,8 +1,9 @@
-//! What the lines of networks ask for, and what they declare, of whatever runs them.
+//! Reads the lines of networks: what each of them declares or asks for, whatever runs it.
 //!
-//! [`request_of`] reads a line's fields as a [`Request`], [`ask_of`] as what they ask of a live host, and [`order_of`] as
-//! what they order where some networks are served and others are not. [`Waiting`] and [`Named`] say at which stage each
-//! network is, and so which declarations are taken. [`line_of_outs`] and [`line_of_refusal`] print what an event is answered.
+//! [`request_of`] reads a line's fields as a [`Request`], and [`ask_of`] as what they ask of a live host. [`order_of`]
+//! reads them as what they order in a script, where some networks are served and others are not. [`Waiting`] and
+//! [`Named`] say at which stage each network is, and so which declarations are taken. [`line_of_outs`] and
+//! [`line_of_refusal`] print what an event is answered.
 #![tactic(auto)]
 
 mod ask;

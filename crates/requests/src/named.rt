@@ -1,4 +1,4 @@
-//! The numbers of networks that an event of a script has named.
+//! The numbers of networks that events of a script have named. Here a `settle` line counts as an event.
 
 ghost use Rattle.std.specs.Prelude.{◌<◌, ◌≡◌, ◌^◌, None, OnOk, length};
 ghost use Rattle.requests.specs.Naming.{IsForgotten, IsWithout, is_in, named_with, new_named, served_with, with_number};
@@ -7,8 +7,8 @@ use std::alloc::{AllocError, Global};
 use std::collections::BTreeSet;
 use std::marker::Model;
 
-/// The numbers that an event of a script has named, those of them whose network was declared by then, and those whose
-/// network was declared as served.
+/// The numbers that events have named, those of them whose network was declared by then, and those whose network was
+/// declared as served.
 #[derive(Drop)]
 pub struct Named {
     numbers: BTreeSet<u32>,
@@ -69,7 +69,7 @@ impl Named {
         self.running.len()
     }
 
-    /// An event has named a number of which no network waits.
+    /// Notes that an event has named a number of which no network waits.
     pub fn name(&mut self, number: u32) -> Result<(), AllocError>
         ensures { OnOk result (self.new ≡ named_with number None self.old) }
     {
@@ -80,7 +80,7 @@ impl Named {
         }
     }
 
-    /// An event has named the network of a number, which waited for it.
+    /// Notes that an event has named the network of a number, which waited for it.
     pub fn run(&mut self, number: u32) -> Result<(), AllocError>
         ensures { OnOk result
             (self.new ≡ record self.old { numbers = with_number self.old.numbers number; running = with_number self.old.running number }) }
@@ -93,7 +93,7 @@ impl Named {
         }
     }
 
-    /// The network of a number was declared as served.
+    /// Notes that the network of a number was declared as served.
     pub fn serve(&mut self, number: u32) -> Result<(), AllocError>
         ensures { OnOk result (self.new ≡ served_with number self.old) }
     {
@@ -104,7 +104,7 @@ impl Named {
         }
     }
 
-    /// The network of a number was taken back: it is as if no line had named the number.
+    /// Forgets a number whose network was taken back: it is as if no line had named it.
     pub fn forget(&mut self, number: u32)
         ensures { IsForgotten number self.old self.new }
     {
@@ -114,7 +114,6 @@ impl Named {
     }
 }
 
-/// The number is none of them from now on.
 fn remove(numbers: &mut BTreeSet<u32>, number: u32)
     ensures { IsWithout number numbers.old.keys numbers.new.keys }
 {

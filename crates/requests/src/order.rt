@@ -1,4 +1,4 @@
-//! What a line orders where some networks are served and others are not.
+//! What a line of a script orders, where some networks are served and others are not.
 
 ghost use Rattle.std.specs.Prelude.{◌≡◌, Err, IfOk, None, Some, map};
 ghost use Rattle.requests.specs.Ordering.{IsOrdered, declared_by, order_by};
@@ -10,7 +10,7 @@ use scripts::LineError;
 use std::alloc::{AllocError, Global};
 use types::Bytes;
 
-/// What a line orders, of the network of a number.
+/// What a line orders, of the network that it names.
 #[derive(Drop)]
 pub enum Order {
     /// What lines may ask of any network.
@@ -23,8 +23,7 @@ pub enum Order {
     Drop,
 }
 
-/// The number of the network that a line names, and what it orders. It is a bad line where it has none of the
-/// forms.
+/// The number of the network that a line names, and what it orders. The line is bad if it has none of the forms.
 pub fn order_of(alloc: Global, fields: &[&[u8]]) -> Result<(u32, Order), LineError>
     ensures ordered { IfOk result (λ r. IsOrdered (map (λ field. field.now) fields.now) (Some (r.0, r.1))) }
     ensures bad { result ≡ Err LineError.Bad → IsOrdered (map (λ field. field.now) fields.now) None }
@@ -35,8 +34,7 @@ pub fn order_of(alloc: Global, fields: &[&[u8]]) -> Result<(u32, Order), LineErr
     }
 }
 
-/// The number of the network that a line names, and what it orders, where it has one of the forms. An error says that
-/// memory is short.
+/// `None` if the line has none of the forms.
 fn ordered_by(alloc: Global, fields: &[&[u8]]) -> Result<Option<(u32, Order)>, AllocError>
     ensures { IfOk result (IsOrdered (map (λ field. field.now) fields.now)) }
 {
@@ -49,7 +47,7 @@ fn ordered_by(alloc: Global, fields: &[&[u8]]) -> Result<Option<(u32, Order)>, A
     }
 }
 
-/// What a line orders that asks this, and that lines of other networks have not the form of.
+/// What a line orders that is no [`Request`], but asks this of a live host. Scripts have no questions.
 fn order_by(number: u32, ask: Ask) -> Option<(u32, Order)>
     ensures { result ≡ order_by (number, ask) }
 {
@@ -61,7 +59,7 @@ fn order_by(number: u32, ask: Ask) -> Option<(u32, Order)>
     }
 }
 
-/// What a line orders that declares this of a served network.
+/// Only the `net` line of a served network has a form of its own.
 fn declared_by(number: u32, declaration: Declaration) -> Option<(u32, Order)>
     ensures { result ≡ declared_by number declaration }
 {

@@ -5,7 +5,6 @@ ghost use Rattle.requests.specs.Replies.{refusal_name, refusal_number};
 
 use types::Refusal;
 
-/// The number by which a refusal is known.
 pub(crate) fn number_of(refusal: Refusal) -> u8
     ensures { result ≡ refusal_number refusal }
 {
@@ -28,7 +27,6 @@ pub(crate) fn number_of(refusal: Refusal) -> u8
     }
 }
 
-/// Its name.
 pub(crate) fn name_of(refusal: Refusal) -> &'static str
     ensures { result.now ≡ refusal_name refusal }
 {

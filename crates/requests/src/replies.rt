@@ -18,7 +18,7 @@ pub fn line_of_outs(alloc: Global, outs: &[Out]) -> Result<String, AllocError>
     Ok(text)
 }
 
-/// Adds what is given out, a space before each. Where memory is wanting, a part may have been added.
+/// Adds what is given out, with a space before each. If it is out of memory, a part may have been added.
 pub fn push_outs(text: &mut String, outs: &[Out]) -> Result<(), AllocError>
     ensures { OnOk result (string_bytes text.new ≡ string_bytes text.old ++ flat_map behind_space outs.now) }
 {
@@ -29,7 +29,7 @@ pub fn push_outs(text: &mut String, outs: &[Out]) -> Result<(), AllocError>
     Ok(())
 }
 
-/// Adds what is given out. Where memory is wanting, a part may have been added.
+/// Adds what is given out. If it is out of memory, a part may have been added.
 pub fn push_out(text: &mut String, out: &Out) -> Result<(), AllocError>
     ensures { OnOk result (string_bytes text.new ≡ string_bytes text.old ++ text_of_out out.now) }
 {
@@ -47,8 +47,7 @@ pub fn push_out(text: &mut String, out: &Out) -> Result<(), AllocError>
     }
 }
 
-/// The line of a refusal: `refused`, its number, its name, and the number of the fault where bytes are no
-/// envelope.
+/// The line of a refusal: `refused`, its number, its name, and the number of the fault if bytes are no envelope.
 pub fn line_of_refusal(alloc: Global, refusal: Refusal) -> Result<String, AllocError>
     ensures { IfOk result (λ text. string_bytes text ≡ refusal_text refusal) }
 {
@@ -57,7 +56,7 @@ pub fn line_of_refusal(alloc: Global, refusal: Refusal) -> Result<String, AllocE
     Ok(text)
 }
 
-/// Adds the line of a refusal. Where memory is wanting, a part may have been added.
+/// Adds the line of a refusal. If it is out of memory, a part may have been added.
 pub fn push_refusal(text: &mut String, refusal: Refusal) -> Result<(), AllocError>
     ensures { OnOk result (string_bytes text.new ≡ string_bytes text.old ++ refusal_text refusal) }
 {

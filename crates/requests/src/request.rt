@@ -11,14 +11,14 @@ use scripts::{LineError, counter_of, name_of, number_of, slices_of};
 use std::alloc::{AllocError, Global};
 use types::{Event, Nested, NodeId};
 
-/// What a line asks for, of the network of a number.
+/// What a line asks for, of the network that it names.
 #[derive(Drop)]
 pub enum Request {
     /// The network, or something of it, is declared.
     Declare(Declaration),
     /// An event of the network.
     Apply(Event),
-    /// What was emitted at a slot is to be handed on.
+    /// What was emitted at this slot is to be handed on.
     Settle(u64),
 }
 
@@ -33,8 +33,8 @@ pub enum Declaration {
     Roster(Reservation),
 }
 
-/// The number of the network that a line names, and what it asks for. It is a bad line where it has none of
-/// the forms.
+/// The number of the network that a line names, and what it asks for. [`LineError::Bad`] says that the line has none of
+/// the forms, and [`LineError::NoMemory`] that it is out of memory.
 pub fn request_of(alloc: Global, fields: &[&[u8]]) -> Result<(u32, Request), LineError>
     ensures asked { IfOk result (λ r. IsRequested (map (λ field. field.now) fields.now) (Some (r.0, r.1))) }
     ensures bad { result ≡ Err LineError.Bad → IsRequested (map (λ field. field.now) fields.now) None }
@@ -45,8 +45,8 @@ pub fn request_of(alloc: Global, fields: &[&[u8]]) -> Result<(u32, Request), Lin
     }
 }
 
-/// The number of the network that a line names, and what it asks for, where it has one of the forms. An error says that
-/// memory is short.
+/// What [`request_of`] answers, but `None` for a line that has none of the forms. An error says that it is out of
+/// memory.
 pub fn asked_by(alloc: Global, fields: &[&[u8]]) -> Result<Option<(u32, Request)>, AllocError>
     ensures { IfOk result (IsRequested (map (λ field. field.now) fields.now)) }
 {
@@ -81,7 +81,7 @@ fn request_by(alloc: Global, verb: Verb, fields: &[&[u8]]) -> Result<Option<Requ
     }
 }
 
-/// `events E bytes B slots S`, where these are budgets that a network can have.
+/// `events E bytes B slots S`, if these are budgets that a network can have.
 fn net_of(fields: &[&[u8]]) -> Option<Request>
     ensures { IsRead (AreAllowed (budgets_in (map (λ field. field.now) fields.now))) result }
 {
@@ -94,7 +94,6 @@ fn net_of(fields: &[&[u8]]) -> Option<Request>
     }
 }
 
-/// The numbers of budgets.
 fn numbers_of(fields: &[&[u8]]) -> Option<(u64, u64, u64)>
     ensures { option_map (λ r. record { events = r.0; bytes = r.1; slots = r.2 }) result ≡ budgets_in (map (λ field. field.now) fields.now) }
 {
@@ -209,7 +208,7 @@ fn names_of(alloc: Global, list: &[u8]) -> Result<Option<Vec<NodeId>>, AllocErro
     Ok(Some(names))
 }
 
-/// The only field is a slot.
+/// `I`: the slot is to settle.
 fn settle_at(fields: &[&[u8]]) -> Option<Request>
     ensures { result ≡ settling_in (map (λ field. field.now) fields.now) }
 {

@@ -4,7 +4,7 @@ ghost use Rattle.std.specs.Prelude.{◌≡◌, nat_eq};
 ghost use lib.Pointwise.{pointwise};
 ghost use Rattle.requests.specs.Lines.{verb_in};
 
-/// What kind of line it is.
+/// What kind of line it is, by its first word.
 #[derive(Clone, Copy, Debug, PartialEq, Eq)]
 pub enum Verb {
     /// `net`: a network is declared, with its budgets.
@@ -19,7 +19,7 @@ pub enum Verb {
     Settle,
 }
 
-/// What kind of line that asks for an event it is.
+/// Which event a line asks for, by its first word.
 #[derive(Clone, Copy, Debug, PartialEq, Eq)]
 pub enum EventVerb {
     /// `open`: a slot is opened.
@@ -42,7 +42,6 @@ pub enum EventVerb {
     Reslice,
 }
 
-/// The kind of the lines that begin with this word, where there are such lines.
 pub(crate) fn verb_of(word: &[u8]) -> Option<Verb>
     ensures { result ≡ verb_in word.now }
 {
@@ -64,7 +63,7 @@ pub(crate) fn verb_of(word: &[u8]) -> Option<Verb>
     }
 }
 
-/// Whether a field is this word.
+/// Whether a field has the bytes of this word and no others.
 pub fn is_word(field: &[u8], word: &[u8]) -> bool
     ensures { result ≡ pointwise nat_eq field.now word.now }
 {

@@ -1,4 +1,4 @@
-//! The networks of a script that are declared and that no event has named.
+//! The networks of a script that are declared and that no event has named since.
 
 ghost use Rattle.std.specs.Prelude.{◌<◌, ◌≡◌, ◌^◌, ◌∷◌, [], Err, IfNone, IfSome, None, OnOk, false, is_some, length, option_map, true};
 ghost use Rattle.requests.specs.Outlines.{IsRevised, fresh, waiting_at, waiting_with, waiting_without, with_node, with_roster};
@@ -13,7 +13,7 @@ use std::collections::BTreeMap;
 use std::marker::Model;
 use types::{Nested, NodeId};
 
-/// The networks of a script that are declared and that no event has named, by number. Contracts see them
+/// The networks of a script that are declared and that no event has named since, by number. Contracts see them
 /// ascending.
 #[derive(Drop)]
 pub struct Waiting {
@@ -44,7 +44,7 @@ impl Waiting {
         }
     }
 
-    /// One network more, with its budgets. It is a bad line where one of its number waits.
+    /// Adds a network with its budgets. The line is bad if one of its number waits.
     pub fn declare(&mut self, number: u32, budgets: Budgets) -> Result<(), LineError>
         ensures absent { OnOk result (waiting_at self.old number ≡ None) }
         ensures declared { OnOk result (self.new ≡ waiting_with self.old number (fresh budgets)) }
@@ -62,8 +62,8 @@ impl Waiting {
         }
     }
 
-    /// A network has one node more. It is a bad line where the network does not wait, and where the
-    /// configuration refuses the node.
+    /// Adds a node to a network. The line is bad if the network does not wait, or if the configuration refuses the
+    /// node.
     pub fn host(&mut self, number: u32, name: NodeId, slices: Nested) -> Result<(), LineError>
         ensures hosted { OnOk result (IsRevised number (λ d. with_node d name slices) self.old self.new) }
         ensures taken { OnOk result (takes_node (waiting_at self.old number) name ≡ true) }
@@ -75,8 +75,8 @@ impl Waiting {
         }
     }
 
-    /// A network has a roster. It is a bad line where the network does not wait, and where the configuration
-    /// refuses the roster.
+    /// Gives a network its roster. The line is bad if the network does not wait or has a roster, or if the
+    /// configuration refuses this one.
     pub fn reserve(&mut self, number: u32, roster: Reservation) -> Result<(), LineError>
         ensures reserved { OnOk result
             (IsRevised number (λ d. with_roster d roster.names.items roster.shares) self.old self.new) }
@@ -91,14 +91,14 @@ impl Waiting {
         }
     }
 
-    /// Whether one of this number waits.
+    /// Whether the network of this number waits.
     pub fn has(&self, number: u32) -> bool
         ensures { result ≡ is_some (waiting_at self.now number) }
     {
         self.outlines.contains_key(&number)
     }
 
-    /// The network of a number, where it waits.
+    /// The network of a number, if it waits.
     pub fn outline(&self, number: u32) -> Option<&Outline>
         ensures { option_map (λ d. d.now) result ≡ waiting_at self.now number }
     {
@@ -143,7 +143,7 @@ impl Waiting {
         self.outlines.len()
     }
 
-    /// The network of a number leaves.
+    /// Takes out the network of a number, if it waits.
     pub fn take(&mut self, number: u32) -> Option<Outline>
         ensures which { result ≡ waiting_at self.old number }
         ensures rest { IfSome result (λ _. self.new ≡ waiting_without self.old number) }
@@ -153,7 +153,7 @@ impl Waiting {
         self.outlines.remove(&number)
     }
 
-    /// The first network leaves.
+    /// Takes out the network of the least number, if some network waits.
     pub fn take_first(&mut self) -> Option<(u32, Outline)>
         ensures some { IfSome result (λ first. self.old ≡ first ∷ self.new) }
         ensures none { IfNone result (self.old ≡ []) }

@@ -33,7 +33,7 @@ IsAnswered kept line old new =
     (a : Reply) × Serves old.live new.count (given LONGEST_LINE line) a new.live
     × (new.count ≡ old.count + 1) × (new.block ≡ a.text) × (kept ≡ is_kept a)
 
--- what a host makes of a line. Where memory is short, what is left of the host is not said.
+-- what a host makes of a line. If it is out of memory, what is left of the host is not said.
 abbrev pub HasAnswered : Status → Bytes → Host → Host → Type 0
 HasAnswered Done line old new = IsAnswered false line old new
 HasAnswered Kept line old new = IsAnswered true line old new
@@ -41,14 +41,14 @@ HasAnswered NoMemory line old new = Unit {0}
 HasAnswered NoHost line old new = ⊥
 HasAnswered NoNumber line old new = (old.count + 1 ≡ 2 ^ 64) × (new ≡ old)
 
--- a line is handed to what a handle holds. A host of which memory was short is held no more.
+-- a line is handed to what a handle holds. A host that was out of memory is held no more.
 abbrev pub HasLine : Status → Bytes → Option Host → Option Host → Type 0
 HasLine status line None new = (status ≡ NoHost) × (new ≡ None)
 HasLine NoMemory line (Some old) new = new ≡ None
 HasLine status line (Some old) None = ⊥
 HasLine status line (Some old) (Some new) = HasAnswered status line old new
 
--- a handle holds a new host, unless memory is short: then it holds what it held
+-- a handle holds a new host, unless it is out of memory: then it holds what it held
 abbrev pub HasMade : Status → Bool → Option Host → Option Host → Type 0
 HasMade Done bytes old new = new ≡ Some (just_made bytes)
 HasMade NoMemory bytes old new = new ≡ old

@@ -44,7 +44,7 @@ impl Embedded {
         }
     }
 
-    /// Answers the next line. Where memory is short the host is no more what it was, and nobody may use it.
+    /// Answers the next line. If it is out of memory the host is no longer what it was, and nobody may use it.
     pub(crate) fn line(&mut self, alloc: Global, line: &[u8]) -> Status
         ensures { HasAnswered result line.now self.old self.new }
     {
@@ -76,7 +76,7 @@ impl Embedded {
     }
 }
 
-/// A line as a live host is given it: `None` where it is too long.
+/// A line as a live host is given it: `None` if it is too long.
 fn given(line: &[u8]) -> Option<&[u8]>
     ensures { option_map (λ bytes. bytes.now) result ≡ given LONGEST_LINE line.now }
 {

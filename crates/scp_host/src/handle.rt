@@ -13,8 +13,8 @@ use std::marker::Model;
 use std::mem::replace;
 use std::ptr::null_mut;
 
-/// A host, or none: then the pointer is null. What lies behind it is seen as the ghost field; the pointer's own type says
-/// nothing of it, since C may not see a type whose values are shared.
+/// A host, or none: then the pointer is null. What lies behind it is seen as the ghost field; the pointer's own type
+/// says nothing of it, since C may not see a type whose values are shared.
 #[repr(C)]
 pub struct ScpHost {
     at: *mut u8,
@@ -36,7 +36,7 @@ impl Drop for ScpHost {
 }
 
 impl ScpHost {
-    /// A new host in place of what was held. Where memory is short what was held stays.
+    /// A new host in place of what was held. If it is out of memory, what was held stays.
     pub(crate) fn make(&mut self, alloc: Global, bytes: bool) -> Status
         ensures { HasMade result bytes self.old.kept self.new.kept }
     {
@@ -50,7 +50,7 @@ impl ScpHost {
         }
     }
 
-    /// Has the host answer its next line. Where memory is short it is let go.
+    /// Has the host answer its next line. If it is out of memory the host is let go.
     pub(crate) fn line(&mut self, alloc: Global, line: &[u8]) -> Status
         ensures { HasLine result line.now self.old.kept self.new.kept }
     {
@@ -86,7 +86,7 @@ impl ScpHost {
         drop(self.take(alloc));
     }
 
-    /// What is held, which is held no more.
+    /// What is held, which is not held any more.
     fn take(&mut self, alloc: Global) -> Option<Box<Embedded>>
         ensures taken { option_map (λ b. b.value) result ≡ self.old.kept }
         ensures none { self.new.kept ≡ None }
@@ -94,7 +94,6 @@ impl ScpHost {
         replace(self, ScpHost::none(alloc)).into_box()
     }
 
-    /// No host.
     fn none(alloc: Global) -> ScpHost
         ensures { result.kept ≡ None }
     {
@@ -104,7 +103,6 @@ impl ScpHost {
         }
     }
 
-    /// This host.
     fn of(kept: Box<Embedded>) -> ScpHost
         ensures { result.kept ≡ Some kept.value }
     {
@@ -121,7 +119,6 @@ impl ScpHost {
         }
     }
 
-    /// What is held.
     fn into_box(self) -> Option<Box<Embedded>>
         ensures { option_map (λ b. b.value) result ≡ self.kept }
     {

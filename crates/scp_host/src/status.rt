@@ -10,7 +10,7 @@ pub enum Status {
     Done,
     /// The line was answered, and a journal keeps it.
     Kept,
-    /// Memory is short.
+    /// It was out of memory.
     NoMemory,
     /// The handle holds no host.
     NoHost,

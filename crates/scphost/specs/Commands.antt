@@ -20,7 +20,7 @@ IsCarriedOut call old new end =
     ⊎ (((input : Option Bytes) × IsPerformedAsItComes call input old new end)
     ⊎ (((end ≡ Err stop.CannotRead) ⊎ (end ≡ Err stop.NoMemory)) × Keeps old new))
 
--- why words are not taken as a call: they are none, or memory is short; they get help where they ask for it, and else
+-- why words are not taken as a call: they are none, or it is out of memory; they get help where they ask for it, and else
 -- what is wrong with them
 pub record IsUsageOf (words : List Text) (usage : Usage) : Type 0 where
   pub none : (call : Call) → IsCall words call → usage ≡ NoMemory

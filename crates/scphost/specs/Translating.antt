@@ -19,7 +19,7 @@ pub record IsDecoding (digits : Bytes) (a : Answer) : Type 0 where
   pub decoded : IsDecoded digits a.differs (string_bytes a.text)
   pub back : a.differs ≡ false → EncodesBack digits (string_bytes a.text)
 
--- why nothing is printed of words: they cannot be read, or memory is short
+-- why nothing is printed of words: they cannot be read, or it is out of memory
 abbrev pub StopsReading : Type 0 → Stop → Type 0
 StopsReading Unread stop.CannotRead = Unread
 StopsReading Unread stop.TooLong = ⊥

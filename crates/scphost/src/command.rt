@@ -18,9 +18,9 @@ use std::sync::Wait;
 use std::thread::Threads;
 use std::{fs, io};
 
-/// Answers the words after the program's name, and gives the exit status: where they are a call, it is carried out, and
-/// the status says how that ended; else they are told to be none, or help is printed where they ask for it. Words that
-/// are a call are refused only for want of memory.
+/// Answers the words after the program's name, and gives the exit status. If they are a call, it is carried out, and
+/// the status says how that ended. Else they are told to be none, or help is printed if they ask for it. Words that are
+/// a call are refused only if it is out of memory.
 pub fn answer_words<
     R: Files<File = File> + Input + AllocGlobal + Threads + Wait + Sync + Send + Copy + Drop,
     S: AsStr,
@@ -110,8 +110,8 @@ fn perform_two<
     perform_with_second(rt, call, &mut first, other, outputs)
 }
 
-/// Opens the second file of a call and carries it out. A `-` names no file here, since the first one is the
-/// standard input.
+/// Opens the second file of a call and carries it out. If the first one is the standard input, `-` is a file of that
+/// name here.
 #[tactic(auto, using(crate::proofs::CommandLaws::performed_on, crate::proofs::CommandLaws::not_opened))]
 fn perform_with_second<
     R: Files<File = File> + AllocGlobal + Threads + Wait + Sync + Send + Copy + Drop,

@@ -12,8 +12,8 @@ use std::fs;
 use std::fs::{File, Files};
 use std::io::Write;
 
-/// Says on `err` why a line of a live host with its number is bad, as `L:COLUMN: REASON`; `None` is a line that is too long.
-/// Without memory, and where a write fails, nothing is said.
+/// Says on `err` why a line of a live host with its number is bad, as `L:COLUMN: REASON`; `None` is a line that is too
+/// long. If it is out of memory, or a write fails, nothing is said.
 pub fn explain_line<E: Write>(alloc: Global, err: &mut E, number: u64, line: Option<&[u8]>) {
     let Some(line) = line else {
         let column = LONGEST_LINE + 1;
@@ -29,9 +29,9 @@ pub fn explain_line<E: Write>(alloc: Global, err: &mut E, number: u64, line: Opt
     }
 }
 
-/// Says on `err` why a line is bad that ended a call, as `FILE:LINE:COLUMN: REASON`, if the call asks for it. The file is
-/// read once more, and what is no file is not: that is said in place of the reason. Where it cannot be read, and without
-/// memory, nothing is said.
+/// Says on `err` why a line is bad that ended a call, as `FILE:LINE:COLUMN: REASON`, if the call asks for it. For that
+/// the file is read once more. The standard input and a pipe are not: that is said in place of the reason. If the file
+/// cannot be read, or it is out of memory, nothing is said.
 pub fn explain_end<R: Files<File = File> + AllocGlobal, W: Write, E: Write>(
     rt: &R,
     call: &Call,
@@ -65,7 +65,7 @@ fn file_at_fault(call: &Call, second: bool) -> Option<(Kind, &str)> {
     }
 }
 
-/// What the lines of a script are that is run: jobs where there are workers.
+/// What the lines of a script are that is run: jobs if there are workers.
 fn kind_of(asked: &RunCall) -> Kind {
     match asked.workers {
         None => Kind::Script,

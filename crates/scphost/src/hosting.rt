@@ -34,12 +34,13 @@ struct JournalUse<'a> {
     pub from: Option<ReplayFrom>,
 }
 
-/// Hosts the networks that the lines of an input declare, until it ends, and answers how it ended. What is answered to a
-/// line is written to `outputs.out` before a further one is waited for, with envelopes as bytes where that is asked for.
-/// Why lines are bad, where that is asked for, and one line on what ended it early go to `outputs.err`.
+/// Hosts the networks that the lines of an input declare, until it ends, and answers how it ended. What is answered to
+/// a line is written to `outputs.out` before a further one is waited for. Envelopes are printed as bytes if that is
+/// asked for. Why lines are bad goes to `outputs.err`, if that is asked for, and so does one line on what ended it
+/// early.
 ///
-/// The networks are shared out among the workers. With a journal each line is on the disk before anything is told of it;
-/// the lines that are there are run first.
+/// The networks are shared out among the workers. With a journal each line is on the disk before anything is told of
+/// it; the lines that are there are run first.
 pub fn serve<
     A: AllocGlobal + Threads + Wait + Sync + Files<File = File>,
     R: BufRead,
@@ -75,7 +76,6 @@ fn worker_count(workers: Option<PoolSize>) -> usize
     }
 }
 
-/// The same without a journal.
 fn serve_without_journal<A: AllocGlobal + Threads + Wait + Sync, R: BufRead, W: Write, E: Write>(
     rt: &A,
     form: AnswerForm,
@@ -91,7 +91,6 @@ fn serve_without_journal<A: AllocGlobal + Threads + Wait + Sync, R: BufRead, W: 
     serve_by(rt, form, host, input, outputs)
 }
 
-/// The same by this host.
 fn serve_by<A: AllocGlobal + Threads + Wait + Sync, R: BufRead, W: Write, E: Write>(
     rt: &A,
     form: AnswerForm,
@@ -109,9 +108,9 @@ fn serve_by<A: AllocGlobal + Threads + Wait + Sync, R: BufRead, W: Write, E: Wri
     print_end_of_host(ran, "", &mut outputs.err)
 }
 
-/// The same with a journal, which has each line, on the disk, before anything is told of it. Its lines are run first, up
-/// to its end; what some of them were answered is written again if that is asked for, and then `resumed L`, L being how
-/// many there are.
+/// Serves with a journal, which has each line, on the disk, before anything is told of it. Its lines are run first, up
+/// to its end. What some of them were answered is written again if that is asked for, and then `resumed L`, where L is
+/// how many there are.
 fn serve_with_journal<
     A: AllocGlobal + Threads + Wait + Sync + Files<File = File>,
     R: BufRead,
@@ -133,7 +132,7 @@ fn serve_with_journal<
     go_on(rt, form, journal, host, input, outputs)
 }
 
-/// The same by this host.
+/// Goes on from the journal with this host, which has served no line, and serves the lines that come.
 fn go_on<
     A: AllocGlobal + Threads + Wait + Sync + Files<File = File>,
     R: BufRead,
@@ -219,7 +218,6 @@ pub fn make_shorter<A: AllocGlobal + Threads + Wait + Sync, R: BufRead, W: Write
     make_shorter_by(rt, name, host, journal, outputs)
 }
 
-/// The same by this host.
 fn make_shorter_by<A: AllocGlobal + Threads + Wait + Sync, R: BufRead, W: Write, E: Write>(
     rt: &A,
     name: &str,
@@ -236,7 +234,7 @@ fn make_shorter_by<A: AllocGlobal + Threads + Wait + Sync, R: BufRead, W: Write,
     }
 }
 
-/// The same of a reader that has no lines at hand.
+/// As [`make_shorter`], for a reader without a buffer.
 pub fn make_file_shorter<A: AllocGlobal + Threads + Wait + Sync, R: Read, W: Write, E: Write>(
     rt: &A,
     name: &str,
@@ -253,7 +251,7 @@ pub fn make_file_shorter<A: AllocGlobal + Threads + Wait + Sync, R: Read, W: Wri
     ended
 }
 
-/// Says on `err` what ended a host early, whose journal, if it has one, has this name, and answers that.
+/// Says on `err` what ended a host early, and answers that. If the host has a journal, it has this name.
 fn print_end_of_host<E: Write>(
     ran: Result<(), Fault>,
     journal: &str,

@@ -12,15 +12,15 @@ use std::io::Write;
 pub struct Outputs<W, E> {
     /// The standard output: what a call prints.
     pub out: W,
-    /// The standard error: one line on what ended a call early, and why lines of a live host are bad.
+    /// The standard error: why words are no call, what ended a call early, and why lines are bad.
     pub err: E,
     /// The journal of a live host, if it has one.
     pub journal: Option<File>,
     /// Whether it is said why lines of a live host are bad.
     pub explain: bool,
-    /// Whether the second file of a call was come to.
+    /// Whether the call has come to its second file.
     pub second: bool,
-    /// Where the texts of reasons are.
+    /// Where the texts of reasons are allocated.
     pub alloc: Global,
 }
 

@@ -29,23 +29,22 @@ pub const DONE: u8 = 0;
 /// The status of a comparison that finds a difference, and of bytes that are no envelope.
 pub const DIFFERS: u8 = 1;
 
-/// The status of bad usage and of a script at fault.
+/// The status of bad usage, and of a file that cannot be read, is too long or has a bad line.
 pub const FAULT: u8 = 2;
 
-/// The status where there was no memory.
+/// The status if it was out of memory.
 pub const NO_MEMORY: u8 = 3;
 
-/// The status where a write failed.
+/// The status if a write failed.
 pub const NO_WRITE: u8 = 4;
 
-/// Carries out a call on the files that it names, in their order, of which the second is empty
-/// where it names one, and answers how it ended: whether what it compared differs, or what stopped it. A call that names
-/// none is for [`perform_stream`].
+/// Carries out a call on the files that it names, in their order; the second is empty if it names one. It answers how
+/// that ended: whether what it compared differs, or what stopped it. A call that names none is for [`perform_stream`].
 ///
 /// What the call prints goes to `outputs.out`, and one line on what ended it early to `outputs.err`. Of `table` and
-/// `run` what lines before a bad one printed is written by then; `closure`, `compare`, `crowd` and `compact`
-/// print nothing before all files have been run to their ends, the first one before the second is read, and `run`
-/// with workers runs no event before all lines have been read. A write to `err` that fails changes nothing.
+/// `run` what lines before a bad one printed is written by then; `closure`, `compare`, `crowd` and `compact` print
+/// nothing before all files have been run to their ends, the first one before the second is read. `run` with workers
+/// runs no event before all lines have been read. A write to `err` that fails changes nothing.
 pub fn perform<
     A: AllocGlobal + Threads + Wait + Sync + Send + Copy + Drop,
     R: Read,
@@ -78,7 +77,7 @@ pub fn perform<
     }
 }
 
-/// Runs the lines of a script in order, or as jobs of so many workers.
+/// Runs the lines of a script in order, or as jobs of workers.
 fn perform_run<
     A: AllocGlobal + Threads + Wait + Sync + Send + Copy + Drop,
     R: Read,
@@ -225,10 +224,11 @@ fn perform_crowd<R: Read, T: Read, W: Write, E: Write>(
     }
 }
 
-/// Carries out a call on the standard input, which is its file or, of `serve`, what is sent: each line is answered before
-/// the next one is waited for. How it ends, and messages, are those of [`perform`], but for a read that fails and for
-/// input that is too long: the lines before have been run, and what they printed is written. `closure`, `compare`, `crowd`
-/// and `run` with workers read it whole. `serve` goes on after a bad line.
+/// Carries out a call on the standard input, which is its file or, of `serve`, what is sent: each line is answered
+/// before the next one is waited for. How it ends, and messages, are those of [`perform`], but for a read that fails
+/// and for input that is too long: the lines before have been run, and what they printed is written. `closure`,
+/// `compare`, `crowd` and `run` with workers read it whole, and `compact` up to the journal's end, before they print.
+/// `serve` goes on after a bad line.
 pub fn perform_stream<
     A: Files<File = File> + AllocGlobal + Threads + Wait + Sync + Send + Copy + Drop,
     R: BufRead,
@@ -255,7 +255,7 @@ pub fn perform_stream<
     }
 }
 
-/// Runs the lines of a script as they come, or all of them as jobs of so many workers.
+/// Runs the lines of a script as they come, or all of them as jobs of workers.
 fn perform_run_as_it_comes<
     A: AllocGlobal + Threads + Wait + Sync + Send + Copy + Drop,
     R: BufRead,
@@ -292,7 +292,7 @@ pub fn print_usage<W: Write, E: Write>(usage: &Usage, outputs: &mut Outputs<W, E
     }
 }
 
-/// Says on `err` why a run of the named file ended early, where it did. Nothing was compared.
+/// Says on `err` why a run of the named file ended early, if it did. Nothing was compared.
 pub fn print_end<E: Write>(ran: Result<(), Stop>, file: &str, err: &mut E) -> Result<bool, Stop>
     ensures { IsEndOf ran result }
 {
@@ -316,9 +316,9 @@ pub fn print_stop<E: Write>(stop: Stop, file: &str, err: &mut E) -> Result<bool,
     Err(stop)
 }
 
-/// The exit status of a call that ended so: 2 for words or a file that cannot be read, and for a file that is too long or
-/// has a bad line, 3 for want of memory, 4 for a write that failed; 1 for a comparison that finds a difference, and for
-/// bytes that are no envelope.
+/// The exit status of a call that ended so: 2 for words or a file that cannot be read, and for a file that is too long
+/// or has a bad line. It is 3 if it was out of memory, and 4 if a write failed. It is 1 for a comparison that finds a
+/// difference, and for bytes that are no envelope; else 0.
 pub fn exit_status(end: Result<bool, Stop>) -> u8
     ensures { result ≡ status_of_end end }
 {

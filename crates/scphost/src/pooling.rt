@@ -12,8 +12,8 @@ use std::io::Read;
 use std::sync::Wait;
 use std::thread::Threads;
 
-/// Reads a script whole for its jobs, without running any, and has a pool run them: what became of the networks,
-/// as it is printed. A line that is bad ends it before anything is run.
+/// Reads a script whole for its jobs, without running any, and has a pool run them: what became of the networks, as it
+/// is printed. A bad line ends it before anything is run.
 pub fn answer_pool<A: AllocGlobal + Threads + Wait + Sync + Send + Copy + Drop, R: Read>(
     rt: &A,
     script: &mut R,

@@ -24,7 +24,7 @@ pub fn print_answer<W: Write, E: Write>(
     Ok(answer.differs)
 }
 
-/// Writes the whole text, and hands it on.
+/// Writes the whole text, and flushes it.
 pub fn write_text<W: Write>(text: &String, out: &mut W) -> io::Result<()>
     ensures { OnOk result (Appends (W.contents out.old) (W.contents out.new) (string_bytes text.now)) }
 {

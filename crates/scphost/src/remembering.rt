@@ -1,4 +1,4 @@
-//! A live host that ends where its journal could not tell what it did.
+//! A live host that ends if its journal could not tell what it did.
 
 ghost use Rattle.std.specs.Prelude.{◌≡◌, ◌<◌, ◌≤◌, IfOk, false, length, map, take};
 ghost use Rattle.feed.specs.Served.{reply_of};
@@ -15,8 +15,8 @@ use std::thread::Threads;
 
 /// A live host of which a journal is kept.
 ///
-/// An event or a hearing that is refused for want of memory is want of memory of the host: there might be enough of it when
-/// the line is run again, and then the journal would not tell what happened.
+/// If an event or a hearing is refused because it is out of memory, the host answers that it is out of memory itself.
+/// When the line is run again there might be enough, and then the journal would not tell what happened.
 #[derive(Drop)]
 pub struct RememberedHost {
     host: ShardedHost,
@@ -35,8 +35,8 @@ impl Model for RememberedHost {
 }
 
 impl RememberedHost {
-    /// A host without networks for so many workers, which prints envelopes as bytes if that is asked for. An error says that
-    /// memory is short.
+    /// A host without networks for `workers` workers, which prints envelopes as bytes if that is asked for. An error
+    /// says that it is out of memory.
     pub fn new(alloc: Global, bytes: bool, workers: usize) -> Result<RememberedHost, AllocError>
         requires { 0 < workers }
         ensures { IfOk result (λ host. host ≡ new_live bytes) }
@@ -79,7 +79,7 @@ impl BatchServer for RememberedHost {
         self.host.lines_at_once()
     }
 
-    /// The answers up to the first that says that memory was wanting.
+    /// The answers before the first that says that it was out of memory.
     fn serve_batch<R: Threads + Sync>(
         &mut self,
         rt: &R,
@@ -94,7 +94,7 @@ impl BatchServer for RememberedHost {
     }
 }
 
-/// How many answers there are before the first that says that memory was wanting.
+/// How many answers there are before the first that says that it was out of memory.
 fn told_of(answers: &VecDeque<Option<Answer>>) -> usize
     ensures all { AllTellOfNoWant (take result (map reply_of answers.now.items)) }
     ensures few { result ≤ length answers.now.items }
@@ -107,7 +107,7 @@ fn told_of(answers: &VecDeque<Option<Answer>>) -> usize
     answers.len()
 }
 
-/// Whether an event or a hearing was refused for want of memory. No other line of a block has these words.
+/// Whether an event or a hearing was refused because it was out of memory. No other line of a block has these words.
 fn lacked_memory(answer: &Option<Answer>) -> bool
     ensures { result ≡ false → TellsOfNoWant (reply_of answer.now).text }
 {

@@ -11,8 +11,8 @@ use explorer::{ClosureReport, NoNetwork, push_dot, push_svg, push_text, report_o
 use std::alloc::{AllocError, Global};
 use types::Subject;
 
-/// Whom the subject depends on after a script, in a form. In a network that no line declares that is the node
-/// alone. An error says that memory is short.
+/// Whom the subject depends on after a script, in a form. In a network that no line declares that is only the node. An
+/// error says that it is out of memory.
 pub fn answer_closure(
     alloc: Global,
     script: &FinishedScript,
@@ -30,7 +30,6 @@ pub fn answer_closure(
     })
 }
 
-/// The report of the subject after a script.
 fn report_after(
     alloc: Global,
     script: &FinishedScript,
@@ -44,7 +43,6 @@ fn report_after(
     }
 }
 
-/// A report in a form.
 fn format_report(
     alloc: Global,
     report: &ClosureReport,

@@ -43,8 +43,8 @@ pub fn print_encoded<W: Write, E: Write>(
     }
 }
 
-/// Prints the words of the envelope that bytes in hexadecimal spell, or the fault of the bytes, and says whether they have
-/// one. A word that is no such bytes cannot be read, which is said on `outputs.err`.
+/// Prints the words of the envelope that bytes in hexadecimal spell, or the fault of the bytes, and says whether they
+/// have one. A word that is no such bytes cannot be read, which is said on `outputs.err`.
 pub fn print_decoded<W: Write, E: Write>(
     alloc: Global,
     digits: &Word,
@@ -72,15 +72,14 @@ fn answer_of(decoded: Decoded) -> Answer
     }
 }
 
-/// The bytes of a word.
 fn bytes_of(word: &Word) -> &[u8]
     ensures { result.now ≡ word.now }
 {
     word.as_str().as_bytes()
 }
 
-/// Which of four words that spell no envelope is wrong, with the name of its operand: the first that does not have its form,
-/// else the statement, which breaks a rule.
+/// Which of four words that spell no envelope is wrong, with the name of its operand: the first that does not have its
+/// form, else the statement, which breaks a rule.
 fn wrong_word<'a>(alloc: Global, words: &'a EncodeCall) -> (&'static str, &'a str) {
     if name_of(bytes_of(&words.from)).is_none() {
         return ("<FROM>", words.from.as_str());

@@ -8,8 +8,8 @@ ghost use Rattle.scripts.specs.Values.{is_lower_hex as lower_hex_test, is_plain}
 use hex::FromHexError;
 use std::alloc::{AllocError, Global};
 
-/// The bytes that a word spells: an even number of lower-case hexadecimal digits, or `-` for no
-/// bytes. `None` for any other word.
+/// The bytes that a word spells: lower-case hexadecimal digits, two for each byte, or `-` for no bytes. `None` for any
+/// other word, also for an empty one.
 pub fn bytes_of(alloc: Global, word: &[u8]) -> Result<Option<Vec<u8>>, AllocError>
     ensures { IfOk result (λ o. option_map (λ v. v.items) o ≡ octets_in word.now) }
 {
@@ -35,7 +35,7 @@ pub fn digits_of(alloc: Global, digits: &[u8]) -> Result<Option<Vec<u8>>, AllocE
     }
 }
 
-/// Whether there are lower-case hexadecimal digits alone.
+/// Whether there are only lower-case hexadecimal digits.
 pub(crate) fn is_lower_hex(word: &[u8]) -> bool
     ensures { result ≡ lower_hex_test word.now }
 {

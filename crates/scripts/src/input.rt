@@ -23,7 +23,7 @@ pub enum ReadError {
     NoMemory,
 }
 
-/// Reads all that the reader has left, which may be `LONGEST_SCRIPT` bytes.
+/// Reads all that the reader has left, which may be at most `LONGEST_SCRIPT` bytes.
 ///
 /// At most one byte more is taken from the reader, and no error hands out a part of what was read.
 pub fn read_whole<R: Read>(alloc: Global, reader: &mut R) -> Result<Vec<u8>, ReadError>

@@ -1,10 +1,10 @@
 //! Scripts and table files: reading a file, its lines and their fields, running them one by one, and the
 //! words in them.
 //!
-//! What runs the lines of one kind of script implements [`LineRunner`]. [`run_script`] reads a script whole
-//! before it runs the first line, [`run_stream`] runs each line as it comes. Each word has a reading function,
-//! which answers `None` for what is no such word, and a printing one, which adds the shortest form to a text.
-//! What is printed of a name, a value, slices or a statement is read back as the same.
+//! What runs the lines of one kind of script implements [`LineRunner`]. [`run_script`] reads a script whole before it
+//! runs the first line, [`run_stream`] runs each line as it comes. Each word has a reading function, which answers
+//! `None` for what is no such word, and a printing one, which adds the shortest form to a text. An error of either says
+//! that it is out of memory. What is printed of a name, a value, slices or a statement is read back as the same.
 #![tactic(auto)]
 
 mod hexadecimal;

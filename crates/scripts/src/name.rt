@@ -58,7 +58,6 @@ fn with_zeros(front: &[u8]) -> [u8; 32]
     bytes
 }
 
-/// The name of 32 bytes.
 #[tactic(auto, unfolding(crate::specs::Names::name_of_bytes))]
 fn name_in(bytes: &[u8; 32]) -> NodeId
     ensures { result ≡ name_of_bytes bytes.now }
@@ -80,16 +79,16 @@ fn word_at(bytes: &[u8; 32], from: usize) -> u64
     u64::from_be_bytes(word)
 }
 
-/// Adds the name: in the short form where it has one, else in hexadecimal. Where memory is wanting,
-/// a part may have been added.
+/// Adds the name: in the short form if it has one, else in hexadecimal. If it is out of memory, a part may have been
+/// added.
 pub fn push_name(text: &mut String, name: &NodeId) -> Result<(), AllocError>
     ensures { OnOk result (string_bytes text.new ≡ string_bytes text.old ++ text_of_name name.now) }
 {
     push_bytes(text, &bytes_in(name))
 }
 
-/// Adds the bytes of a name: those before the last zero bytes where these are letters and digits, else all of
-/// them in hexadecimal.
+/// Adds the bytes of a name: those before the last zero bytes if there are any and these are letters and digits, else
+/// all of them in hexadecimal.
 fn push_bytes(text: &mut String, bytes: &[u8; 32]) -> Result<(), AllocError>
     ensures { OnOk result (string_bytes text.new ≡ string_bytes text.old ++ text_of_bytes bytes.now) }
 {
@@ -112,7 +111,6 @@ fn without_zeros(bytes: &[u8]) -> &[u8]
     }
 }
 
-/// The 32 bytes of a name.
 fn bytes_in(name: &NodeId) -> [u8; 32]
     ensures { result ≡ bytes_of_name name.now }
 {

@@ -13,14 +13,14 @@ pub fn number_of(word: &[u8]) -> Option<u64>
     decimal_of(word)
 }
 
-/// The same below 2^32.
+/// The number below 2^32 that a word spells, as [`number_of`] reads it. `None` for any other word.
 pub fn counter_of(word: &[u8]) -> Option<u32>
     ensures { result ≡ word_counter word.now }
 {
     short_decimal_of(word)
 }
 
-/// The same below 2^8, of the threshold of slices.
+/// The threshold of slices that a word spells, below 2^8, as [`number_of`] reads it. `None` for any other word.
 pub(crate) fn threshold_of(word: &[u8]) -> Option<u8>
     ensures { result ≡ word_threshold word.now }
 {

@@ -12,8 +12,8 @@ use std::io::{Read, Write};
 
 /// What runs the lines of one kind of script.
 ///
-/// `tells` says what a line prints and which state it leaves, and `refuses` which lines are bad. Only
-/// want of memory is neither.
+/// `tells` says what a line prints and which state it leaves, and `refuses` which lines are bad. Only running out of
+/// memory is neither.
 pub trait LineRunner {
     ghost use Rattle.scripts.specs.Runs.{Telling, Refusing};
 
@@ -59,9 +59,9 @@ impl From<ReadError> for Stop {
     }
 }
 
-/// Reads a script whole and runs its lines in order, up to the first that is bad. What they print is
-/// written as it comes, and handed on (`out` is flushed) at the end: a caller with many short lines hands in a writer
-/// that keeps them together. Where no line was run, or a write failed, nothing is flushed.
+/// Reads a script whole and runs its lines in order, up to the first that is bad. What they print is written as it
+/// comes, and handed on (`out` is flushed) at the end: a caller with many short lines hands in a writer that keeps them
+/// together. If the script was not read, or a write failed, nothing is flushed.
 pub fn run_script<S: LineRunner, R: Read, W: Write>(
     alloc: Global,
     runner: &mut S,

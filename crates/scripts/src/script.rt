@@ -124,7 +124,7 @@ impl From<AllocError> for LineError {
     }
 }
 
-/// The fields of a line, or `None` where it is skipped.
+/// The fields of a line, or `None` if it is skipped: it is empty or a comment.
 #[tactic(auto, using(crate::proofs::ScriptLemmas::not_ascii_is_bad, crate::proofs::ScriptLemmas::no_fields_is_bad, crate::proofs::ScriptLemmas::split_are_fields))]
 pub fn fields_of<'a>(alloc: Global, line: &'a [u8]) -> Result<Option<Vec<&'a [u8]>>, LineError>
     ensures skipped { (result ≡ Ok None) ↔ IsSkipped line.now }
@@ -145,7 +145,6 @@ pub fn fields_of<'a>(alloc: Global, line: &'a [u8]) -> Result<Option<Vec<&'a [u8
     }
 }
 
-/// Each byte is below 128.
 fn is_ascii(line: &[u8]) -> bool
     ensures { result ≡ ascii_test line.now }
 {
@@ -159,7 +158,6 @@ fn is_no_record(line: &[u8]) -> bool
     matches!(line, [] | [b'#', ..])
 }
 
-/// The parts of a line round its spaces.
 fn cut_at_spaces<'a>(alloc: Global, line: &'a [u8]) -> Result<Vec<&'a [u8]>, AllocError>
     ensures { IfOk result (λ parts.
         map (λ part. part.now) parts.items ≡ slice_split (λ byte. byte == 32) line.now) }
@@ -167,14 +165,13 @@ fn cut_at_spaces<'a>(alloc: Global, line: &'a [u8]) -> Result<Vec<&'a [u8]>, All
     line.split(|byte| *byte == b' ').collect(alloc)
 }
 
-/// Each of the parts is a field.
 fn are_fields(parts: &[&[u8]]) -> bool
     ensures { result ≡ list_all field_test (map (λ part. part.now) parts.now) }
 {
     parts.iter().all(|part| is_field(part))
 }
 
-/// There are bytes, and each is a printed character other than the space.
+/// Whether there are bytes, and each is a printable character other than the space.
 fn is_field(bytes: &[u8]) -> bool
     ensures { result ≡ field_test bytes.now }
 {

@@ -7,7 +7,7 @@ ghost use Rattle.scripts.specs.Values.{is_plain as plain_test};
 ghost use Rattle.scripts.specs.Statements.{split_twice};
 ghost use Rattle.scripts.specs.Words.{split_once};
 
-/// What stands before the first such byte, and what stands after it, where there is one.
+/// What stands before the first byte `at`, and what stands after it; `None` if there is no such byte.
 #[tactic(auto, using(crate::proofs::WordLaws::cut_found, crate::proofs::WordLaws::cut_missing))]
 pub(crate) fn split_once(text: &[u8], at: u8) -> Option<(&[u8], &[u8])>
     ensures { option_map (λ r. (r.0.now, r.1.now)) result ≡ split_once at text.now }
@@ -18,8 +18,7 @@ pub(crate) fn split_once(text: &[u8], at: u8) -> Option<(&[u8], &[u8])>
     }
 }
 
-/// What stands before the first such byte, between it and the second, and behind that, where there are
-/// two.
+/// What stands before the first byte `at`, between it and the second, and after that; `None` if there are not two.
 pub(crate) fn split_twice(text: &[u8], at: u8) -> Option<(&[u8], &[u8], &[u8])>
     ensures { option_map (λ r. (r.0.now, r.1.now, r.2.now)) result ≡ split_twice at text.now }
 {
@@ -32,7 +31,6 @@ pub(crate) fn split_twice(text: &[u8], at: u8) -> Option<(&[u8], &[u8], &[u8])>
     }
 }
 
-/// The place of the first such byte.
 fn first_place(text: &[u8], at: u8) -> Option<usize>
     ensures { result ≡ position (λ byte. byte == at) text.now }
 {
@@ -58,7 +56,7 @@ fn other_in(text: &[u8]) -> Option<usize>
     text.iter().position(|byte| !byte.is_ascii_alphanumeric())
 }
 
-/// Whether there are letters and digits alone.
+/// Whether there are only letters and digits.
 pub(crate) fn is_plain(word: &[u8]) -> bool
     ensures { result ≡ plain_test word.now }
 {

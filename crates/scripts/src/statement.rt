@@ -34,7 +34,7 @@ pub fn statement_of(alloc: Global, word: &[u8]) -> Result<Option<Statement>, All
     Ok(None)
 }
 
-/// What stands between a front and a closing bracket at the end.
+/// What stands between `head` and a closing bracket at the end.
 fn fields_behind<'a>(word: &'a [u8], head: &[u8]) -> Option<&'a [u8]>
     ensures { option_map (λ r. r.now) result ≡ inside_brackets head.now word.now }
 {
@@ -44,7 +44,6 @@ fn fields_behind<'a>(word: &'a [u8], head: &[u8]) -> Option<&'a [u8]>
     rest.strip_suffix(b")")
 }
 
-/// The nomination of these fields.
 fn nomination_of(alloc: Global, fields: &[u8]) -> Result<Option<Statement>, AllocError>
     ensures { IfOk result (λ o. o ≡ nomination_in fields.now) }
 {
@@ -77,7 +76,6 @@ fn values_of(alloc: Global, list: &[u8]) -> Result<Option<Values>, AllocError>
     Ok(Some(values))
 }
 
-/// The PREPARE of these fields.
 fn prepare_of(alloc: Global, fields: &[u8]) -> Result<Option<Statement>, AllocError>
     ensures { IfOk result (λ o. o ≡ prepare_in fields.now) }
 {
@@ -115,7 +113,6 @@ fn optional_of(alloc: Global, word: &[u8]) -> Result<Option<Option<Ballot>>, All
     }
 }
 
-/// The COMMIT of these fields.
 fn commit_of(alloc: Global, fields: &[u8]) -> Result<Option<Statement>, AllocError>
     ensures { IfOk result (λ o. o ≡ commit_in fields.now) }
 {
@@ -155,7 +152,6 @@ fn three_counters(text: &[u8]) -> Option<(u32, u32, u32)>
     Some((first, second, third))
 }
 
-/// The EXTERNALIZE of these fields.
 fn externalize_of(alloc: Global, fields: &[u8]) -> Result<Option<Statement>, AllocError>
     ensures { IfOk result (λ o. o ≡ externalize_in fields.now) }
 {
@@ -174,7 +170,7 @@ fn externalize_of(alloc: Global, fields: &[u8]) -> Result<Option<Statement>, All
     }))
 }
 
-/// Adds the statement. Where memory is wanting, a part may have been added.
+/// Adds the statement. If it is out of memory, a part may have been added.
 pub fn push_statement(text: &mut String, statement: &Statement) -> Result<(), AllocError>
     ensures { OnOk result (string_bytes text.new ≡ string_bytes text.old ++ text_of_statement statement.now) }
 {
@@ -195,7 +191,6 @@ fn push_kind(text: &mut String, statement: &Statement) -> Result<(), AllocError>
     }
 }
 
-/// Adds the fields of a statement.
 fn push_fields(text: &mut String, statement: &Statement) -> Result<(), AllocError>
     ensures { OnOk result (string_bytes text.new ≡ string_bytes text.old ++ fields_of_statement statement.now) }
 {
@@ -276,7 +271,7 @@ fn push_more_values(text: &mut String, values: &[Value]) -> Result<(), AllocErro
     Ok(())
 }
 
-/// Adds a ballot, or `-` where there is none.
+/// Adds a ballot, or `-` if there is none.
 fn push_optional(text: &mut String, ballot: &Option<Ballot>) -> Result<(), AllocError>
     ensures { OnOk result (string_bytes text.new ≡ string_bytes text.old ++ text_of_optional ballot.now) }
 {

@@ -14,11 +14,10 @@ use std::io::{BufRead, ErrorKind, Read, Write};
 /// Reads a script line by line and runs each line before it waits for the next one, up to the first
 /// that is bad. What a line prints is written, and `out` flushed, before the next line is waited for.
 ///
-/// Lines, their numbers and the limit are those of [`crate::run_script`], which reads its script whole
-/// first. Here the lines before a fault have been run, whatever the fault: a read that fails
-/// ([`Stop::CannotRead`]), a line with which there are more than `LONGEST_SCRIPT` bytes
-/// ([`Stop::TooLong`]), or want of memory for a line. What they printed stays printed. A last line
-/// without a line feed is run at the end of the input, and nothing is read after it.
+/// Lines, their numbers and the limit are those of [`crate::run_script`], which reads its script whole first. Here the
+/// lines before a fault have been run, whatever the fault: a read that fails ([`Stop::CannotRead`]), a line with which
+/// there are more than `LONGEST_SCRIPT` bytes ([`Stop::TooLong`]), or running out of memory for a line. What they
+/// printed stays printed. A last line without a line feed is run at the end of the input, and nothing is read after it.
 pub fn run_stream<S: LineRunner, R: BufRead, W: Write>(
     alloc: Global,
     runner: &mut S,
@@ -68,8 +67,7 @@ fn run_limited<S: LineRunner, R: BufRead, W: Write>(
     }
 }
 
-/// The next bytes of a reader, up to its next line feed, of which there may be so many. Nothing is left
-/// where there are none.
+/// The next bytes of a reader, up to its next line feed, at most `room` of them. If there are none, nothing is left.
 fn next_bytes<R: BufRead>(alloc: Global, reader: &mut R, room: usize) -> Result<Vec<u8>, ReadError>
     ensures next { IfOk result (λ bytes. IsNext (R.remaining reader.old) (R.remaining reader.new) bytes.items) }
     ensures fits { IfOk result (λ bytes. vec_len bytes ≤ room) }

@@ -25,7 +25,7 @@ pub fn value_of(alloc: Global, word: &[u8]) -> Result<Option<Value>, AllocError>
     }
 }
 
-/// The bytes as a value, where they are one to 256.
+/// The bytes as a value, if they are one to 256.
 fn value_in(alloc: Global, bytes: &[u8]) -> Result<Option<Value>, AllocError>
     ensures value { IfOk result (λ o. o ≡ bytes_value bytes.now) }
     ensures none { bytes_value bytes.now ≡ None → result ≡ Ok None }
@@ -68,7 +68,7 @@ pub fn ballot_of(alloc: Global, word: &[u8]) -> Result<Option<Ballot>, AllocErro
     }
 }
 
-/// A counter, where it is there, and the word behind it.
+/// A counter, if it is there, and the word behind it.
 fn with_counter(counter: Option<u32>, value: &[u8]) -> Option<(u32, &[u8])>
     ensures { option_map (λ r. (r.0, r.1.now)) result ≡ counter_before counter value.now }
 {
@@ -88,8 +88,8 @@ fn ballot_fields(word: &[u8]) -> Option<(u32, &[u8])>
     }
 }
 
-/// Adds the value: as it is where it has letters and digits alone, else `#` and hexadecimal digits.
-/// Where memory is wanting, a part may have been added.
+/// Adds the value: as it is if it has only letters and digits, else `#` and hexadecimal digits. If it is out of memory,
+/// a part may have been added.
 pub fn push_value(text: &mut String, value: &Value) -> Result<(), AllocError>
     ensures { OnOk result (string_bytes text.new ≡ string_bytes text.old ++ text_of_value value.now) }
 {
@@ -101,7 +101,7 @@ pub fn push_value(text: &mut String, value: &Value) -> Result<(), AllocError>
     push_hex(text, bytes)
 }
 
-/// Adds the ballot. Where memory is wanting, a part may have been added.
+/// Adds the ballot. If it is out of memory, a part may have been added.
 pub fn push_ballot(text: &mut String, ballot: &Ballot) -> Result<(), AllocError>
     ensures { OnOk result (string_bytes text.new ≡ string_bytes text.old ++ text_of_ballot ballot.now) }
 {

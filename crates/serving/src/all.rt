@@ -22,8 +22,8 @@ pub(crate) struct NodeAnswer {
     pub served: Served,
 }
 
-/// The bytes come to each of these nodes, one after the other, and what came of it is added, in order. An error says that
-/// memory is short; then some were served.
+/// The bytes come to each of these nodes, one after the other, and what came of it is added, in order. An error says
+/// that it is out of memory; then some were served.
 pub(crate) fn serve_each<S: Shelf + Drop>(
     alloc: Global,
     network: &mut ServedNetwork<S>,
@@ -41,7 +41,6 @@ pub(crate) fn serve_each<S: Shelf + Drop>(
     serve_each(alloc, network, rest, bytes, answers)
 }
 
-/// The bytes come to this node.
 fn serve_one<S: Shelf + Drop>(
     alloc: Global,
     network: &mut ServedNetwork<S>,
@@ -60,7 +59,6 @@ fn serve_one<S: Shelf + Drop>(
     }
 }
 
-/// One answer more.
 fn push(answers: &mut Vec<NodeAnswer>, answer: NodeAnswer) -> Result<(), AllocError>
     ensures { OnOk result (answers.new.items ≡ answers.old.items ++ answer ∷ []) }
 {
@@ -71,7 +69,7 @@ fn push(answers: &mut Vec<NodeAnswer>, answer: NodeAnswer) -> Result<(), AllocEr
     }
 }
 
-/// Adds the lines of all nodes, where one of them was not refused.
+/// Adds the lines of all nodes, if one of them was not refused.
 pub(crate) fn push_answers(
     text: &mut String,
     place: Place,
@@ -85,7 +83,8 @@ pub(crate) fn push_answers(
     }
 }
 
-/// What the bytes did that came to all nodes and drew so much: where a node took them they were applied at its slot.
+/// What the bytes did that came to all nodes and drew `drawn`: if a node did not refuse them, they were applied at its
+/// slot.
 pub(crate) fn deed_of_all(answers: &[NodeAnswer], drawn: Drawn) -> Deed
     ensures { result ≡ deed_of_all (slot_of_answers answers.now) drawn }
 {
@@ -138,7 +137,7 @@ fn push_answer(
     }
 }
 
-/// How the answer ends: `ok` where one node took them, else `stale` where one was not refused, else the first refusal.
+/// How the answer ends: `ok` if one node took them, else `stale` if one was not refused, else the first refusal.
 pub(crate) fn closing_of_answers(answers: &[NodeAnswer]) -> Closing
     ensures { result ≡ closing_of_answers answers.now }
 {

@@ -1,4 +1,4 @@
-//! What is printed of a line. Where memory is wanting, a part may have been added.
+//! What is printed of a line. If it is out of memory, a part may have been added.
 
 ghost use Rattle.std.specs.Prelude.{◌≡◌, ◌++◌, OnOk, codes, map, string_bytes};
 ghost use Rattle.std.specs.List.{flat_map};
@@ -22,9 +22,9 @@ pub(crate) enum Closing {
     Taken,
     /// `stale`: it was applied, and nothing changed.
     Stale,
-    /// `refused`: the event is none, for this reason.
+    /// `refused`: it was refused, for this reason.
     Refused(Refusal),
-    /// `bad`: it is no line of a live host.
+    /// `bad`: it is no line of a live host, or asks for what is not allowed.
     Bad,
 }
 

@@ -2,7 +2,7 @@
 
 ghost use Rattle.serving.specs.Compacted.{CompactedFilesLeadToAlikeHosts, DeclarationsAreSmall, DeclarationsMayBeLowered, NamingLinesBegin, RefusedLinesStayAlike, ShorterJournalsLeadToAlikeHosts, SlotsMayBeErased};
 
-/// A law: the shorter journal of a host leads to one that is alike, where no block said that memory was wanting.
+/// A law: the shorter journal of a host leads to one that is alike, if no block said that it was out of memory.
 pub fn shorter_journals_follow()
     ensures small { DeclarationsAreSmall }
     ensures lowered { DeclarationsMayBeLowered }

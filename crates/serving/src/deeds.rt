@@ -15,7 +15,7 @@ pub(crate) fn done_to(network: u32, deed: Deed) -> Option<Done>
     Some(Done { network, deed })
 }
 
-/// What was drawn on the budgets of a network that had used up so much before, and so much afterwards.
+/// What was drawn on the budgets of a network, by what it had used up before and afterwards.
 pub(crate) fn drawn_between(before: Used, after: Used) -> Drawn
     ensures { result ≡ drawn_between before after }
 {
@@ -26,7 +26,7 @@ pub(crate) fn drawn_between(before: Used, after: Used) -> Drawn
     }
 }
 
-/// What an event did that was served, and drew so much.
+/// What an event did that was served, and drew `drawn`.
 pub(crate) fn deed_of(event: &Event, served: &Served, drawn: Drawn) -> Deed
     ensures { result ≡ deed_of event.now served.now drawn }
 {
@@ -36,7 +36,7 @@ pub(crate) fn deed_of(event: &Event, served: &Served, drawn: Drawn) -> Deed
     }
 }
 
-/// What an event did that was applied, and drew so much: at the slot that it opened or closed, or else at this one.
+/// What an event did that was applied, and drew `drawn`: at the slot that it opened or closed, or else at `slot`.
 fn deed_at(event: &Event, slot: u64, drawn: Drawn) -> Deed
     ensures { result ≡ deed_at event.now slot drawn }
 {

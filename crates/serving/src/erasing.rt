@@ -2,7 +2,8 @@
 
 ghost use Rattle.serving.specs.Erasing.{AllClosedSlotsAreErased, AllMachineEventsThereAreErased, ClosedSlotsAreErased, ErasedMachinesServeAllAlike, ErasedMachinesServeAlike, ErasedNetsRefuseAlike, ErasedNetsRefuseEventsAlike, ErasedNetsServeAlike, ErasedNetsStepAlike, EventsThereAreErased, MachineEventsThereAreErased, OthersDrawAsMuch, StepsThereAreErased};
 
-/// A law: a step at another slot comes to the same, if what happens at the slot yet finds room afterwards.
+/// A law: a step at another slot comes to the same, if there is room afterwards for what is yet drawn at the erased
+/// one. One that is refused may be refused for another reason, and an opening may be done.
 pub fn erased_nets_step_alike()
     ensures done { ErasedNetsStepAlike }
     ensures refused { ErasedNetsRefuseAlike }
@@ -13,27 +14,29 @@ pub fn steps_there_are_erased()
     ensures { StepsThereAreErased }
 {}
 
-/// A law: an event at another slot comes to the same, with all that the others hear of it; and one at the slot changes
-/// nothing of what is left.
+/// A law: an event at another slot comes to the same as such a step, with all that the others hear of it; and one at
+/// the slot changes nothing of what is left.
 pub fn erased_nets_serve_alike()
     ensures done { ErasedNetsServeAlike }
     ensures refused { ErasedNetsRefuseEventsAlike }
     ensures there { EventsThereAreErased }
 {}
 
-/// A law: the same of networks as the host keeps them.
+/// A law: of networks as the host keeps them, an event at another slot comes to the same, if memory sufficed and there
+/// is room afterwards; and one at the slot changes nothing of what is left.
 pub fn erased_machines_serve_alike()
     ensures elsewhere { ErasedMachinesServeAlike }
     ensures there { MachineEventsThereAreErased }
 {}
 
-/// A law: the same of bytes that come to each node.
+/// A law: bytes of another slot that come to each node come to the same then, and those of the slot change nothing of
+/// what is left.
 pub fn erased_machines_serve_all_alike()
     ensures elsewhere { ErasedMachinesServeAllAlike }
     ensures there { AllMachineEventsThereAreErased }
 {}
 
-/// A law: the lines of a slot that is closed at the end may be left out, if so much less is declared as they draw.
+/// A law: the lines of slots that are closed at the end may be left out, if as much less is declared as they drew.
 pub fn closed_slots_are_erased()
     ensures erased { ClosedSlotsAreErased }
     ensures all_erased { AllClosedSlotsAreErased }

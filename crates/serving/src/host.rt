@@ -72,7 +72,7 @@ impl LiveHost {
         self.waiting.count() + self.running.len()
     }
 
-    /// The answer to a line that is not too long; `None` where it is empty or a comment.
+    /// The answer to a line that is not too long; `None` if it is empty or a comment.
     fn serve_line(
         &mut self,
         alloc: Global,
@@ -142,7 +142,7 @@ impl LiveHost {
         }
     }
 
-    /// The answer to a declaration, which is kept where it is taken.
+    /// The answer to a declaration, which is kept if it is taken.
     fn answer_declaration(
         &mut self,
         place: Place,
@@ -182,7 +182,7 @@ impl LiveHost {
         }
     }
 
-    /// A line declares this of the network of a number, and whether that is taken. If it is not, nothing changes.
+    /// Has this declared of the network of a number, and answers whether it is taken. If it is not, nothing changes.
     fn declare(&mut self, number: u32, declaration: Declaration) -> Result<bool, AllocError>
         ensures { IfOk result (λ taken. IsDeclared number declaration self.old taken self.new) }
     {
@@ -230,8 +230,8 @@ impl LiveHost {
         }
     }
 
-    /// An event names the network of a number, which runs from now on if it waits. Where it waits and has no node it is
-    /// none, and nothing changes.
+    /// An event names the network of a number, which runs from now on if it waits. If it waits without a node the
+    /// answer is no, and nothing changes.
     fn begin(&mut self, number: u32) -> Result<bool, AllocError>
         ensures { IfOk result (λ begun. IsBegun number self.old begun self.new) }
     {
@@ -337,7 +337,7 @@ impl LiveHost {
         }
     }
 
-    /// The block of what a node at a slot is.
+    /// The block that shows a node at a slot.
     fn answer_show(&self, place: Place, slot: u64, node: &NodeId) -> Result<String, AllocError>
         ensures { IfOk result (λ text. IsShown place.line place.network slot node.now self.now (string_bytes text)) }
     {
@@ -362,7 +362,7 @@ impl LiveHost {
         }
     }
 
-    /// The answer to a line that takes a network back, which is kept where there is one.
+    /// The answer to a line that takes a network back, which is kept if there is one.
     fn answer_drop(&mut self, place: Place) -> Result<Answer, AllocError>
         ensures { IfOk result (λ answer. IsAnswer place.line place.network Ask.Drop self.old (reply_of (Some answer)) self.new) }
     {
@@ -374,7 +374,7 @@ impl LiveHost {
         }
     }
 
-    /// The network of a number is taken back, whether it waits or runs, and whether there was one.
+    /// Takes the network of a number back, whether it waits or runs, and answers whether there was one.
     fn take_back(&mut self, number: u32) -> bool
         ensures { IsDropped number self.old result self.new }
     {
@@ -406,8 +406,8 @@ impl LineServer for LiveHost {
 
     ghost whole = { kept_lines_are_whole };
 
-    /// The answer to a line. An error says that memory is short; then the line has no answer, and some of it may have
-    /// happened.
+    /// The answer to a line, or `None` if it is empty or a comment. An error says that it is out of memory; then the
+    /// line has no answer, and some of it may have happened.
     fn serve(
         &mut self,
         alloc: Global,
@@ -421,7 +421,7 @@ impl LineServer for LiveHost {
     }
 }
 
-/// The block of what a node at a slot of a network that runs is.
+/// The block that shows a node at a slot of a network that runs.
 fn show<S: Shelf + Drop>(
     alloc: Global,
     place: Place,
@@ -467,7 +467,7 @@ fn names_of(alloc: Global, config: &NetConfig) -> Result<Vec<NodeId>, AllocError
         .collect(alloc)
 }
 
-/// The block that is one line.
+/// The block that is only its closing line.
 fn closed(alloc: Global, line: u64, closing: Closing) -> Result<String, AllocError>
     ensures { IfOk result (λ text. string_bytes text ≡ closing_line line closing) }
 {
@@ -483,7 +483,7 @@ fn bad_line(alloc: Global, line: u64) -> Result<Answer, AllocError>
     one_line(alloc, line, Closing::Bad, None)
 }
 
-/// The answer to a line on a network that no line has declared, which is not kept.
+/// The answer to a line on a network that is not declared, which is not kept.
 fn no_network(alloc: Global, line: u64) -> Result<Answer, AllocError>
     ensures { IfOk result (λ answer. reply_of (Some answer) ≡ one_line line (Closing.Refused Refusal.NoSuchNetwork) None) }
 {

@@ -2,8 +2,8 @@
 
 ghost use Rattle.serving.specs.Lowering.{BegunWithLess, DeclarationsAreServed, DeclarationsLeaveOne, LessBegins, LessIsConfigured, LessIsMovedBack, LoweredDeclarationsDeclareLess, LoweredLinesAreNoLonger, LoweredLinesDeclareLess, NodeLinesStay, RunsDeclare};
 
-/// A law: a line that declares something of a network declares as much less of it once it is lowered, and is no longer than
-/// it was.
+/// A law: a line that declares something of a network declares as much less of it once it is lowered, and is no longer
+/// than it was.
 pub fn lowered_lines_declare_less()
     ensures less { LoweredLinesDeclareLess }
     ensures nodes { NodeLinesStay }
@@ -18,8 +18,8 @@ pub fn lowered_declarations_declare_less()
     ensures one { DeclarationsLeaveOne }
 {}
 
-/// A law: what was declared with less is configured with less, and with so much more of both what is declared and what is
-/// used up it is what it was.
+/// A law: what was declared with less is configured with less. With as much more declared and used up it is what it
+/// was.
 pub fn less_is_configured()
     ensures configured { LessIsConfigured }
     ensures moved_back { LessIsMovedBack }

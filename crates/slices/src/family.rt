@@ -11,8 +11,8 @@ use types::NodeId;
 
 /// Slices of any kind. A set of nodes is an ascending slice.
 ///
-/// The ghost members say what the slices mean, and the laws are all that the crates above know of
-/// them: a quorum test rests on `monotone`, a cut to a region on `local`, a blocking test on `dual`.
+/// The ghost members say what the slices mean, and the laws are all that generic code knows of them: a quorum test
+/// rests on `monotone`, a cut to a region on `local`, a blocking test on `dual`.
 pub trait SliceFamily {
     /// Whether a set of nodes satisfies the slices.
     ghost sat: { Self → Names → Bool };
@@ -41,7 +41,7 @@ pub trait SliceFamily {
         ensures counted { result ≡ blocked self.now (among nodes.now) }
         ensures exactly { IsTrue result ↔ Blocks sat self.now (among nodes.now) };
 
-    /// All nodes that the slices name, ascending, none twice. An error says that memory is short.
+    /// All nodes that the slices name, ascending, none twice. An error says that it is out of memory.
     fn names(&self, alloc: Global) -> Result<Vec<NodeId>, AllocError>
         ensures ascending { IfOk result (λ v. IsAscending v.items) }
         ensures all { IfOk result (λ v. (u : ℕ) → among v.items u ≡ among (names self.now) u) };

@@ -1,8 +1,8 @@
 //! Slices of nodes: which sets of nodes satisfy them, which block them, which nodes they name, and
 //! how much each name weighs.
 //!
-//! Everything above knows slices by the trait [`SliceFamily`] and its laws alone. A set of nodes is
-//! an ascending slice.
+//! Quorums and federated voting in general know slices only by the trait [`SliceFamily`] and its laws. A set of nodes
+//! is an ascending slice.
 #![tactic(auto)]
 
 mod family;

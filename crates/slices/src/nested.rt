@@ -91,7 +91,7 @@ fn count_blocked(set: &SliceSet, nodes: &[NodeId]) -> usize
     count
 }
 
-/// Whether fewer members than the threshold are left when so many are blocked.
+/// Whether fewer members than the threshold are left when `blocked` of them are blocked.
 #[tactic(auto, using(crate::proofs::MemberLaws::member_count_is))]
 fn leaves_too_few(set: &SliceSet, blocked: usize) -> bool
     ensures { result ≡ nat_lt (member_count set.now.members) (set.now.threshold + blocked) }

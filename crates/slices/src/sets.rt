@@ -5,10 +5,10 @@ ghost use Rattle.protocol.specs.Sets.{among, IsAscending};
 
 use types::NodeId;
 
-/// Among so many nodes each is looked at: to halve them again and again would cost more.
+/// Among this many nodes or fewer each is looked at: to halve them again and again would cost more.
 const FEW_NODES: usize = 8;
 
-/// Whether a node is in a set, an ascending slice, by a binary search where they are many.
+/// Whether a node is in a set, an ascending slice, by a binary search if they are many.
 pub fn is_among(nodes: &[NodeId], node: &NodeId) -> bool
     requires { IsAscending nodes.now }
     ensures { result ≡ among nodes.now node.now }

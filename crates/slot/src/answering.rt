@@ -20,7 +20,7 @@ use types::{Inputs, Votes};
 /// What a node has at one moment beside its rows.
 #[derive(Clone, Copy)]
 pub(crate) struct State<'a> {
-    /// What events alone set.
+    /// What only events set.
     pub inputs: &'a Inputs,
     /// What its rules made of that.
     pub votes: &'a Votes,
@@ -37,15 +37,15 @@ pub(crate) struct Start<'a> {
     pub stirred: Stirred,
 }
 
-/// The votes after an event, where it changed them, and what the node gives out, each emitted envelope filed, with whole
-/// copies.
+/// What an event made of a node: the votes, if they changed, and what the node gives out, with whole copies. Each
+/// emitted envelope is filed.
 #[derive(Drop)]
 pub(crate) struct Answer {
     pub votes: Option<Votes>,
     pub given_out: GivenOut,
 }
 
-/// A law: votes at which a value is externalized are at rest, whatever the node sees, since no rule changes them.
+/// A law: once a value is externalized the votes are at rest, whatever the node sees, since no rule changes them.
 #[tactic(auto, using(crate::proofs::Settles::over_settles))]
 pub(crate) fn rests(start: &Start<'_>)
     requires { start.now.votes.now.phase ≡ Externalized }
@@ -54,8 +54,8 @@ pub(crate) fn rests(start: &Start<'_>)
     let _phase = start.votes.phase;
 }
 
-/// The votes after passes from this start on, by what the node sees; `None` where they stay. An error says that memory
-/// is short.
+/// The votes after passes from this start on, by what the node sees; `None` if they stay. An error says that it is out
+/// of memory.
 pub(crate) fn settled_votes<'a, S: Sight>(
     alloc: Global,
     configured: &'a Configured,
@@ -74,7 +74,7 @@ pub(crate) fn settled_votes<'a, S: Sight>(
     settle_from(alloc, &context, start.votes, start.stirred)
 }
 
-/// The votes that settled, or those before where they stay.
+/// The votes that settled, or those before if they stayed.
 pub(crate) fn votes_or<'a>(settled: &'a Option<Votes>, before: &'a Votes) -> &'a Votes
     ensures { result.now ≡ unwrap_or settled.now before.now }
 {
@@ -84,7 +84,6 @@ pub(crate) fn votes_or<'a>(settled: &'a Option<Votes>, before: &'a Votes) -> &'a
     }
 }
 
-/// Sets the votes that settled; those that stay are left as they are.
 pub(crate) fn set_settled(votes: &mut Votes, settled: Option<Votes>)
     ensures { votes.new ≡ unwrap_or settled votes.old }
 {

@@ -21,8 +21,9 @@ use std::alloc::{AllocError, Global};
 use types::{Phase, Votes};
 use view::{KnownReach, Own, View};
 
-/// What passes make of a node with these rows from this start on, and what it gives out since the old state, with so
-/// many whole copies. What contracts see of the listener stays as it was, and an error says that memory is short.
+/// What passes make of a node with these rows from this start on, and what it gives out since the old state. `copies`
+/// whole copies are made of that. What contracts see of the listener stays as it was. An error says that it is out of
+/// memory.
 pub(crate) fn answer<S: Shelf>(
     alloc: Global,
     archive: &mut Archive<S>,
@@ -54,8 +55,8 @@ pub(crate) fn answer<S: Shelf>(
     }
 }
 
-/// The same where the rows or the slices alone are other ones: where the votes stay nothing is compared, since nothing is
-/// given out.
+/// What passes make of a node if only its rows or slices have changed. If the votes stay nothing is compared, since
+/// nothing is given out.
 pub(crate) fn answer_anew<S: Shelf>(
     alloc: Global,
     archive: &mut Archive<S>,
@@ -98,7 +99,7 @@ pub(crate) fn answer_anew<S: Shelf>(
     }
 }
 
-/// The votes after passes from this start on, by the rows; `None` where they stay. Where a value is externalized no rule
+/// The votes after passes from this start on, by the rows; `None` if they stay. Once a value is externalized no rule
 /// reads any row.
 fn votes_after<S: Places>(
     alloc: Global,
@@ -121,8 +122,8 @@ fn votes_after<S: Places>(
     votes
 }
 
-/// What the listener knows of its reach, with what the rules that are stirred go through listed. An error says that memory
-/// is short.
+/// What the listener knows of its reach; what the stirred rules go through is listed there. An error says that it is
+/// out of memory.
 fn take_reach<S: Places>(
     alloc: Global,
     archive: &Archive<S>,
@@ -146,8 +147,8 @@ fn take_reach<S: Places>(
     Ok(reach)
 }
 
-/// Lists the values of nominations where rules of nomination are stirred, and the ballots where those of balloting are.
-/// An error says that memory is short.
+/// Lists the values of nominations if rules of nomination are stirred, and the ballots if those of balloting are. An
+/// error says that it is out of memory.
 fn list_for<S: Places>(
     alloc: Global,
     own: Own<'_>,
@@ -169,7 +170,8 @@ fn list_for<S: Places>(
     }
 }
 
-/// The votes after passes from this start on, by the rows of the nodes that are reached; `None` where they stay.
+/// The votes after passes from this start on, by the rows of the reached nodes; `None` if they stay. After a nomination
+/// row the rules of balloting hardly ask, so ballot rows are read where they stand.
 fn votes_within<S: Places>(
     alloc: Global,
     archive: &Archive<S>,

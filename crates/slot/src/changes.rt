@@ -21,14 +21,12 @@ pub(crate) struct Changed {
     pub votes: Votes,
 }
 
-/// Whether the nomination timer of this round acts.
 pub(crate) fn is_round_live(inputs: &Inputs, votes: &Votes, round: u32) -> bool
     ensures { result ≡ is_nomination_timer_live round inputs.now.round (is_some votes.now.confirmed_prepared) }
 {
     nomination_is_live(round, inputs.round, votes.confirmed_prepared.is_some())
 }
 
-/// Whether the ballot timer that was armed for this counter acts.
 pub(crate) fn is_counter_live(votes: &Votes, counter: u32) -> bool
     ensures { result ≡ is_ballot_timer_live counter votes.now.armed (option_map (λ b. b.counter) votes.now.ballot) (is_externalized votes.now.phase) }
 {
@@ -39,8 +37,8 @@ pub(crate) fn is_counter_live(votes: &Votes, counter: u32) -> bool
     ballot_is_live(counter, votes.armed, current, is_externalized(votes.phase))
 }
 
-/// Inputs and votes once the node is to propose a value: round 1 begins with its leader. An error says
-/// that memory is short.
+/// Inputs and votes once the node is to propose a value: round 1 begins, with its leader. An error says that it is out
+/// of memory.
 pub(crate) fn with_proposal(
     alloc: Global,
     configured: &Configured,
@@ -61,8 +59,8 @@ pub(crate) fn with_proposal(
     })
 }
 
-/// Inputs and votes once the timer of this round has fired: the next round begins with its leader. An
-/// error says that memory is short.
+/// Inputs and votes once the timer of this round has fired: the next round begins, with its leader. An error says that
+/// it is out of memory.
 pub(crate) fn in_next_round(
     alloc: Global,
     configured: &Configured,
@@ -79,7 +77,7 @@ pub(crate) fn in_next_round(
     })
 }
 
-/// The round begins with its leader; earlier leaders stay.
+/// Begins the round, with its leader; earlier leaders stay.
 fn in_round(configured: &Configured, inputs: Inputs, round: u32) -> Result<Inputs, AllocError>
     ensures { IfOk result (λ g. g ≡ inputs_in_round configured.now inputs round) }
 {
@@ -90,7 +88,7 @@ fn in_round(configured: &Configured, inputs: Inputs, round: u32) -> Result<Input
     Ok(inputs)
 }
 
-/// Inputs and votes once one more ballot timer has fired. An error says that memory is short.
+/// Inputs and votes once one more ballot timer has fired. An error says that it is out of memory.
 pub(crate) fn with_timeout(
     alloc: Global,
     inputs: &Inputs,
@@ -108,8 +106,8 @@ pub(crate) fn with_timeout(
     })
 }
 
-/// The votes with the ballot one counter up, its value chosen as after a raise. It takes no memory; an error
-/// says that a value has too many owners.
+/// The votes with the ballot one counter up, its value chosen as by the rule that raises counters. It takes no memory;
+/// an error says that a value has too many owners.
 fn votes_at_next_counter(votes: &Votes) -> Result<Votes, AllocError>
     requires { counter_of votes.now.ballot < 4294967295 }
     ensures { IfOk result (λ w. w ≡ at_next_counter votes.now votes.now.ballot) }

@@ -21,7 +21,7 @@ pub enum FiledEvent {
 /// What one node at one slot gives out.
 #[derive(Drop)]
 pub enum FiledOut {
-    /// The timer of this round of nomination is to be armed.
+    /// The nomination timer is to be armed for this round.
     ArmNomination(u32),
     /// The ballot timer is to be armed for this counter.
     ArmBallot(u32),

@@ -1,6 +1,6 @@
 //! What a node gives out is filed.
 //!
-//! Where a function here answers an error, memory is short.
+//! An error of a function here says that it is out of memory.
 
 ghost use Rattle.std.specs.Prelude.{[], ◌≡◌, ℕ, IfOk, List, map, replicate};
 ghost use Rattle.envstore.specs.Archives.{Keeps};
@@ -17,7 +17,7 @@ use listening::Configured;
 use std::alloc::{AllocError, Global};
 use types::Out;
 
-/// The same, each emitted envelope filed. With an error some envelopes may be filed.
+/// The outs, each emitted envelope filed. After an error some envelopes may be filed.
 fn file_all<S: Shelf>(
     alloc: Global,
     archive: &mut Archive<S>,
@@ -34,7 +34,7 @@ fn file_all<S: Shelf>(
     Ok(filed)
 }
 
-/// The same, filed where it is an emitted envelope.
+/// The out, its envelope filed if it emits one.
 fn file<S: Shelf>(archive: &mut Archive<S>, out: Out) -> Result<FiledOut, AllocError>
     ensures out { IfOk result (λ o. out_of o ≡ out) }
     ensures filed { IfOk result (λ o. IsFiledOut archive.new o) }
@@ -52,8 +52,8 @@ fn file<S: Shelf>(archive: &mut Archive<S>, out: Out) -> Result<FiledOut, AllocE
     }
 }
 
-/// What is given out where an event led from one state to another, each emitted envelope filed, with so many whole
-/// copies, which are made before. With an error some envelopes may be filed.
+/// What is given out if an event led from one state to another, each emitted envelope filed, with `copies` whole
+/// copies. These are made before anything is filed. After an error some envelopes may be filed.
 pub(crate) fn give_out<S: Shelf>(
     alloc: Global,
     archive: &mut Archive<S>,
@@ -74,7 +74,7 @@ pub(crate) fn give_out<S: Shelf>(
     Ok(GivenOut { outs, copies })
 }
 
-/// Nothing is given out, with as many copies as may be asked for: of nothing none is made. It takes no memory.
+/// Nothing is given out, whatever number of copies was asked for, since of nothing none is made. It takes no memory.
 pub(crate) fn nothing(alloc: Global) -> GivenOut
     ensures outs { result.outs.items ≡ [] }
     ensures copies { (count : ℕ) → HasCopies count result }
@@ -85,7 +85,7 @@ pub(crate) fn nothing(alloc: Global) -> GivenOut
     }
 }
 
-/// So many copies of outs; of nothing none is made.
+/// `count` copies of outs; of nothing none is made.
 #[tactic(auto, using(crate::proofs::Copying::copied))]
 fn copies_of(alloc: Global, outs: &[Out], count: usize) -> Result<Vec<Vec<Out>>, AllocError>
     ensures { IfOk result (λ v. map (λ w. w.items) v.items ≡ copies_of count outs.now) }
@@ -96,7 +96,6 @@ fn copies_of(alloc: Global, outs: &[Out], count: usize) -> Result<Vec<Vec<Out>>,
     lists_of(alloc, outs, count)
 }
 
-/// So many lists of the same outs.
 fn lists_of(alloc: Global, outs: &[Out], count: usize) -> Result<Vec<Vec<Out>>, AllocError>
     ensures { IfOk result (λ v. map (λ w. w.items) v.items ≡ replicate count outs.now) }
 {
@@ -107,7 +106,6 @@ fn lists_of(alloc: Global, outs: &[Out], count: usize) -> Result<Vec<Vec<Out>>, 
     Ok(copies)
 }
 
-/// A copy of outs.
 fn copy_of(alloc: Global, outs: &[Out]) -> Result<Vec<Out>, AllocError>
     ensures { IfOk result (λ v. v.items ≡ outs.now) }
 {

@@ -35,15 +35,15 @@ use types::{Inputs, Nested, NodeId, Value, Votes};
 
 /// One node at one slot, and all that it knows there.
 ///
-/// The nodes that it reaches are kept from one event to the next: so a row of a stranger costs no pass, and
-/// one with the slices that its sender announced before costs no search for them. A row by which others are
-/// reached is followed; where memory is short for that, where two such rows come with no pass between them,
-/// and after new slices of its own, they are found anew.
+/// The nodes that it reaches are kept from one event to the next. So a row of a stranger costs no pass, and one with
+/// the slices that its sender announced before costs no search for them. If a row has the node reach others, they are
+/// followed. They are found anew after new slices of its own, after two such rows with no pass between them, and if it
+/// is out of memory.
 ///
-/// Contracts see it as the node of the protocol's definitions. It is made and changed by events alone.
+/// Contracts see it as the node of the protocol's definitions. It is made and changed only by events.
 ///
-/// For example, a node that has a proposal and is in round 1 is one, since a proposal leads to it; one that has a
-/// proposal and is in no round is none.
+/// For example, a node that has a proposal and is in round 1 may be one, since a proposal leads to it. No node has a
+/// proposal and is in no round.
 #[derive(Drop)]
 pub struct Node {
     listener: Listener,
@@ -79,7 +79,7 @@ impl Node {
         }
     }
 
-    /// A copy. An error says that memory is short.
+    /// A copy. An error says that it is out of memory.
     pub fn try_copy<S: Places>(
         &self,
         alloc: Global,
@@ -125,14 +125,14 @@ impl Node {
         self.listener.configuration().slot
     }
 
-    /// Its own slices, those that are configured at this moment.
+    /// Its own slices, as they are configured at the moment.
     pub fn slices(&self) -> &Nested
         ensures { result.now ≡ self.now.node.slices }
     {
         &self.listener.configuration().slices
     }
 
-    /// What events alone set.
+    /// What only events set.
     pub fn inputs(&self) -> &Inputs
         ensures { result.now ≡ self.now.node.inputs }
     {
@@ -153,7 +153,7 @@ impl Node {
         self.listener.table()
     }
 
-    /// The rows of its table, as they read in the archive where they lie.
+    /// The rows of its table, read in the archive where they lie.
     pub fn rows<'a, S: Places>(&'a self, archive: &'a Archive<S>) -> Rows<'a, S>
         requires { AreFiled archive.now self.now.rows }
         ensures { result ≡ self.entry.now.node.table }
@@ -161,14 +161,16 @@ impl Node {
         Rows::of(self.listener.table(), archive)
     }
 
-    /// Whether the nomination timer of this round acts.
+    /// Whether the nomination timer of this round would have an effect: the node is in this round, another can follow,
+    /// and no ballot is confirmed prepared.
     pub fn is_round_live(&self, round: u32) -> bool
         ensures { result ≡ is_round_live self.now.node round }
     {
         is_round_live(&self.inputs, &self.votes, round)
     }
 
-    /// Whether the ballot timer that was armed for this counter acts.
+    /// Whether the ballot timer of this counter would have an effect: it was armed last, the ballot is still at this
+    /// counter, another can follow, and no value is externalized.
     pub fn is_counter_live(&self, counter: u32) -> bool
         ensures { result ≡ is_counter_live self.now.node counter }
     {
@@ -182,28 +184,26 @@ impl Node {
         let _inputs = &self.inputs;
     }
 
-    /// One event: its own change, then passes until one changes nothing, then what is given out, in
-    /// order (the Stellar Consensus Protocol draft; the order of events and outs is this host's
-    /// profile). A stale envelope and a timer that is not live change nothing, give nothing out and
-    /// take no memory, so such an event never fails.
-    /// The slot that an envelope is about is not looked at: the caller hands a node those of its own.
+    /// Does one event: its own change, then passes until one changes nothing, then what is given out, in order (the
+    /// Stellar Consensus Protocol draft; the order of events and outs is this host's profile). A stale envelope and a
+    /// timer that is not live change nothing, give nothing out and take no memory, so such an event never fails. The
+    /// slot of an envelope is not looked at: the caller hands a node those of its own.
     ///
-    /// New slices are in force from this event on, for later leaders too; earlier leaders stay. They are
-    /// not sent by themselves, but with the next statement.
+    /// New slices are in force from this event on, also for later leaders; earlier leaders stay. They are not sent by
+    /// themselves, but with the next statement.
     ///
-    /// Each envelope that is given out carries the node's own name, its slot and the slices that are
-    /// configured now, and keeps the widths and the rules of an envelope: so it can be spelled, and what
-    /// reads that spelling back reads this envelope.
+    /// Each envelope that is given out carries the node's own name, its slot and the slices that are configured now. It
+    /// keeps the widths and the rules of an envelope, so it can be spelled, and its spelling reads back as this
+    /// envelope.
     ///
-    /// The rows of the node, and the envelope that it takes, lie in the archive that is lent; the
-    /// envelopes that it gives out are filed there.
+    /// The rows of the node, and the envelope that it takes, lie in the archive that is lent. The envelopes that it
+    /// gives out are filed there.
     ///
-    /// Of what it gives out as many whole copies are made as are asked for, before anything changes: so a
-    /// caller that has made room beforehand for the outs, of which there are at most five, needs no memory
-    /// afterwards. Of nothing no copies are made.
+    /// `copies` whole copies of what is given out are made, before anything changes. So a caller that has made room
+    /// beforehand for the outs, at most five, needs no memory afterwards. Of nothing no copies are made.
     ///
-    /// An error says that memory is short, and the node is as it was; some of what it would have given out
-    /// may be filed.
+    /// An error says that it is out of memory, and the node is as it was; some of what it would have given out may be
+    /// filed.
     pub fn advance<S: Shelf>(
         &mut self,
         alloc: Global,
@@ -235,8 +235,8 @@ impl Node {
         self.settle(alloc, archive, changed, copies)
     }
 
-    /// The node after one event, as by [`Node::advance`], and what it gives out; this node stays as it
-    /// is. An error says that memory is short: since the node is copied, any event may want it.
+    /// The node after one event, as by [`Node::advance`], and what it gives out; this node stays as it is. An error
+    /// says that it is out of memory: since the node is copied, any event may answer it.
     pub fn step<S: Shelf>(
         &self,
         alloc: Global,
@@ -282,7 +282,7 @@ impl Node {
         Ok(changed)
     }
 
-    /// What a nomination timer changes: the next round begins where it is live.
+    /// What a nomination timer changes: if it is live, the next round begins.
     fn changed_by_nomination_timer(
         &self,
         alloc: Global,
@@ -304,7 +304,7 @@ impl Node {
         Ok(Some(changed))
     }
 
-    /// What a ballot timer changes: the ballot goes one counter up where it is live.
+    /// What a ballot timer changes: if it is live, the ballot goes one counter up.
     fn changed_by_ballot_timer(
         &self,
         alloc: Global,
@@ -320,8 +320,7 @@ impl Node {
         Ok(Some(changed))
     }
 
-    /// The configured slices are these from now on, and passes follow. Those that were are put back where
-    /// a later growth finds no memory.
+    /// Configures these slices from now on, and passes follow. The slices before are put back if it is out of memory.
     fn reslice<S: Shelf>(
         &mut self,
         alloc: Global,
@@ -356,8 +355,8 @@ impl Node {
         }
     }
 
-    /// Whether an envelope of this sender is surely no more than a row to the node: a value was externalized,
-    /// so that no rule applies, or the sender is a stranger and no leader.
+    /// Whether an envelope of this sender is surely no more than a row to the node. That is so once a value is
+    /// externalized, as no rule applies then, or if the sender is a stranger and no leader.
     fn adds_row_alone(&self, sender: &NodeId) -> bool
         ensures { IsTrue result → AddsRowAlone self.now.node sender.now }
     {
@@ -367,9 +366,8 @@ impl Node {
         self.listener.is_stranger(sender) && !leads(sender, &self.inputs)
     }
 
-    /// An envelope reaches the node. One that is no more than a row is offered to the table. Any other that is
-    /// newer than its sender's row of its kind is the row now, and passes follow; it is taken back out where a
-    /// later growth finds no memory.
+    /// Takes an envelope. One that is no more than a row is offered to the table. Any other one is put there, and
+    /// passes follow unless it is stale. If it is out of memory then, the envelope is taken back out.
     fn take<S: Shelf>(
         &mut self,
         alloc: Global,
@@ -405,7 +403,7 @@ impl Node {
                 };
                 match answer_anew(alloc, archive, &mut self.listener, &start, copies) {
                     Ok(Answer { votes, given_out }) => {
-                        // The row stays, and the way back is let go.
+                        // The row stays, so the put need not be undone.
                         drop(put);
                         set_settled(&mut self.votes, votes);
                         Ok(given_out)
@@ -419,8 +417,8 @@ impl Node {
         }
     }
 
-    /// Passes, from what an event's own change made of inputs and votes on, and what is given out; nothing
-    /// where it changed nothing. An error says that memory is short, and the node is as it was.
+    /// Passes from what an event's own change made of inputs and votes, and what is given out; nothing if the event
+    /// changed nothing. An error says that it is out of memory, and the node is as it was.
     fn settle<S: Shelf>(
         &mut self,
         alloc: Global,

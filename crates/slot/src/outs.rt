@@ -1,6 +1,6 @@
 //! What a node gives out after an event.
 //!
-//! Where a function here answers an error, memory is short.
+//! An error of a function here says that it is out of memory.
 
 ghost use Rattle.std.specs.Prelude.{◌≡◌, ◌++◌, [], List, Option, IfOk, IfSome, OnOk, not, ◌&&◌, if◌then◌else◌};
 ghost use Rattle.protocol.specs.Nodes.{externalization, is_externalized, outs, when};
@@ -16,9 +16,9 @@ use listening::Configured;
 use std::alloc::{AllocError, Global};
 use types::{Out, Phase, Statement, Votes, statement_of};
 
-/// What is given out where an event led from one state to another, in this order: the timer of a new
-/// round, the ballot timer that was armed, the nomination and the ballot statement where another one
-/// would have been sent before, and the value that is externalized now (this host's profile).
+/// What is given out if an event led from one state to another, in this order (this host's profile): the timer of a new
+/// round; the ballot timer that was armed; the nomination and the ballot statement, each if it is not what would have
+/// been sent before; and the value that is externalized now.
 #[tactic(auto, unfolding(protocol::specs::Nodes::outs))]
 pub(crate) fn outs(
     alloc: Global,
@@ -44,7 +44,6 @@ pub(crate) fn outs(
     Ok(given_out)
 }
 
-/// Adds it where that holds.
 fn push_when(given_out: &mut Vec<Out>, holds: bool, out: Out) -> Result<(), AllocError>
     ensures { OnOk result (given_out.new.items ≡ given_out.old.items ++ when holds out) }
 {
@@ -54,7 +53,7 @@ fn push_when(given_out: &mut Vec<Out>, holds: bool, out: Out) -> Result<(), Allo
     Ok(())
 }
 
-/// Adds the nomination where another one would have been sent before.
+/// Adds the nomination, if it is not what would have been sent before.
 fn push_nomination(
     alloc: Global,
     given_out: &mut Vec<Out>,
@@ -72,7 +71,7 @@ fn push_nomination(
     push_new(given_out, configured, after)
 }
 
-/// Adds the ballot statement where another one would have been sent before.
+/// Adds the ballot statement, if it is not what would have been sent before.
 fn push_vote(
     given_out: &mut Vec<Out>,
     configured: &Configured,
@@ -88,7 +87,7 @@ fn push_vote(
     pushed
 }
 
-/// Adds the ballot statement where it is not what would have been sent before.
+/// Adds the ballot statement, if it is not this one.
 fn push_changed(
     given_out: &mut Vec<Out>,
     configured: &Configured,
@@ -125,7 +124,7 @@ fn push_new(
     }
 }
 
-/// Adds the value of the ballot where the phase has become [`Phase::Externalized`].
+/// Adds the value of the ballot, if the phase has become [`Phase::Externalized`].
 fn push_decided(given_out: &mut Vec<Out>, old: &Votes, new: &Votes) -> Result<(), AllocError>
     ensures { OnOk result (given_out.new.items ≡ given_out.old.items ++ (if is_externalized new.now.phase && not (is_externalized old.now.phase) then externalization new.now.ballot else [])) }
 {
@@ -141,7 +140,6 @@ fn push_decided(given_out: &mut Vec<Out>, old: &Votes, new: &Votes) -> Result<()
     }
 }
 
-/// Whether a value is externalized.
 pub(crate) fn is_externalized(phase: Phase) -> bool
     ensures { result ≡ is_externalized phase }
 {

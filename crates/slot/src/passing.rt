@@ -1,6 +1,6 @@
 //! One pass of the rules, or a part of one.
 //!
-//! Where a function here answers an error, memory is short.
+//! An error of a function here says that it is out of memory.
 
 ghost use Rattle.std.specs.Prelude.{◌≡◌, OnOk};
 ghost use Rattle.drafts.specs.Drafted.{after};
@@ -22,13 +22,12 @@ pub(crate) struct PassContext<'a, S> {
     pub own: &'a NodeId,
     /// What it sees of its table.
     pub sight: &'a S,
-    /// What events alone set.
+    /// What only events set.
     pub inputs: &'a Inputs,
 }
 
 /// The part of a pass that is these rules, in their order, each with what the one before it made. In
-/// [`Phase::Externalized`] nothing changes (the Stellar Consensus Protocol draft; the order is this
-/// host's profile).
+/// [`Phase::Externalized`] nothing changes (the Stellar Consensus Protocol draft; the order is this host's profile).
 #[tactic(auto, unfolding(protocol::specs::Passes::pass, protocol::specs::Passes::pass_rules, protocol::specs::Passes::balloted_in, protocol::specs::Passes::nominated_in))]
 pub(crate) fn apply_part<S: Sight>(
     alloc: Global,
@@ -57,8 +56,8 @@ pub(crate) fn apply_part<S: Sight>(
     }
 }
 
-/// The first ballot; then what is prepared and what is committed, each accepted and then confirmed; and unless a
-/// value was externalized by then the counters, raised first and then armed.
+/// The rules of balloting, in order: the first ballot; then what is prepared and what is committed, each accepted and
+/// then confirmed. Unless a value is externalized by then, counters follow, first raised and then armed.
 #[tactic(auto, unfolding(protocol::specs::Passes::voting, protocol::specs::Passes::counting))]
 fn balloting<S: Sight>(
     alloc: Global,

@@ -9,8 +9,7 @@ use listening::Configured;
 use std::alloc::{AllocError, Global};
 use types::{Envelope, Statement, Votes};
 
-/// The nomination that is sent, as soon as one of its sets is not empty. An error says that memory is
-/// short.
+/// The nomination that is sent, if one of its sets is not empty. An error says that it is out of memory.
 #[tactic(auto, unfolding(protocol::specs::States::sent_nomination))]
 pub(crate) fn sent_nomination(alloc: Global, votes: &Votes) -> Result<Option<Statement>, AllocError>
     ensures { IfOk result (λ s. s ≡ sent_nomination votes.now) }
@@ -32,7 +31,7 @@ pub(crate) fn nominates_same(one: &Votes, other: &Votes) -> bool
     one.voted.is_same(&other.voted) && one.accepts.is_same(&other.accepts)
 }
 
-/// Whether both are the same, or neither is there.
+/// Whether both are the same statement, or neither is there.
 pub(crate) fn is_same_sent(one: &Option<Statement>, other: &Option<Statement>) -> bool
     ensures { IsTrue result ↔ one.now ≡ other.now }
 {

@@ -1,6 +1,6 @@
 //! Passes, until one changes nothing.
 //!
-//! Where a function here answers an error, memory is short.
+//! An error of a function here says that it is out of memory.
 
 ghost use Rattle.std.specs.Prelude.{◌≡◌, ◌-◌, IfOk, IsTrue, Some, is_some, unwrap_or};
 ghost use Rattle.protocol.specs.Nodes.{settle, most_passes};
@@ -17,12 +17,12 @@ use fedvote::Sight;
 use std::alloc::{AllocError, Global};
 use types::Votes;
 
-/// How many passes are tried after an event, `most_passes` of the definitions; none needs more than four.
+/// How many passes are tried after an event at most, `most_passes` of the definitions; none needs more than four.
 const MOST_PASSES: u32 = 64;
 
-/// The votes after passes, from votes that stay, until one changes nothing; the event before them stirs these
-/// rules alone. `None` where the first changes nothing, as after most events: then votes are not even copied, and else
-/// once for each pass that changes some.
+/// The votes after passes until one changes nothing, if the event before stirs only these rules. It is `None` if the
+/// first pass changes nothing, as after most events: then votes are not even copied. Else they are copied once for each
+/// pass that changes some.
 pub(crate) fn settle_from<S: Sight>(
     alloc: Global,
     context: &PassContext<'_, S>,
@@ -43,7 +43,7 @@ pub(crate) fn settle_from<S: Sight>(
     Ok(Some(settled))
 }
 
-/// The votes after all passes, where the first one, of these rules, made other votes. `None` where each of 64 changes
+/// The votes after all passes, if the first one, of these rules, made other votes. It is `None` if each of 64 changes
 /// something, which no event of a node makes (the limit is this host's profile).
 fn settle_next<S: Sight>(
     alloc: Global,
@@ -63,8 +63,8 @@ fn settle_next<S: Sight>(
     }
 }
 
-/// The votes after a first pass of which only nomination is done: where it confirmed no value it is at
-/// rest, and balloting still is.
+/// The votes after a first pass of which only nomination is done. If it confirmed no value, nothing is left to do; else
+/// balloting is.
 fn settle_nominated<S: Sight>(
     alloc: Global,
     context: &PassContext<'_, S>,
@@ -81,7 +81,6 @@ fn settle_nominated<S: Sight>(
     settle_after(alloc, context, before, next)
 }
 
-/// The votes after the part of a pass that is balloting.
 fn ballot_from<S: Sight>(
     alloc: Global,
     context: &PassContext<'_, S>,
@@ -102,7 +101,7 @@ fn ballot_from<S: Sight>(
     }
 }
 
-/// The votes after the passes that follow on a first one: in these nomination changes nothing.
+/// The votes after the passes that follow a whole first one, `after` it; in these nomination changes nothing.
 fn settle_after<S: Sight>(
     alloc: Global,
     context: &PassContext<'_, S>,
@@ -117,8 +116,7 @@ fn settle_after<S: Sight>(
     settle_on(alloc, context, after)
 }
 
-/// The votes after the passes that are left once a first one has changed something: in these nomination changes
-/// nothing.
+/// The votes after the passes that are left once a first one changed something; in these nomination changes nothing.
 fn settle_on<S: Sight>(
     alloc: Global,
     context: &PassContext<'_, S>,
@@ -141,7 +139,7 @@ fn settle_on<S: Sight>(
     Ok(None)
 }
 
-/// What the part of a pass with these rules makes of votes that stay; `None` where that is the same votes.
+/// What the part of a pass with these rules makes of votes; `None` if they stay the same.
 fn difference_by<S: Sight>(
     alloc: Global,
     context: &PassContext<'_, S>,
@@ -160,7 +158,7 @@ fn difference_by<S: Sight>(
     }
 }
 
-/// Votes that were changed, unless they are the same as before after all.
+/// Votes that rules set, unless they are the same as before after all.
 fn unless_same(changed: Option<Votes>, before: &Votes) -> Option<Votes>
     ensures { IsDifference before.now (unwrap_or changed before.now) result }
 {

@@ -1,6 +1,5 @@
-//! How many bytes a node, its votes, an event and an out take in place: a field that grows by a buffer is
-//! seen here, and not only as time and memory of large networks. These are bounds of this host's profile
-//! and nothing that contracts speak of.
+//! How many bytes a node, its votes, an event and an out take in place. So a field that grows by a buffer is seen here,
+//! and not only as time and memory of large networks. These bounds are this host's profile; no contract speaks of them.
 
 use crate::filed::{FiledEvent, FiledOut};
 use crate::node::Node;

@@ -11,18 +11,18 @@ use listening::Listener;
 use std::alloc::Global;
 use types::Kind;
 
-/// The rules that an event may stir: all others change nothing in the first pass after it.
+/// The rules that an event may stir; all others change nothing in the first pass after it.
 #[derive(Clone, Copy)]
 pub(crate) enum Stirred {
     /// Any rule.
     All,
-    /// Those of balloting alone, in later passes too.
+    /// Only those of balloting, in later passes too.
     Ballots,
-    /// Those of nomination, once, and others only where these confirm a value.
+    /// Those of nomination, once, and others only if these confirm a value.
     Nominations,
 }
 
-/// Puts the envelope into the listener's table, and says which rules it stirs where the table takes it.
+/// Puts the envelope into the listener's table, and says which rules it stirs if the table takes it.
 pub(crate) fn put_row<S: Places>(
     alloc: Global,
     archive: &Archive<S>,
@@ -47,7 +47,7 @@ pub(crate) fn put_row<S: Places>(
     }
 }
 
-/// What a row of this kind stirs where the nodes that are reached stay.
+/// What a row of this kind stirs if the node reaches the same nodes as before.
 fn stirred_by(kind: Kind) -> Stirred
     ensures { result ≡ stirred_by kind }
 {

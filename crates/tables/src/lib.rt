@@ -1,8 +1,8 @@
 //! Table files: what one node at one slot knows of the others, and what follows from it.
 //!
-//! A [`TableListener`] is a listener with an archive of its own, which hears envelopes of its slot alone; it
-//! answers whether the node's quorums back a ballot, and whom the node reaches. [`TableRun`] runs the
-//! lines of a table file on one.
+//! A [`TableListener`] is a listener with an archive of its own, which hears only envelopes of its slot. It answers
+//! whether the node's quorums back a ballot, and whom the node reaches. [`TableRun`] runs the lines of a table file on
+//! one.
 #![tactic(auto)]
 
 mod table_listener;

@@ -34,12 +34,12 @@ pub enum Taken {
     NoMemory,
 }
 
-/// A listener that hears envelopes of its own slot alone, with the archive where its rows lie.
+/// A listener that hears only envelopes of its own slot, with the archive where its rows lie.
 ///
 /// The nodes that it reaches are kept from one question to the next, until a row comes that may
 /// change them.
 ///
-/// For example, where A's slices name B alone, and B's row names C, what A keeps is A, B and C.
+/// For example, if A's slices name only B, and B's row names C, A keeps A, B and C.
 #[derive(Drop)]
 pub struct TableListener {
     listener: Listener,
@@ -80,14 +80,14 @@ impl TableListener {
         self.listener.configuration().slot
     }
 
-    /// The rows.
+    /// Its rows: the newest envelope of each sender and kind that it took.
     pub fn rows(&self) -> Rows<'_, BoxShelf>
         ensures { result ≡ self.now.rows }
     {
         Rows::of(self.listener.table(), &self.archive)
     }
 
-    /// Offers an envelope to the table. Where the answer is not [`Taken::Replaced`], nothing changed. A stale
+    /// Offers an envelope to the table. If the answer is not [`Taken::Replaced`], the rows are as they were. A stale
     /// envelope, and one about another slot, takes no memory.
     pub fn take(&mut self, alloc: Global, envelope: Envelope) -> Taken
         ensures other { (result ≡ Taken.OtherSlot) ↔ (envelope.slot ≢ self.old.configured.slot) }
@@ -109,7 +109,8 @@ impl TableListener {
         }
     }
 
-    /// Files the envelope, and offers it to the table. An error says that memory is short, and nothing changed.
+    /// Files the envelope, and offers it to the table. Behind an error the rows are as they were, but the archive may
+    /// have grown.
     fn offer(&mut self, alloc: Global, envelope: Envelope) -> Result<(), AllocError>
         ensures offered { OnOk result (self.new ≡ record self.old { rows = table_with_offer self.old.rows envelope }) }
         ensures err { OnErr result (self.new ≡ self.old) }
@@ -127,10 +128,9 @@ impl TableListener {
         reach(alloc, &self.rows(), &configured.name, &configured.slices)
     }
 
-    /// Whether the node is in a quorum whose ballot rows all vote for or accept that the ballot is
-    /// prepared (Mazières 2015, of quorums). The node's own slices are the configured ones; every
-    /// other node's are those of its ballot row. What contracts see of the listener stays as it was, and an
-    /// error says that memory is short.
+    /// Whether the node is in a quorum whose ballot rows all vote for or accept that the ballot is prepared (Mazières
+    /// 2015, of quorums). The node's own slices are the configured ones; every other node's are those of its ballot
+    /// row. Nothing changes but what is kept of the reach. An error says that it is out of memory.
     pub fn is_backed(&mut self, alloc: Global, ballot: &Ballot) -> Result<bool, AllocError>
         ensures answer { IfOk result (λ b. IsTrue b ↔ IsBacked self.old ballot.now) }
         ensures unchanged { self.new ≡ self.old }
@@ -141,7 +141,6 @@ impl TableListener {
         answer
     }
 
-    /// The answer by the rows of the nodes that the node reaches.
     fn is_backed_within(
         &self,
         alloc: Global,
@@ -156,8 +155,6 @@ impl TableListener {
     }
 }
 
-/// Whether the node is in a quorum whose ballot rows all back the ballot, as a view of the rows sees it. An error
-/// says that memory is short.
 fn is_backed_by<S: Places>(
     alloc: Global,
     configured: &Configured,

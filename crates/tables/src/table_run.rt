@@ -109,7 +109,6 @@ fn configured_in(alloc: Global, fields: &[&[u8]]) -> Result<Option<Configured>, 
     }
 }
 
-/// The configuration whose name, slot and slices are these words.
 fn configured_of(
     alloc: Global,
     name: &[u8],
@@ -131,7 +130,7 @@ fn configured_of(
     }
 }
 
-/// The envelope of a slot that a line puts: `put SENDER SLICES STATEMENT`.
+/// The envelope of a slot that a line puts: `put FROM SLICES STATEMENT`.
 fn envelope_put(alloc: Global, slot: u64, fields: &[&[u8]]) -> Result<Option<Envelope>, AllocError>
     ensures puts { IfOk result (λ o. IfSome o (λ e. Puts slot (map (λ field. field.now) fields.now) e)) }
     ensures none { IfOk result (λ o. IfNone o (PutsNone slot (map (λ field. field.now) fields.now))) }
@@ -146,7 +145,7 @@ fn envelope_put(alloc: Global, slot: u64, fields: &[&[u8]]) -> Result<Option<Env
     }
 }
 
-/// The envelope of a slot that fields spell: `SENDER SLICES STATEMENT`.
+/// The envelope of a slot that fields spell: `FROM SLICES STATEMENT`.
 fn envelope_in(alloc: Global, slot: u64, fields: &[&[u8]]) -> Result<Option<Envelope>, AllocError>
     ensures put { IfOk result (λ o. IfSome o (λ e. ArePut slot (map (λ field. field.now) fields.now) e)) }
     ensures none { IfOk result (λ o. IfNone o ((e : Sent) → ¬ ArePut slot (map (λ field. field.now) fields.now) e)) }
@@ -157,7 +156,6 @@ fn envelope_in(alloc: Global, slot: u64, fields: &[&[u8]]) -> Result<Option<Enve
     }
 }
 
-/// The envelope of a slot whose sender, slices and statement are these words.
 fn envelope_of(
     alloc: Global,
     slot: u64,
@@ -295,7 +293,6 @@ fn offer_bytes(
     }
 }
 
-/// Prints a fault by its number.
 fn say_fault(alloc: Global, fault: Fault) -> Result<Option<String>, LineError>
     ensures said { IfOk result (λ printed. option_map string_bytes printed ≡ Some (fault_text fault)) }
     ensures runs { result ≢ Err LineError.Bad }
@@ -304,7 +301,6 @@ fn say_fault(alloc: Global, fault: Fault) -> Result<Option<String>, LineError>
     Ok(Some(format!(in alloc; "bad {number}")?))
 }
 
-/// Offers an envelope and answers what became of it.
 fn offer(
     alloc: Global,
     listener: &mut TableListener,
@@ -338,14 +334,12 @@ fn ask(
     }
 }
 
-/// The field is this word.
 fn is_word(field: &[u8], word: &[u8]) -> bool
     ensures { IsTrue result ↔ field.now ≡ word.now }
 {
     field == word
 }
 
-/// Prints one word.
 fn say(alloc: Global, word: &str) -> Result<Option<String>, LineError>
     ensures said { IfOk result (λ printed. option_map string_bytes printed ≡ Some word.now) }
     ensures runs { result ≢ Err LineError.Bad }
@@ -363,7 +357,7 @@ fn show_reach(alloc: Global, listener: &TableListener) -> Result<Option<String>,
     Ok(Some(text))
 }
 
-/// Adds the names, each behind a space.
+/// Adds the names, with a space between two.
 fn push_names(text: &mut String, names: &[NodeId]) -> Result<(), AllocError>
     ensures { OnOk result (string_bytes text.new ≡ fold text_with_name (string_bytes text.old) names.now) }
 {
@@ -374,7 +368,7 @@ fn push_names(text: &mut String, names: &[NodeId]) -> Result<(), AllocError>
     Ok(())
 }
 
-/// Adds what stands between two pieces, where there is a piece before.
+/// Adds what stands between two pieces, if there is a piece before.
 fn push_between(text: &mut String, between: &str) -> Result<(), AllocError>
     ensures { OnOk result (string_bytes text.new ≡ up_to_next between.now (string_bytes text.old)) }
 {
@@ -384,7 +378,7 @@ fn push_between(text: &mut String, between: &str) -> Result<(), AllocError>
     text.push_str(between)
 }
 
-/// The rows, a line each, ascending by sender, the nomination row first.
+/// The rows, a line each, ascending by sender, the nomination row of each first. `None` if there is none.
 fn show(alloc: Global, listener: &TableListener) -> Result<Option<String>, AllocError>
     ensures { IfOk result (λ printed. option_map string_bytes printed ≡ text_of_table listener.now.rows) }
 {
@@ -397,7 +391,6 @@ fn show(alloc: Global, listener: &TableListener) -> Result<Option<String>, Alloc
     Ok(Some(text))
 }
 
-/// Adds the rows of all senders.
 fn push_table<S: Places>(text: &mut String, table: &Rows<'_, S>) -> Result<(), AllocError>
     ensures { OnOk result (string_bytes text.new ≡ fold (text_with_rows table.now) (string_bytes text.old) (senders table.now)) }
 {
@@ -432,7 +425,6 @@ fn push_row_of(text: &mut String, row: Option<&Envelope>) -> Result<(), AllocErr
     }
 }
 
-/// Adds a row in words.
 fn push_row(text: &mut String, row: &Envelope) -> Result<(), AllocError>
     ensures { OnOk result (string_bytes text.new ≡ string_bytes text.old ++ text_of_row row.now) }
 {

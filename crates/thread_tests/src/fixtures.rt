@@ -9,7 +9,7 @@ pub fn name(number: u64) -> NodeId {
     NodeId::from_words(0, 0, 0, number)
 }
 
-/// Slices of which a majority of these many nodes, one or three, is one.
+/// Slices that ask for a majority of `count` nodes, one or three.
 pub fn slices(alloc: Global, count: u64) -> Option<Nested> {
     let mut members = Vec::new(alloc);
     for number in 0..count {
@@ -19,7 +19,7 @@ pub fn slices(alloc: Global, count: u64) -> Option<Nested> {
     Nested::new(alloc, SliceSet::new(majority, members)).ok()?
 }
 
-/// A network of so many nodes, of which a majority is wanted.
+/// A network of `count` nodes, each of which asks for a majority of them.
 pub fn config(alloc: Global, number: u32, count: u64) -> Option<NetConfig> {
     let mut nodes = Vec::new(alloc);
     for node in 0..count {

@@ -69,7 +69,7 @@ where
     );
 }
 
-/// How many there are, where each is of `x`.
+/// How many decisions there are, if each is of `x`.
 fn count_of_x(decisions: &[Decision]) -> Option<usize> {
     for decision in decisions {
         if decision.value.as_bytes() != [b'x'].as_slice() {
@@ -79,7 +79,7 @@ fn count_of_x(decisions: &[Decision]) -> Option<usize> {
     Some(decisions.len())
 }
 
-/// How many decisions of `x` are read. Nothing is read where the cell is closed.
+/// How many decisions of `x` are read. Nothing is read if the cell is closed.
 fn read(watch: &mut Watch) -> Option<usize> {
     watch.read(|decisions: &[Decision]| count_of_x(decisions))?
 }
@@ -139,7 +139,7 @@ type Told = (Option<usize>, Option<usize>, Option<CellRefusal>);
 /// What is left of it.
 type Left = (usize, Option<usize>, usize);
 
-/// A cell of a node alone with four seats, and a watch: it is used by all at once, stopped and closed.
+/// A cell of one node with four seats, and a watch: it is used by all at once, stopped and closed.
 fn use_and_close<R: Threads + Wait + Sync + Send + Drop + Copy>(
     rt: &R,
     alloc: Global,

@@ -24,7 +24,7 @@ fn decision(alloc: Global, slot: u64) -> Result<Decision, AllocError> {
     })
 }
 
-/// Publishes a decision for a slot, where there is memory.
+/// Publishes a decision for a slot, if there is memory.
 fn publish<R: Wait + Drop>(alloc: Global, publisher: Publisher<R>, slot: u64) -> Publisher<R> {
     let mut publisher = publisher;
     if let Ok(decision) = decision(alloc, slot) {
@@ -43,7 +43,7 @@ fn publish_many<R: Wait + Drop>(alloc: Global, publisher: Publisher<R>) -> Publi
     publisher
 }
 
-/// How many there are, where each stands at the place of its slot.
+/// How many decisions there are, if each stands at the place of its slot.
 fn count_in_order(decisions: &[Decision]) -> Option<usize> {
     for (place, decision) in decisions.iter().enumerate() {
         if decision.slot != place as u64 {
@@ -53,7 +53,7 @@ fn count_in_order(decisions: &[Decision]) -> Option<usize> {
     Some(decisions.len())
 }
 
-/// How many are read, in order. Nothing is read where the publisher is gone.
+/// How many are read, in order. Nothing is read if the publisher is gone.
 fn read(watch: &mut Watch) -> Option<usize> {
     watch.read(|decisions: &[Decision]| count_in_order(decisions))?
 }
@@ -85,8 +85,8 @@ fn race<R: Threads + Wait + Sync + Drop + Send>(
     )
 }
 
-/// How many reads were wrong, how many decisions there are in the end if the watch is told of them, and what is read when
-/// the publisher has given them up.
+/// How many reads were wrong, how many decisions there are in the end, if the watch is told of them, and what is read
+/// when the publisher has given them up.
 fn read_and_take<R: Threads + Wait + Sync + Drop + Send + Copy>(
     rt: &R,
     alloc: Global,
@@ -118,8 +118,8 @@ fn has_room_for_two<R: Wait + Drop>(publisher: &Publisher<R>) -> bool {
     one.is_ok() && other.is_ok() && publisher.watch().is_err()
 }
 
-/// Of a publisher with room for two: whether it has it, also when two were let go, and what is read before and after it
-/// is let go itself.
+/// Of a publisher with room for two watches: whether it has that room, also when two were let go, and what is read
+/// before and after the publisher is let go.
 fn read_and_drop<R: Wait + Drop + Copy>(
     rt: &R,
     alloc: Global,

@@ -20,7 +20,7 @@ const EACH: u64 = 40;
 /// What one thread puts, by a handle of its own: the envelopes of one sender, one for each slot. And whether it has
 /// read all of them back, by the handle of another.
 ///
-/// Contracts see the store alone.
+/// Contracts see only the store.
 ///
 /// Each place is one of that store: after two envelopes there are two.
 #[derive(Drop)]

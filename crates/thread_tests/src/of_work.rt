@@ -53,7 +53,7 @@ fn put_and_take<R: Wait>(rt: &R, queue: &Queue, passes: &mut Vec<Pass>) -> [Opti
     [first, second, third, fourth]
 }
 
-/// The same of a new queue of one place.
+/// What a new queue of one place answers to these four calls.
 fn use_queue<R: Wait>(rt: &R, alloc: Global) -> Option<[Option<u32>; 4]> {
     let (queue, mut passes) = Queue::new(alloc, 1, 2).ok()?;
     Some(put_and_take(rt, &queue, &mut passes))

@@ -95,14 +95,14 @@ impl Gate for Counting {
         self.after.fetch_add(1, Ordering::SeqCst);
     }
 
-    // The job is seen before once more.
+    // `before` sees the job once more.
     fn put_off<R: Wait>(&self, _rt: &R, _network: u32) {
         self.before.fetch_sub(1, Ordering::SeqCst);
     }
 }
 
-/// A gate of jobs of which those of network 1 are held up by a watch that reads: none begins before it reads, and it reads
-/// until four jobs of the others were applied.
+/// A gate of jobs of which those of network 1 are held up by a watch that reads: none begins before it reads, and it
+/// reads until four jobs of the others were applied.
 #[derive(Drop)]
 struct Reading {
     begun: AtomicU64,
@@ -141,8 +141,9 @@ impl Gate for Reading {
     }
 }
 
-/// Two networks of three nodes: their slots are opened by two workers, of whom each has a job at the same time, and then
-/// nodes are to propose, by one worker. What is reported, and how often this one goes from one network to the other.
+/// Two networks of three nodes: their slots are opened by two workers, of whom each has a job at the same time, and
+/// then nodes are to propose, by one worker. What is reported, and how often this one goes from one network to the
+/// other.
 fn run_two<R: Threads + Wait + Sync + Send + Drop>(
     rt: &R,
     alloc: Global,
@@ -185,7 +186,7 @@ fn run_four<R: Threads + Wait + Sync + Send + Drop>(
     Some((opened, proposed))
 }
 
-/// The same, with what the gate has counted and what the journals have.
+/// As [`run_four`], of 64 networks, with what the gate has counted and what the journals have.
 fn run_and_close<R: Threads + Wait + Sync + Send + Drop + Copy>(
     rt: &R,
     alloc: Global,
@@ -218,7 +219,7 @@ fn four_workers_leave_journals_of_one_thread(rt: HostRuntime) -> Result<(), Fail
     Ok(())
 }
 
-/// A slot is opened, or a node alone is to propose `x` at it.
+/// A slot is opened, or the only node is to propose `x` at it.
 fn event_at(alloc: Global, slot: u64, is_opening: bool) -> Option<Event> {
     if is_opening {
         Some(Event::OpenSlot { slot })
@@ -259,8 +260,8 @@ fn run_beside<R: Threads + Wait + Sync + Send + Drop>(
     )
 }
 
-/// Five networks of a node alone, whose slots are open: the first is held up while three workers have jobs of it before
-/// those of the others.
+/// Five networks of one node each, whose slots are open: the first is held up while three workers have jobs of it
+/// before those of the others.
 fn run_held<R: Threads + Wait + Sync + Send + Drop + Copy>(
     rt: &R,
     alloc: Global,
@@ -288,8 +289,8 @@ fn run_held<R: Threads + Wait + Sync + Send + Drop + Copy>(
     }
 }
 
-// What one proposal decides is published beside the watch that reads; the publication behind it waits for that, under the
-// network's lock, and the watch for the jobs of the others.
+// What one proposal decides is published beside the watch that reads; the publication behind it waits for that, under
+// the network's lock, and the watch for the jobs of the others.
 #[test]
 fn a_network_that_is_held_up_holds_up_no_worker(rt: HostRuntime) -> Result<(), Fail> {
     let (read, said) = run_held(&rt, rt.alloc()).ok_or("memory")?;
@@ -298,7 +299,7 @@ fn a_network_that_is_held_up_holds_up_no_worker(rt: HostRuntime) -> Result<(), F
     Ok(())
 }
 
-/// Why networks do not join a host of two, one of which has number 1, and one of 4,096.
+/// Why network 1 does not join a host of two, and why 4096 and 5000 do not join a host of 4,096.
 fn refusals<R: Wait + Drop + Copy>(
     rt: &R,
     alloc: Global,

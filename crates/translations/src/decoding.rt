@@ -12,7 +12,7 @@ use scripts::{bytes_of, push_name, push_slices, push_statement};
 use std::alloc::{AllocError, Global};
 use types::Envelope;
 
-/// What bytes are told to be.
+/// What bytes are, as it is printed.
 #[derive(Drop)]
 pub struct Decoded {
     /// The line of the envelope in words, or that of the fault.
@@ -22,8 +22,8 @@ pub struct Decoded {
 }
 
 /// The line of the envelope that bytes spell, in the four words of scripts: its sender, its slot, its slices and its
-/// statement; or that of the fault of the bytes. The bytes are lower-case hexadecimal digits, or `-` for none, and `None` is
-/// answered to any other word. An error says that memory is short.
+/// statement; or that of the fault of the bytes. The bytes are lower-case hexadecimal digits, or `-` for none, and
+/// `None` is answered to any other word. An error says that it is out of memory.
 pub fn decode_digits(alloc: Global, digits: &[u8]) -> Result<Option<Decoded>, AllocError>
     ensures decoded { IfOk result (λ o. IsRead (λ (d : Bool × Bytes). IsDecoded digits.now d.0 d.1) (option_map (λ d. (d.is_fault, string_bytes d.line)) o)) }
     ensures back { IfOk result (λ o. IfSome o (λ d. d.is_fault ≡ false → EncodesBack digits.now (string_bytes d.line))) }
@@ -36,7 +36,6 @@ pub fn decode_digits(alloc: Global, digits: &[u8]) -> Result<Option<Decoded>, Al
     Ok(Some(decoded?))
 }
 
-/// The line of the envelope that the bytes spell, or of their fault.
 fn told_of(alloc: Global, bytes: &[u8]) -> Result<Decoded, AllocError>
     ensures { IfOk result (λ d. IsTold bytes.now d.is_fault (string_bytes d.line)) }
 {
@@ -58,7 +57,6 @@ fn told_of(alloc: Global, bytes: &[u8]) -> Result<Decoded, AllocError>
     }
 }
 
-/// The line of an envelope in words.
 fn line_of_words(alloc: Global, envelope: &Envelope) -> Result<String, AllocError>
     ensures { IfOk result (λ line. string_bytes line ≡ line_of_words envelope.now) }
 {

@@ -11,9 +11,9 @@ use requests::{Request, asked_by};
 use std::alloc::{AllocError, Global};
 use types::{Bytes, Event};
 
-/// The line of the bytes of the envelope that four words spell, in lower-case hexadecimal: its sender, its slot, its slices
-/// and its statement, as a line `say` of scripts has them, which delivers these bytes. `None` where they spell none. An
-/// error says that memory is short.
+/// The line of the bytes of the envelope that four words spell, in lower-case hexadecimal. The words are its sender,
+/// slot, slices and statement, as in a `say` line of scripts, which delivers these bytes. `None` if they spell no
+/// envelope. An error says that it is out of memory.
 pub fn encode_words(
     alloc: Global,
     from: &[u8],
@@ -34,7 +34,6 @@ pub fn encode_words(
     }
 }
 
-/// The line of bytes.
 fn line_of_bytes(alloc: Global, bytes: &[u8]) -> Result<String, AllocError>
     ensures line { IfOk result (λ line. string_bytes line ≡ line_of_bytes bytes.now) }
     ensures bytes { IsBytes bytes.now }
@@ -44,7 +43,7 @@ fn line_of_bytes(alloc: Global, bytes: &[u8]) -> Result<String, AllocError>
     Ok(line)
 }
 
-/// The bytes that a line `say` with these words delivers, to a node of whatever name.
+/// The bytes that a `say` line with these words delivers, whichever network and node it names.
 fn bytes_said(
     alloc: Global,
     from: &[u8],
@@ -61,7 +60,6 @@ fn bytes_said(
     }
 }
 
-/// The bytes of a delivery.
 fn delivered_by(request: Request) -> Option<Bytes>
     ensures { result ≡ delivered_by request }
 {

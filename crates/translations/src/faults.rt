@@ -6,7 +6,7 @@ ghost use Rattle.translations.specs.Lines.{fault_name, line_of_fault};
 use codec::Fault;
 use std::alloc::{AllocError, Global};
 
-/// The line of a fault: `bad`, its number and its name. An error says that memory is short.
+/// The line of a fault: `bad`, its number and its name. An error says that it is out of memory.
 pub(crate) fn line_of_fault(alloc: Global, fault: Fault) -> Result<String, AllocError>
     ensures { IfOk result (λ line. string_bytes line ≡ line_of_fault fault) }
 {
@@ -15,7 +15,6 @@ pub(crate) fn line_of_fault(alloc: Global, fault: Fault) -> Result<String, Alloc
     format!(in alloc; "bad {number} {name}\n")
 }
 
-/// The name of a fault.
 fn name_of(fault: Fault) -> &'static str
     ensures { result.now ≡ fault_name fault }
 {

@@ -11,8 +11,8 @@ use envstore::Shelf;
 use hoststep::Journal;
 use types::{Nested, NodeId};
 
-/// The least member that the two worlds host unlike: in one of them alone, or with other slices. A world
-/// that lacks the network hosts nobody there.
+/// The least member that the two worlds host unlike: only in one of them, or with other slices. A world without the
+/// network hosts nobody there.
 pub fn least_unlike<S: Shelf, T: Shelf>(
     one: &Journal<S>,
     other: Option<&Journal<T>>,
@@ -25,7 +25,7 @@ pub fn least_unlike<S: Shelf, T: Shelf>(
     })
 }
 
-/// The configured slices of a node in a world, where it has the network and the node is hosted there.
+/// The configured slices of a node in a world, if it has the network and hosts the node there.
 fn slices_in<'a, S: Shelf>(journal: Option<&'a Journal<S>>, node: &NodeId) -> Option<&'a Nested>
     ensures { option_map (λ q. q.now) result ≡ slices_of (nodes_in (option_map (λ j. j.now) journal.entry)) node.now }
 {

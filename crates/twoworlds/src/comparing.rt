@@ -16,17 +16,17 @@ use std::alloc::{AllocError, Global};
 use types::{NodeId, Subject};
 use world::World;
 
-/// Compares what concerned a subject in two worlds, a node of a network at a slot, by the closure of the node
-/// in the first of them. A world that lacks the network hosts nobody there. The worlds may keep their envelopes on
+/// Compares what concerned a subject in two worlds, by the closure of its node in the first of them. The subject is a
+/// node of a network at a slot. A world without the network hosts nobody there. The worlds may keep their envelopes on
 /// shelves of different kinds (this host's profile).
 ///
-/// Whatever is answered, want of memory included: where both worlds host the same members of the closure with
-/// the same slices, and the steps that concern the members are the same in order, each hosted member gave out
-/// the same in both. There is no answer for a leak. Where the journals of the worlds are those of two histories
-/// of hosts, the verdict is that on the histories.
+/// The following holds whatever is answered, even out of memory. If both worlds host the same members of the closure
+/// with the same slices, and the steps that concern the members are the same in order, each hosted member gave out the
+/// same in both. There is no answer for a leak. If the journals of the worlds are those of two histories of hosts, the
+/// verdict is that on the histories.
 ///
-/// Beside the closure, each journal is gone through once for the steps that concern the members, and the
-/// first one once more for what they gave out. An error says that memory is short.
+/// Beside the closure, each journal is gone through once for the steps that concern the members, and the first one once
+/// more for what they gave out. An error says that it is out of memory.
 pub fn compare<S: Shelf, T: Shelf>(
     alloc: Global,
     one: &World<S>,
@@ -45,7 +45,7 @@ pub fn compare<S: Shelf, T: Shelf>(
     Ok(verdict)
 }
 
-/// The same for the journal of the network in the first world, and that of the second one if it has it.
+/// Compares the journal of the network in the first world with that in the second one, if it has it.
 fn compare_journal<S: Shelf, T: Shelf>(
     alloc: Global,
     one: &Journal<S>,
@@ -75,7 +75,7 @@ fn compare_journal<S: Shelf, T: Shelf>(
     Ok(Verdict::Same(outs_of_each(alloc, one, slot, &names)?))
 }
 
-/// A law: the same for what two worlds have of a network.
+/// A law: what two worlds have of a network is isolated.
 pub(crate) fn are_isolated_at<S: Shelf, T: Shelf>(
     one: &World<S>,
     other: &World<T>,

@@ -13,8 +13,7 @@ use closure::ClosureList;
 use envstore::Shelf;
 use hoststep::Journal;
 
-/// The number of kept steps that agree before the first difference, where there is one. Each journal is
-/// gone through once.
+/// The number of kept steps that agree before the first difference, if there is one. Each journal is gone through once.
 pub fn first_difference<S: Shelf, T: Shelf>(
     one: &Journal<S>,
     other: &Journal<T>,
@@ -43,7 +42,6 @@ pub fn first_difference<S: Shelf, T: Shelf>(
     }
 }
 
-/// The number of the first kept entry from a number on.
 fn next_kept<S: Shelf>(
     journal: &Journal<S>,
     members: &ClosureList,
@@ -62,13 +60,12 @@ fn next_kept<S: Shelf>(
     None
 }
 
-/// The number of the entry that is the kept step at a place, both from 0 on: it concerns the members at the
-/// slot, and so many entries before it do. There is none exactly where there are no more kept steps than
-/// that.
+/// The number of the entry that is the kept step at a place, both from 0 on: it concerns the members at the slot, and
+/// `place` entries before it do. There is none exactly if there are no more than `place` kept steps.
 ///
-/// Kept are the openings and closings of the slot, and what happens there to a member, save what a node
-/// sent that is none. Where [`compare`](crate::compare) answers that inputs differ at a place, this is the
-/// entry of either journal with which they part.
+/// Kept are the openings and closings of the slot, and what happens there to a member, except what comes from a node
+/// that is no member. If [`compare`](crate::compare) answers that inputs differ at a place, this is the entry of either
+/// journal at which they part.
 pub fn kept_entry<S: Shelf>(
     journal: &Journal<S>,
     members: &ClosureList,

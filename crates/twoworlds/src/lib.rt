@@ -1,10 +1,10 @@
-//! Two worlds side by side: whether what concerns a node of a network at a slot was the same in both, and
-//! what the members of its closure then gave out (this host's profile).
+//! Two worlds side by side: whether what concerns a node of a network at a slot was the same in both, and what the
+//! members of its closure then gave out (this host's profile).
 //!
-//! Two worlds in which the same concerns a node give out the same for each hosted member: that is the
-//! isolation of hosted validators, and each comparison carries it in its contract, whatever it answers. So
-//! [`compare`] reads the outs of the first world alone. [`compare_all`] answers many questions about the same
-//! two worlds, in threads. [`kept_entry`] finds the entry of a journal at which two worlds part.
+//! If the same concerns a node in two worlds, each hosted member gives out the same in both. That is the isolation of
+//! hosted validators, and each comparison carries it in its contract, whatever it answers. So [`compare`] reads only
+//! the outs of the first world. [`compare_all`] answers many questions about the same two worlds, in threads.
+//! [`kept_entry`] finds the entry of a journal at which two worlds part.
 #![tactic(auto)]
 
 mod cast;

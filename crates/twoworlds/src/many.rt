@@ -15,21 +15,21 @@ use std::thread::Threads;
 use types::Subject;
 use world::World;
 
-/// Answers many questions about the same two worlds, each of which is of a subject: of each the verdict of
-/// [`compare`](crate::compare), in the order of the subjects. A subject may stand there more than once, and is
-/// then answered as often (this host's profile).
+/// Answers many questions about the same two worlds, one for each subject, with the verdicts of
+/// [`compare`](crate::compare) in the order of the subjects. A subject may stand there more than once, and is then
+/// answered as often (this host's profile).
 ///
-/// The questions are shared among threads, two pieces for each processor and 64 at most, each piece of one
-/// question or more; the threads have ended when the call returns. Each question reads the two journals of its
-/// own network alone, as `compare` does, and all of them share the worlds, which stay as they are.
+/// The questions are shared among threads, in at most two pieces for each processor and at most 64 in all, each of one
+/// question or more. The threads have ended when the call returns. Each question reads only the two journals of its own
+/// network, as `compare` does. All of them share the worlds, which stay as they are.
 ///
-/// Whatever is answered, want of memory included, each question is isolated as by `compare`: where both worlds
-/// host the same members of its closure with the same slices, and the steps that concern the members are the
-/// same in order, each hosted member gave out the same in both. Where the journals of the worlds are those of
-/// two histories of hosts, the verdicts are those on the histories.
+/// The following holds whatever is answered, even out of memory. Each question is isolated as by `compare`: if both
+/// worlds host the same members of its closure with the same slices, and the steps that concern the members are the
+/// same in order, each hosted member gave out the same in both. If the journals of the worlds are those of two
+/// histories of hosts, the verdicts are those on the histories.
 ///
-/// An error says that memory was short, for one of the questions or for the list of verdicts; then no
-/// question has an answer.
+/// An error says that it is out of memory, for one of the questions or for the list of verdicts; then no question has
+/// an answer.
 #[tactic(auto, using(crate::proofs::ManyLaws::verdicts_of_histories))]
 pub fn compare_all<S: Shelf + Sync, T: Shelf + Sync>(
     rt: &(impl Threads + Sync),
@@ -50,7 +50,6 @@ where
     Ok(verdicts)
 }
 
-/// The verdicts alone.
 fn verdicts_of<S: Shelf + Sync, T: Shelf + Sync>(
     rt: &(impl Threads + Sync),
     alloc: Global,

@@ -1,6 +1,6 @@
 //! What each hosted member gave out.
 //!
-//! Where a function here answers an error, memory is short.
+//! An error of a function here says that it is out of memory.
 
 ghost use Rattle.std.specs.Prelude.{◌≡◌, [], IfOk, OnOk, length, map};
 ghost use Rattle.protocol.specs.Sets.{IsAscending, among};
@@ -23,7 +23,7 @@ struct EntryOf<'a, S: Shelf> {
     number: usize,
 }
 
-/// The hosted nodes that are members, in their order.
+/// The hosted nodes that are members, in the order of the nodes.
 pub fn hosted_members(
     alloc: Global,
     nodes: &[HostedNode],
@@ -40,7 +40,7 @@ pub fn hosted_members(
     Ok(names)
 }
 
-/// What each of some nodes gave out at the slot. The journal is gone through once.
+/// What each of these nodes gave out at the slot. The journal is gone through once.
 pub fn outs_of_each<S: Shelf>(
     alloc: Global,
     journal: &Journal<S>,
@@ -58,7 +58,7 @@ pub fn outs_of_each<S: Shelf>(
     Ok(OutsOfMembers::of(list))
 }
 
-/// Adds what an entry gave out to the node that it is of, where there is one and that is one of the names.
+/// Adds what an entry gave out to its node, if it is one of a node, and that is one of the names.
 fn note<S: Shelf>(
     alloc: Global,
     list: &mut Vec<MemberOuts>,
@@ -81,7 +81,6 @@ fn note<S: Shelf>(
     Ok(())
 }
 
-/// Each of some nodes before it has given out anything.
 fn nothing_of_each(alloc: Global, names: &[NodeId]) -> Result<Vec<MemberOuts>, AllocError>
     ensures { IfOk result (λ v. v.items ≡ map (λ u. (u, [])) names.now) }
 {

@@ -8,8 +8,8 @@ use envstore::Shelf;
 use hoststep::{Journal, LentEvent};
 use types::Envelope;
 
-/// Whether the same is kept of two entries, one of each journal: the same happened to the same node. Of a
-/// Hear it does not count what it hands over. Numbers past the last entry count as the same.
+/// Whether two entries, one of each journal, are the same step: the same happened to the same node. Not compared are
+/// slots, and what a Hear hands over. Numbers past the last entry count as the same.
 pub fn is_same_at<S: Shelf, T: Shelf>(
     one: &Journal<S>,
     number: usize,
@@ -25,7 +25,6 @@ pub fn is_same_at<S: Shelf, T: Shelf>(
     }
 }
 
-/// Whether the same is kept of two steps that are kept.
 fn is_same(one: &LentEvent<'_>, other: &LentEvent<'_>) -> bool
     ensures { IsTrue result ↔ core (lent_step one.now) ≡ core (lent_step other.now) }
 {
@@ -71,7 +70,6 @@ fn is_same(one: &LentEvent<'_>, other: &LentEvent<'_>) -> bool
     }
 }
 
-/// Whether two envelopes are the same.
 fn is_same_envelope(one: &Envelope, other: &Envelope) -> bool
     ensures { IsTrue result ↔ one.now ≡ other.now }
 {

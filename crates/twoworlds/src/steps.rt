@@ -26,8 +26,8 @@ pub fn is_kept_at<S: Shelf>(
     }
 }
 
-/// Whether a step concerns the members at the slot: it opens or closes the slot, it happens to a member, or
-/// a member is reached by what a member sent.
+/// Whether a step concerns the members at the slot. It does if it opens or closes the slot, or happens there to a
+/// member, unless it comes from a node that is no member.
 fn is_kept(step: &LentEvent<'_>, members: &ClosureList, slot: u64) -> bool
     ensures { result ≡ is_kept (among (names_of members.now)) slot (lent_step step.now) }
 {
@@ -49,8 +49,7 @@ fn is_kept(step: &LentEvent<'_>, members: &ClosureList, slot: u64) -> bool
     }
 }
 
-/// The node to which an entry happened, where there is an entry of this number, it is of the slot and has
-/// a node.
+/// The node to which an entry happened, if there is an entry of this number, it is of the slot, and it has a node.
 pub fn node_of_entry<S: Shelf>(journal: &Journal<S>, number: usize, slot: u64) -> Option<NodeId>
     ensures { result ≡ node_in slot (event_at journal.now.entries number) }
 {
@@ -60,7 +59,7 @@ pub fn node_of_entry<S: Shelf>(journal: &Journal<S>, number: usize, slot: u64) -
     }
 }
 
-/// The node of a step at the slot.
+/// The node of a step, if it is at the slot and has one.
 fn node_of(step: &LentEvent<'_>, slot: u64) -> Option<NodeId>
     ensures { result ≡ node_of slot (lent_step step.now) }
 {

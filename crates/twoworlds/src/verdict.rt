@@ -40,8 +40,8 @@ impl MemberOuts {
         }
     }
 
-    /// Adds what the entry of this number gave out; nothing past the last entry. An error says that memory
-    /// is short.
+    /// Adds what the entry of this number gave out; nothing past the last entry. An error says that it is out of
+    /// memory.
     pub(crate) fn extend<S: Shelf>(
         &mut self,
         alloc: Global,
@@ -88,7 +88,6 @@ impl Model for OutsOfMembers {
 }
 
 impl OutsOfMembers {
-    /// These members.
     pub(crate) fn of(members: Vec<MemberOuts>) -> OutsOfMembers
         ensures { result ≡ members.items }
     {
@@ -103,13 +102,13 @@ impl OutsOfMembers {
     }
 }
 
-/// What a comparison of two worlds answers.
+/// The verdict on a subject in two worlds.
 #[derive(Drop)]
 pub enum Verdict {
-    /// The worlds host this node unlike: the node that was asked for, where the first world does not
-    /// host it; else the least member that is hosted in one world alone, or with other slices.
+    /// The worlds host this node unlike. It is the node that was asked for, if the first world does not host it; else
+    /// the least member that only one world hosts, or that they host with other slices.
     CastDiffers(NodeId),
-    /// So many steps that concern the members are the same before the first difference.
+    /// This many steps that concern the members are the same before the first difference.
     InputsDiffer(usize),
     /// All of them are the same, and so is what each hosted member gave out.
     Same(OutsOfMembers),

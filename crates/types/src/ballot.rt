@@ -60,8 +60,7 @@ pub(crate) fn is_same(one: &Option<Ballot>, other: &Option<Ballot>) -> bool
     }
 }
 
-/// A copy of a ballot, where there is one. It takes no memory; an error says that its value has too many
-/// owners.
+/// A copy of a ballot, if there is one. It takes no memory; an error says that its value has too many owners.
 pub fn copy_of(ballot: &Option<Ballot>) -> Result<Option<Ballot>, AllocError>
     ensures { IfOk result (λ o. o ≡ ballot.now) }
 {

@@ -34,7 +34,7 @@ impl Bytes {
         &self.bytes
     }
 
-    /// A copy. An error says that memory is short.
+    /// A copy. An error says that it is out of memory.
     pub fn try_copy(&self, alloc: Global) -> Result<Bytes, AllocError>
         ensures { IfOk result (λ b. b ≡ self.now) }
     {

@@ -11,7 +11,7 @@ use std::marker::Model;
 
 /// A statement with its sender, its slot and the sender's slices. It is well formed by its type.
 ///
-/// For example, it may be a PREPARE of counter 2 with the high counter 1 or 2; one with the high counter 3 it is not.
+/// For example, it may be a PREPARE of counter 2 with the high counter 1 or 2, but not one with the high counter 3.
 #[derive(Drop)]
 pub struct Envelope {
     sender: NodeId,
@@ -49,7 +49,7 @@ impl Envelope {
         }
     }
 
-    /// An envelope of these parts, or `None` where the statement breaks a rule of its kind.
+    /// An envelope of these parts, or `None` if the statement breaks a rule of its kind.
     pub fn new(sender: NodeId, slot: u64, slices: Nested, body: Statement) -> Option<Envelope>
         ensures exactly { IsSome result ↔ IsWellFormed body }
         ensures some { IfSome result (λ e. e ≡ record { sender = sender; slot = slot; slices = slices; body = body }) }
@@ -60,7 +60,7 @@ impl Envelope {
         Some(Envelope::of(sender, slot, slices, body))
     }
 
-    /// A copy. An error says that memory is short.
+    /// A copy. An error says that it is out of memory, or that a value or the slices have too many owners.
     pub fn try_copy(&self, alloc: Global) -> Result<Envelope, AllocError>
         ensures { IfOk result (λ e. e ≡ self.now) }
     {

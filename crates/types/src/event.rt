@@ -39,7 +39,7 @@ pub enum Out {
 }
 
 impl Out {
-    /// A copy. An error says that memory is short.
+    /// A copy. An error says that it is out of memory, or that a value or slices have too many owners.
     pub fn try_copy(&self, alloc: Global) -> Result<Out, AllocError>
         ensures { IfOk result (λ o. o ≡ self.now) }
     {
@@ -74,8 +74,7 @@ pub enum Event {
         node: NodeId,
         bytes: Bytes,
     },
-    /// A hosted node hears from another one its emission of a kind with this number, from 1 on since
-    /// the slot was opened.
+    /// A hosted node hears another's emission of this kind and number, counted from 1 on since the slot was opened.
     Hear {
         slot: u64,
         node: NodeId,
@@ -104,7 +103,7 @@ pub enum Event {
 }
 
 impl Event {
-    /// A copy. An error says that memory is short.
+    /// A copy. An error says that it is out of memory, or that slices have too many owners.
     pub fn try_copy(&self, alloc: Global) -> Result<Event, AllocError>
         ensures { IfOk result (λ e. e ≡ self.now) }
     {
@@ -167,7 +166,7 @@ pub enum Refusal {
     SlotNotOpen,
     /// The slot is open already.
     SlotOpenAlready,
-    /// As many slots are open as the budget has.
+    /// No more slots may be open: the budget of open slots is used up.
     TooManySlots,
     /// The bytes are no envelope, with the number of their fault.
     BadEnvelope(u8),
@@ -175,7 +174,7 @@ pub enum Refusal {
     HostedSender,
     /// The node has no such emission.
     NotEmitted,
-    /// As many events have drawn on the budget of events as it has.
+    /// The budget of events is used up.
     JournalFull,
     /// The delivered bytes that draw on the budget of bytes would exceed it.
     BytesFull,
@@ -187,6 +186,6 @@ pub enum Refusal {
     ShareFull,
     /// The delivered bytes would exceed those that are reserved for the step.
     ShareBytesFull,
-    /// Memory was wanting. No definition answers it.
+    /// It is out of memory. No definition answers this.
     NoMemory,
 }

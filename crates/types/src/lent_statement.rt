@@ -139,8 +139,7 @@ impl<'a> LentStatement<'a> {
     }
 }
 
-/// A statement of its own, where there is one. It takes no memory; an error says that a value has too
-/// many owners.
+/// A statement of its own, if there is one. It takes no memory; an error says that a value has too many owners.
 pub fn statement_of(lent: &Option<LentStatement>) -> Result<Option<Statement>, AllocError>
     ensures { IfOk result (λ o. o ≡ lent.now) }
 {

@@ -58,7 +58,7 @@ impl Model for SliceSet {
 }
 
 impl SliceSet {
-    /// A threshold over members, with no rule kept.
+    /// A threshold over members, whether or not they keep the rules.
     pub fn new(threshold: u8, members: Vec<Member>) -> SliceSet
         ensures threshold { result.threshold ≡ threshold }
         ensures members { result.members ≡ members_of members.items }
@@ -81,8 +81,8 @@ impl SliceSet {
     }
 }
 
-/// Whether each set of the tree has at most 64 members and a threshold of one to all of them, and
-/// there are no more levels of inner sets than so many.
+/// Whether each set of the tree has at most 64 members and a threshold of one to all of them, and there are at most
+/// `levels` levels of inner sets.
 fn keeps_shape(set: &SliceSet, levels: usize) -> bool
     ensures { result ≡ (has_threshold set.now.threshold set.now.members && is_shaped levels set.now.members) }
 {
@@ -100,7 +100,7 @@ fn keeps_shape(set: &SliceSet, levels: usize) -> bool
     true
 }
 
-/// Whether there are no more levels of inner sets than so many.
+/// Whether there are at most `levels` levels of inner sets.
 fn has_levels(set: &SliceSet, levels: usize) -> bool
     ensures { result ≡ has_levels levels set.now.members }
 {
@@ -123,8 +123,8 @@ fn is_threshold(threshold: u8, members: &[Member]) -> bool
     threshold > 0 && threshold as usize <= members.len() && members.len() <= MAX_MEMBERS
 }
 
-/// Adds the names of the tree to a list, in the order of the tree, as often as they stand in it. Where
-/// memory is wanting, some may have been added; those that the list had stay in front.
+/// Adds the names of the tree to a list, in the order of the tree, as often as they stand in it. If it is out of
+/// memory, some may have been added; those that the list had stay in front.
 #[tactic(auto, using(crate::proofs::Fronts::front_stays, crate::proofs::Fronts::front_through))]
 pub fn push_names(set: &SliceSet, names: &mut Vec<NodeId>) -> Result<(), AllocError>
     ensures ok { OnOk result (names.new.items ≡ names.old.items ++ names_in set.now.members) }
@@ -153,7 +153,7 @@ fn all_differ(names: Vec<NodeId>) -> bool
         return true;
     }
     let mut names = names;
-    // In place, so that no memory can be wanting.
+    // In place, which takes no memory.
     names.sort_unstable();
     is_ascending(&names)
 }
@@ -200,8 +200,8 @@ fn are_same(members: &[Member], others: &[Member]) -> bool
 /// them, at most eight levels of inner sets, at most 256 names, and no name twice in the tree (this
 /// host's profile of the nested slices of the Stellar Consensus Protocol draft). Copies share them.
 ///
-/// For example, 2 of A, B and the inner set 1 of C are such slices; 3 of A and B are none, since the threshold is too
-/// high, nor are 1 of A and the inner set 1 of A, where a name stands twice.
+/// For example, 2 of A, B and the inner set 1 of C are such slices. 3 of A and B are none, since the threshold is too
+/// high; nor are 1 of A and the inner set 1 of A, since A stands twice.
 #[derive(Drop)]
 pub struct Nested {
     set: Arc<SliceSet, Global>,
@@ -221,8 +221,8 @@ impl Model for Nested {
 }
 
 impl Nested {
-    /// Slices of this set, or `None` where it breaks one of the rules. It takes memory for the list of
-    /// the names, and for the set that copies share.
+    /// Slices of this set, or `None` if it breaks one of the rules. An error says that it is out of memory: for the
+    /// list of the names, or for the set that copies share.
     #[tactic(auto, using(crate::proofs::NestedRules::nested, crate::proofs::NestedRules::nested_shape, crate::proofs::NestedRules::nested_names))]
     pub fn new(alloc: Global, set: SliceSet) -> Result<Option<Nested>, AllocError>
         ensures exactly { IfOk result (λ o. IsSome o ↔ IsNested set) }
@@ -239,7 +239,7 @@ impl Nested {
         Ok(Some(Nested::of(alloc, set)?))
     }
 
-    /// Slices that are known to keep the rules. An error says that memory is short.
+    /// Slices that are known to keep the rules. An error says that it is out of memory.
     pub fn of(alloc: Global, set: SliceSet) -> Result<Nested, AllocError>
         requires { IsNested set }
         ensures { IfOk result (λ n. n ≡ set) }
@@ -267,7 +267,7 @@ impl Nested {
             && are_same(self.set.members(), other.set.members())
     }
 
-    /// Whether there are no more levels of inner sets than so many.
+    /// Whether there are at most `levels` levels of inner sets.
     #[tactic(auto, using(crate::proofs::NestedRules::levels_counted))]
     pub fn has_levels(&self, levels: usize) -> bool
         ensures { result ≡ nat_le (depth_of self.now.members) levels }

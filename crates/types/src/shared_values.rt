@@ -13,8 +13,8 @@ use std::sync::Arc;
 
 /// A list of values that never changes and that copies share, seen by contracts as the list of their bytes.
 ///
-/// Each has one to 256 bytes: for example, y, x, x is such a list, and so is one of no values; one with an empty
-/// value is none.
+/// Each has one to 256 bytes: for example, y, x, x is such a list, and so is that of no values; x and an empty value
+/// are not.
 #[derive(Debug, Drop)]
 pub struct SharedValues {
     values: Option<Arc<Values, Global>>,
@@ -41,7 +41,7 @@ impl SharedValues {
         SharedValues { values: None }
     }
 
-    /// These values. An error says that memory is short.
+    /// These values. An error says that it is out of memory.
     pub fn new(alloc: Global, values: Values) -> Result<SharedValues, AllocError>
         ensures { IfOk result (λ s. s ≡ values) }
     {
@@ -74,7 +74,7 @@ impl SharedValues {
         }
     }
 
-    /// A list of its own of the same values. An error says that memory is short, or that a value has too many
+    /// A list of its own of the same values. An error says that it is out of memory, or that a value has too many
     /// owners.
     pub fn to_values(&self, alloc: Global) -> Result<Values, AllocError>
         ensures { IfOk result (λ v. v ≡ self.now) }

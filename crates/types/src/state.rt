@@ -45,7 +45,7 @@ impl Leaders {
         }
     }
 
-    /// Adds the leader of one more round. Where memory is wanting the list stays as it was.
+    /// Adds the leader of one more round. If it is out of memory, the list stays as it was.
     pub fn push(&mut self, node: NodeId) -> Result<(), AllocError>
         ensures ok { OnOk result (self.new ≡ self.old ++ node ∷ []) }
         ensures err { OnErr result (self.new ≡ self.old) }
@@ -61,7 +61,7 @@ impl Leaders {
         &self.nodes
     }
 
-    /// A copy. An error says that memory is short.
+    /// A copy. An error says that it is out of memory.
     pub fn try_copy(&self, alloc: Global) -> Result<Leaders, AllocError>
         ensures { IfOk result (λ l. l ≡ self.now) }
     {
@@ -71,7 +71,7 @@ impl Leaders {
     }
 }
 
-/// What events alone set.
+/// What only events set.
 #[derive(Debug, Drop)]
 pub struct Inputs {
     /// What the node is to propose.
@@ -97,8 +97,8 @@ impl Inputs {
         }
     }
 
-    /// A copy, which shares the bytes of each value. An error says that memory is short, or that a value
-    /// has too many owners.
+    /// A copy, which shares the bytes of each value. An error says that it is out of memory, or that a value has too
+    /// many owners.
     pub fn try_copy(&self, alloc: Global) -> Result<Inputs, AllocError>
         ensures { IfOk result (λ g. g ≡ self.now) }
     {
@@ -203,7 +203,6 @@ impl Votes {
             && self.confirms.is_same(&other.confirms)
     }
 
-    /// Whether the ballots are the same.
     fn has_same_ballots(&self, other: &Votes) -> bool
         ensures { IsTrue result ↔ (self.now.ballot ≡ other.now.ballot) × (self.now.prepared ≡ other.now.prepared) × (self.now.confirmed_prepared ≡ other.now.confirmed_prepared) × (self.now.commit ≡ other.now.commit) }
     {

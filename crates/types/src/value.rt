@@ -12,7 +12,7 @@ pub const MAX_VALUE_LENGTH: usize = 256;
 
 /// One to 256 opaque bytes, ordered by bytes. Copies share them.
 ///
-/// For example, a single byte of 0 is a value; no bytes and 257 of them are none.
+/// For example, a single byte of 0 is a value; no bytes are none, nor are 257 of them.
 #[derive(Debug, Drop)]
 pub struct Value {
     bytes: Arc<Vec<u8>, Global>,
@@ -30,7 +30,7 @@ impl Model for Value {
 }
 
 impl Value {
-    /// The bytes as a value, where they are one to 256. An error says that memory is short.
+    /// The bytes as a value, or `None` if they are not one to 256. An error says that it is out of memory.
     pub fn new(alloc: Global, bytes: &[u8]) -> Result<Option<Value>, AllocError>
         ensures some { IfOk result (λ o. IfSome o (λ v. v ≡ bytes.now)) }
         ensures exactly { IfOk result (λ o. IsSome o ↔ (0 < length bytes.now) × (length bytes.now ≤ 256)) }
@@ -41,7 +41,7 @@ impl Value {
         Ok(Some(Value::of(alloc, bytes)?))
     }
 
-    /// Bytes that are known to be a value: one to 256 of them. An error says that memory is short.
+    /// Bytes that are known to be a value: one to 256 of them. An error says that it is out of memory.
     pub fn of(alloc: Global, bytes: &[u8]) -> Result<Value, AllocError>
         requires some_bytes { 0 < length bytes.now }
         requires limit { length bytes.now ≤ 256 }

@@ -13,8 +13,8 @@ pub const MAX_NOMINATED: usize = 16;
 
 /// A list of values, seen by contracts as the list of their bytes.
 ///
-/// Each has one to 256 bytes, and any order is allowed: for example, y, x, x is such a list; one with an empty
-/// value is none.
+/// Each has one to 256 bytes, and any order is allowed: for example, y, x, x is such a list; x and an empty value are
+/// not.
 #[derive(Debug, Drop)]
 pub struct Values {
     items: Vec<Value>,
@@ -42,7 +42,7 @@ impl Values {
         }
     }
 
-    /// Adds a value at the end. Where memory is wanting the list stays as it was.
+    /// Adds a value at the end. If it is out of memory, the list stays as it was.
     pub fn push(&mut self, value: Value) -> Result<(), AllocError>
         ensures ok { OnOk result (self.new ≡ self.old ++ value ∷ []) }
         ensures err { OnErr result (self.new ≡ self.old) }
@@ -51,8 +51,8 @@ impl Values {
         Ok(())
     }
 
-    /// Adds a value to an ascending list in its place, where it is not there yet. Where memory is wanting
-    /// the list stays as it was.
+    /// Adds a value to an ascending list in its place, if it is not there yet. If it is out of memory, the list stays
+    /// as it was.
     pub fn insert(&mut self, value: Value) -> Result<(), AllocError>
         ensures ok { OnOk result (self.new ≡ with_value value self.old) }
         ensures err { OnErr result (self.new ≡ self.old) }
@@ -71,8 +71,8 @@ impl Values {
         &self.items
     }
 
-    /// A copy, which shares the bytes of each value. An error says that memory is short, or that a value
-    /// has too many owners.
+    /// A copy, which shares the bytes of each value. An error says that it is out of memory, or that a value has too
+    /// many owners.
     pub fn try_copy(&self, alloc: Global) -> Result<Values, AllocError>
         ensures { IfOk result (λ v. v ≡ self.now) }
     {

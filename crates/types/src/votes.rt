@@ -69,8 +69,8 @@ impl Statement {
         votes || self.accepts_prepare(ballot)
     }
 
-    /// Whether it accepts commit of the value, by the two ends of an interval: where `low <= high`,
-    /// whether it accepts it at each counter from `low` to `high`. A greater `low` means nothing.
+    /// Whether it accepts commit of the value, by the two ends of an interval: if `low <= high`, whether it accepts it
+    /// at each counter from `low` to `high`. If `low` is greater, the answer means nothing.
     #[tactic(auto, using(crate::proofs::VoteLaws::accepts_whole, crate::proofs::VoteLaws::accepts_both))]
     pub fn accepts_ends(&self, value: &Value, low: u32, high: u32) -> bool
         ensures value { result ≡ accepts_ends self.now value.now low high }
@@ -91,9 +91,8 @@ impl Statement {
         }
     }
 
-    /// Whether it votes for or accepts commit of the value, by the two ends of an interval: where
-    /// `low <= high`, whether it does so at each counter from `low` to `high`. A greater `low` means
-    /// nothing.
+    /// Whether it votes for or accepts commit of the value, by the two ends of an interval: if `low <= high`, whether
+    /// it does so at each counter from `low` to `high`. If `low` is greater, the answer means nothing.
     #[tactic(auto, using(crate::proofs::VoteLaws::votes_whole, crate::proofs::VoteLaws::votes_both))]
     pub fn votes_or_accepts_ends(&self, value: &Value, low: u32, high: u32) -> bool
         ensures value { result ≡ votes_or_accepts_ends self.now value.now low high }

@@ -1,5 +1,6 @@
-//! Tests of values, words, runs of lines, bytes, slices and live hosts, by what `types`, `scripts`, `codec`, `flat_slices`
-//! and `feed` show to anybody: they stand here so that those crates are proved once. It holds nothing else.
+//! Tests of values, words, runs of lines, bytes, slices and live hosts, by what `types`, `scripts`, `codec`,
+//! `flat_slices` and `feed` show to anybody: they stand here so that those crates are proved once. It holds nothing
+//! else.
 #![tactic(auto)]
 
 pub mod deeds;

@@ -4,7 +4,7 @@ use std::process::Abort;
 use std::test::*;
 use types::{Ballot, Envelope, Member, Nested, NodeId, SliceSet, Statement, Value};
 
-// What no clause says: that with memory the calls answer, and the texts of the errors. What each kind of bytes
+// What no clause says: that the calls answer if there is memory, and the texts of the errors. What each kind of bytes
 // is answered with, cut, lengthened and changed, stands under `cases/table`, and at its limits in `tools/limits`.
 
 // The envelope of a PREPARE by the node whose name begins with `B`: slot 1, one of itself, ballot 9:m,
@@ -20,7 +20,7 @@ const FIRST: &[u8] = &[
     0, 0, 0, 6, 0, 0, 0, 0, 0, 0, 0, 0, // counters
 ];
 
-/// The first envelope, of its parts.
+/// The envelope of `FIRST`, of its parts.
 fn first_of_parts(alloc: Global) -> Result<Envelope, Fail> {
     let name = NodeId::from_words(0x42 << 56, 0, 0, 0);
     let mut members = Vec::new(alloc);

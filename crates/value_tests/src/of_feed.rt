@@ -25,7 +25,7 @@ const TOLD: &[u8] = b"1 1\n3 bad\n4 4\n5 bad\n6 8\n";
 
 const JOURNAL: &[u8] = b"+\n\n\n+++\n\n++++\n";
 
-/// The calls of its desk, by the fault that each is where it fails.
+/// The calls of its desk, each by the fault that it is if it fails.
 const CALLS: [Fault; 12] = [
     Fault::NotAppended,
     Fault::NotAppended,
@@ -48,7 +48,7 @@ struct Ran<R: Abort + Drop> {
     desk: MemoryDesk<R>,
 }
 
-/// Serves what is sent by a host to which nothing has come yet. A call of its desk fails, or none at 0.
+/// Serves what is sent by a host to which nothing has come yet. Call number `fails_at` of its desk fails, or none at 0.
 fn serve<R: Threads + Wait + Abort + AllocGlobal + Sync + Copy + Drop>(
     rt: R,
     input: &mut impl BufRead,
@@ -61,7 +61,8 @@ fn serve<R: Threads + Wait + Abort + AllocGlobal + Sync + Copy + Drop>(
     Ran { ended, desk }
 }
 
-/// What the journal has on the disk at a moment, what it has behind that, which alone a stop changes, and what was told.
+/// What the journal has on the disk at a moment, what it has behind that, which is all that a stop changes, and what
+/// was told.
 #[derive(Drop)]
 struct Moment {
     safe: Vec<u8>,
@@ -110,7 +111,7 @@ fn without_bad(alloc: Global, told: &[u8]) -> Result<Vec<u8>, AllocError> {
     Ok(others)
 }
 
-/// Where a journal ends that is run again by a host to which nothing has come yet; and what is told.
+/// Where a journal ends that is run again by a host to which nothing has come yet, and what is told.
 #[derive(Drop)]
 struct Again {
     ended: Result<JournalEnd, Stop>,
@@ -129,8 +130,8 @@ fn run_again<R: Threads + Wait + AllocGlobal + Sync>(
     Again { ended, told }
 }
 
-/// Runs a file that a stop left at a moment, and answers whether the lines that it runs are the first of the journal, all
-/// of which something had been told are among them, and what is told of them again is what was told.
+/// Runs a file that a stop left at a moment. The lines that it runs have to be the first of the journal, with all of
+/// which something had been told. Of these the same has to be told again.
 fn survives<R: Threads + Wait + AllocGlobal + Sync>(
     rt: &R,
     now: &Moment,
@@ -224,7 +225,7 @@ fn tells_nothing_behind_a_failed_call(rt: HostRuntime) -> Result<(), Fail> {
     Ok(())
 }
 
-/// A line of so many plus signs, and its line feed.
+/// A line of `count` plus signs, and its line feed.
 fn pluses(alloc: Global, count: usize) -> Result<Vec<u8>, AllocError> {
     let mut line = Vec::new(alloc);
     line.resize(count, b'+')?;

@@ -90,7 +90,7 @@ fn writes_many_lines_at_once(rt: HostRuntime) -> Result<(), Fail> {
     Ok(())
 }
 
-/// Runs a script as it comes, seven bytes at a time through a small buffer, with one of the reads failing.
+/// Runs a script as it comes, three bytes at a time through a small buffer, with one of the reads failing.
 fn stream(alloc: Global, script: &[u8], read_fails_at: u32, out: FakeWriter) -> Result<Ran, Fail> {
     let mut reader = FakeReader::new(script, 7, read_fails_at);
     let mut input = BufReader::with_capacity(alloc, 3, &mut reader)

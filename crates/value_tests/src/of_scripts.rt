@@ -54,7 +54,7 @@ fn printed_statement(alloc: Global, word: &[u8]) -> Result<Option<String>, Alloc
     Ok(Some(text))
 }
 
-/// What a word is printed as once it is read, or nothing where it is no such word.
+/// Tests what a word that was read is printed as: `wanted` is empty if it is no such word.
 fn answers(
     rt: &impl Abort,
     printed: Result<Option<String>, AllocError>,

@@ -1,5 +1,5 @@
-//! That with memory flat slices are made of slices and slices of them, and that both answer alike. The second is their
-//! contracts'; the first no clause says.
+//! That flat slices are made of slices, and slices of flat ones, if there is memory, and that both answer alike. The
+//! second is said by their contracts, the first by no clause.
 
 ghost use Rattle.std.specs.Prelude.{IfOk};
 ghost use Rattle.protocol.specs.Sets.{IsAscending};
@@ -28,8 +28,7 @@ fn names_of<F: SliceFamily>(alloc: Global, slices: &F) -> Result<Vec<NodeId>, Fa
     Ok(slices.names(alloc)?)
 }
 
-/// Whether slices of two kinds have the same names, and answer alike about a set of nodes and the weight of each node
-/// in it.
+/// Whether slices of two kinds answer alike about a set of nodes, and about the weight of each node in it.
 fn are_alike<F: SliceFamily, G: SliceFamily>(one: &F, other: &G, nodes: &[NodeId]) -> bool
     requires { IsAscending nodes.now }
 {
@@ -41,7 +40,8 @@ fn are_alike<F: SliceFamily, G: SliceFamily>(one: &F, other: &G, nodes: &[NodeId
     alike
 }
 
-/// The same about all sets of nodes that words name.
+/// Whether slices and their flat form have the same names, and are alike about each set of nodes that a word of `WORDS`
+/// names.
 fn are_alike_about_words(alloc: Global, nested: &Nested, flat: &Flat) -> Result<bool, Fail> {
     let mut alike = names_of(alloc, nested)? == names_of(alloc, flat)?;
     for word in WORDS.split(|byte| *byte == b' ') {
@@ -61,7 +61,7 @@ fn goes_both_ways(alloc: Global, nested: &Nested) -> Result<bool, Fail> {
     Ok(same && are_alike_about_words(alloc, nested, &flat)?)
 }
 
-/// Whether all are so.
+/// Whether all slices of `WORDS` go both ways.
 fn all_go_both_ways(alloc: Global) -> Result<bool, Fail> {
     for word in WORDS.split(|byte| *byte == b' ') {
         let nested = slices(alloc, word)?;
@@ -79,7 +79,7 @@ fn flat_slices_answer_as_their_trees(rt: HostRuntime) -> Result<(), Fail> {
     Ok(())
 }
 
-/// A set of 64 names, from this number on, all of which are needed, or one.
+/// A set of 64 names, numbered from `first` on, of which `threshold` are needed.
 fn sixty_four(alloc: Global, first: u64, threshold: u8) -> Result<SliceSet, Fail> {
     let mut members = Vec::new(alloc);
     for number in 0..64 {
@@ -89,7 +89,7 @@ fn sixty_four(alloc: Global, first: u64, threshold: u8) -> Result<SliceSet, Fail
     Ok(SliceSet::new(threshold, members))
 }
 
-/// Four sets of 64 names each, of which so many are needed.
+/// Four sets of 64 names, each of which needs all its names; `threshold` of the sets are needed.
 fn widest(alloc: Global, threshold: u8) -> Result<Nested, Fail> {
     let mut members = Vec::new(alloc);
     for first in [0u64, 64, 128, 192] {
@@ -98,7 +98,8 @@ fn widest(alloc: Global, threshold: u8) -> Result<Nested, Fail> {
     Ok(Nested::new(alloc, SliceSet::new(threshold, members))?.ok_or("slices")?)
 }
 
-/// Whether the widest slices are alike about their first so many names and about all.
+/// Whether the widest slices and their flat form are alike about all their names, and about the names of their second
+/// set.
 fn widest_are_alike(alloc: Global, threshold: u8) -> Result<bool, Fail> {
     let nested = widest(alloc, threshold)?;
     let flat = Flat::of(alloc, &nested)?;

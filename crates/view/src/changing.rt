@@ -19,7 +19,7 @@ use reach::{KnownNodes, reach_among, wider_reach};
 use std::alloc::{AllocError, Global};
 use types::NodeId;
 
-/// Whom a node reaches by a new row of a reached node.
+/// Whom a node reaches after a new row of a reached node.
 #[derive(Clone, Copy, Debug, PartialEq, Eq)]
 pub enum Extent {
     /// All whom it reached, and maybe more.
@@ -28,7 +28,7 @@ pub enum Extent {
     Other,
 }
 
-/// A reached node of which a row is new, and what that means for whom the node reaches.
+/// A reached node that has a new row, and what that means for whom the node reaches.
 #[derive(Clone, Copy)]
 pub struct NewReach<'a> {
     pub sender: &'a NodeId,
@@ -36,10 +36,10 @@ pub struct NewReach<'a> {
 }
 
 impl Region {
-    /// The region of a node that reaches others than the nodes of this one by a new row of the sender. An error says
-    /// that memory is short.
+    /// The region of the node after a new row of the sender, if whom it reaches may have changed. An error says that it
+    /// is out of memory.
     ///
-    /// Where the reach is wider, rows of those alone who are reached besides are looked at, and the sender's; else it is
+    /// If the reach is wider, only the rows of newly reached nodes and of the sender are looked at. Else the reach is
     /// searched for from the node on, among the nodes of this region. In both cases the other rows stand where they
     /// stood, and their slices stay compiled, with their places moved.
     pub fn after_row<'a, S: Places>(
@@ -64,7 +64,6 @@ impl Region {
         Region::over(alloc, own, table, Placed { nodes, rows }, Some(former))
     }
 
-    /// Whom the node reaches. An error says that memory is short.
     fn new_reach<S: Places>(
         &self,
         alloc: Global,
@@ -91,7 +90,8 @@ impl Region {
     }
 }
 
-/// Where nodes stand in another list, as far as they are in it. An error says that memory is short.
+/// Where each node stands in another list; for one that is not there, a place that means nothing. An error says that it
+/// is out of memory.
 fn moved_places(alloc: Global, nodes: &[NodeId], all: &[NodeId]) -> Result<Vec<usize>, AllocError>
     requires before { IsAscending nodes.now }
     requires now { IsAscending all.now }
@@ -106,7 +106,7 @@ fn moved_places(alloc: Global, nodes: &[NodeId], all: &[NodeId]) -> Result<Vec<u
     Ok(places)
 }
 
-/// The place of a node, which is looked for behind the one that was found last, before it is searched for.
+/// The place of a node. It is tried at `next` before it is searched for, since nodes come in order.
 fn place_behind(nodes: &[NodeId], next: &mut usize, node: &NodeId) -> Option<usize>
     requires { IsAscending nodes.now }
     ensures exactly { is_some result ≡ among nodes.now node.now }
@@ -119,8 +119,8 @@ fn place_behind(nodes: &[NodeId], next: &mut usize, node: &NodeId) -> Option<usi
     place
 }
 
-/// Where the rows that the nodes have stand in the table: as the region has it of those that are in it, save for the
-/// sender, and the others are looked up. An error says that memory is short.
+/// Where the rows of the nodes stand in the table. The region has it of its own nodes but the sender; the others are
+/// looked up. An error says that it is out of memory.
 fn kept_row_places<S: Places>(
     alloc: Global,
     table: &Rows<'_, S>,
@@ -142,8 +142,7 @@ fn kept_row_places<S: Places>(
     Ok(found)
 }
 
-/// Where the rows of a node stand in the table: as the region has it of the node at its place, if it has one and is not
-/// the sender, or else it is looked up. It takes no memory.
+/// Where the rows of one node stand in the table, by its place in the region, if it has one there. It takes no memory.
 fn places_of<S: Places>(
     table: &Rows<'_, S>,
     node: &NodeId,

@@ -13,15 +13,15 @@ use envstore::Places;
 use std::alloc::{AllocError, Global};
 use types::{Nested, NodeId};
 
-/// The forms that are there, and two places at which slices that are the same are looked for.
+/// The forms that are there, and two places at which the same slices are looked for.
 #[derive(Clone, Copy)]
 pub(crate) struct Candidates<'a> {
     pub forms: &'a [Option<Form>],
     pub places: (usize, usize),
 }
 
-/// The forms of one kind in a region of other nodes, where these stand among all, and the one node whose rows may be
-/// others since.
+/// The forms of one kind in a region of other nodes, and where its nodes stand among all. Only the sender's rows may
+/// have changed since.
 #[derive(Clone, Copy)]
 pub(crate) struct Former<'a> {
     pub nodes: &'a [NodeId],
@@ -31,7 +31,7 @@ pub(crate) struct Former<'a> {
 }
 
 impl<'a> Former<'a> {
-    /// The form of a node whose rows are the same still, if it has one there.
+    /// The form of a node in that region, if it has one and its rows are still the same.
     fn form_of(&self, node: &NodeId) -> Option<&'a Form>
         requires { IsAscending self.now.nodes.now }
         ensures { IfSome result (λ f. IsFormOf self.now node.now f.now) }
@@ -47,7 +47,7 @@ impl<'a> Former<'a> {
 }
 
 /// A node's name and slices, the nodes that it reaches, and their rows of one kind; and the forms of a region of other
-/// nodes, where there is one.
+/// nodes, if there is one.
 #[derive(Drop)]
 pub(crate) struct SlicesInReach<'a, S: Places> {
     pub own: &'a NodeId,
@@ -57,7 +57,7 @@ pub(crate) struct SlicesInReach<'a, S: Places> {
 }
 
 impl<'a, S: Places> SlicesInReach<'a, S> {
-    /// The slices of all, compiled, in the order of the nodes. An error says that memory is short.
+    /// The slices of all nodes, compiled, in the order of the nodes. An error says that it is out of memory.
     #[tactic(auto, using(crate::proofs::FormLaws::part_empty, crate::proofs::FormLaws::part_whole))]
     pub(crate) fn forms(&self, alloc: Global) -> Result<Vec<Option<Form>>, AllocError>
         requires ascending { IsAscending self.now.rows.nodes }
@@ -78,8 +78,8 @@ impl<'a, S: Places> SlicesInReach<'a, S> {
         Ok(forms)
     }
 
-    /// The form of the node at a place, where those of the nodes before it are there: that of one of two candidates
-    /// with the same slices, or else a new one, whose number is the place. An error says that memory is short.
+    /// The form of the node at a place, once those of the nodes before it are there. It is that of a candidate with the
+    /// same slices, or else a new one, whose number is the place. An error says that it is out of memory.
     fn form_at(
         &self,
         alloc: Global,
@@ -107,8 +107,8 @@ impl<'a, S: Places> SlicesInReach<'a, S> {
         }
     }
 
-    /// The form of the slices of the node at a place, for a list of forms of the first nodes: that at one of two places
-    /// whose nodes have the same slices, or else a new one, whose number is the place. An error says that memory is short.
+    /// A form of these slices, which are those of the node at the place `number`. It is that of a candidate with the
+    /// same slices, or else a new one of this number. An error says that it is out of memory.
     fn form_of(
         &self,
         alloc: Global,
@@ -128,8 +128,8 @@ impl<'a, S: Places> SlicesInReach<'a, S> {
         }
     }
 
-    /// A new form of the slices of the node at a place, whose number is the place: what a region of other nodes has of the
-    /// node, with its places moved, or else compiled. An error says that memory is short.
+    /// A new form of the slices of the node at a place; its number is the place. It is taken from the former region
+    /// with its places moved, or else compiled. An error says that it is out of memory.
     fn new_form_at(&self, alloc: Global, slices: &Nested, place: usize) -> Result<Form, AllocError>
         requires ascending { IsAscending self.now.rows.nodes }
         requires former { IfSome self.now.former (IsFormerOf self.now.rows.nodes (slices_by self.now.own.now self.now.slices.now self.now.rows.table self.now.rows.kind)) }
@@ -150,8 +150,9 @@ impl<'a, S: Places> SlicesInReach<'a, S> {
         }
     }
 
-    /// The same where the slices name these nodes alone: those that one of them has do, where the nodes are a reach, and
-    /// of others each name is searched for. An error says that memory is short.
+    /// A form of the slices, if they name only these nodes, which are a reach: that of a candidate with the same
+    /// slices, or else a new one. Slices that a reached node has name only reached nodes, so names are searched for
+    /// only in others. An error says that it is out of memory.
     pub(crate) fn form_within(
         &self,
         alloc: Global,
@@ -171,7 +172,7 @@ impl<'a, S: Places> SlicesInReach<'a, S> {
         }
     }
 
-    /// The form at one of two places whose nodes have these slices, if there is one. It takes no memory.
+    /// The form of a candidate with these slices, if there is one. It takes no memory.
     fn twin_among<'b>(&self, slices: &Nested, there: Candidates<'b>) -> Option<&'b Form>
         ensures { IfSome result (λ f. IsTwin self.now.rows.nodes (slices_by self.now.own.now self.now.slices.now self.now.rows.table self.now.rows.kind) there.entry.forms.now slices.now f.now) }
     {
@@ -216,7 +217,7 @@ impl<'a, S: Places> SlicesInReach<'a, S> {
     }
 }
 
-/// A new form of slices, of this number, where they name these nodes alone. An error says that memory is short.
+/// A new form of slices, of this number, if they name only these nodes. An error says that it is out of memory.
 fn new_form_within(
     alloc: Global,
     slices: &Nested,
@@ -233,7 +234,6 @@ fn new_form_within(
     Ok(Some(form))
 }
 
-/// A new form of slices, of this number. An error says that memory is short.
 fn new_form(
     alloc: Global,
     slices: &Nested,
@@ -247,7 +247,6 @@ fn new_form(
     Form::new(alloc, number, set)
 }
 
-/// The form at a place, if there is one.
 fn form_in(forms: &[Option<Form>], place: usize) -> Option<&Form>
     ensures { IfSome result (λ f. (place < length forms.now) × (get_or forms.now place None ≡ Some f.now)) }
 {
@@ -257,7 +256,6 @@ fn form_in(forms: &[Option<Form>], place: usize) -> Option<&Form>
     }
 }
 
-/// Whether it is a form of this number.
 fn is_new(form: &Option<Form>, number: usize) -> bool {
     match form {
         None => false,

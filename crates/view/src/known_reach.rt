@@ -21,8 +21,8 @@ use slices::is_among;
 use std::alloc::{AllocError, Global};
 use types::{Envelope, Kind, NodeId, Statement, Values};
 
-/// The region of a node, the ballots that rows in it speak of, once a rule of balloting was asked for, and the values
-/// that its nominations vote for or accept, once a rule of nomination was. Its owner keeps all three from event to event.
+/// The region of a node, and what its rows speak of. The ballots are listed once a rule of balloting asks for them, and
+/// the values of nominations once a rule of nomination does. Its owner keeps all three from event to event.
 ///
 /// A newer nomination has all values of the one before it, so the values only ever grow.
 #[derive(Drop)]
@@ -30,11 +30,12 @@ pub struct KnownReach {
     pub region: Region,
     pub ballots: Option<ReachedBallots>,
     pub values: Option<Values>,
-    /// Whether it was asked for since it was found or changed: so rows that change the reach cost no more than questions do.
+    /// Whether it was asked for since it was found or changed. So rows that change the reach cost no more than
+    /// questions do.
     pub is_asked: bool,
 }
 
-/// A row that a table took, and the row that stood in its place.
+/// A row that a table took, and the row that it replaced, if there was one.
 #[derive(Drop)]
 pub struct Taken<'a> {
     pub row: &'a Envelope,
@@ -42,8 +43,8 @@ pub struct Taken<'a> {
 }
 
 impl KnownReach {
-    /// What is known of a node's reach by a table; no ballots and no values are listed. An error says that memory is
-    /// short.
+    /// What is known of a node's reach by a table; no ballots and no values are listed. An error says that it is out of
+    /// memory.
     pub fn of<S: Places>(
         alloc: Global,
         own: Own<'_>,
@@ -60,7 +61,7 @@ impl KnownReach {
         })
     }
 
-    /// A copy, which lists ballots and values anew when a rule asks. An error says that memory is short.
+    /// A copy, which lists ballots and values anew when a rule asks. An error says that it is out of memory.
     pub fn try_copy(&self, alloc: Global) -> Result<KnownReach, AllocError>
         ensures { IfOk result (λ k. (own : ℕ) (configured : Slices) (table : List Sent) → IsKnown own configured table self.now → IsKnown own configured table k) }
     {
@@ -73,8 +74,8 @@ impl KnownReach {
         })
     }
 
-    /// The same where the node reaches others than the nodes of the region by a new row; no ballots and no values are
-    /// listed afterwards. An error says that memory is short, and nothing changed.
+    /// What is known after a new row, if the node reaches others than the nodes of the region. No ballots and no values
+    /// are listed afterwards. An error says that it is out of memory, and nothing changed.
     pub fn change<S: Places>(
         &mut self,
         alloc: Global,
@@ -94,7 +95,7 @@ impl KnownReach {
         Ok(())
     }
 
-    /// Lists the ballots, where they are not listed yet. An error says that memory is short, and nothing changed.
+    /// Lists the ballots, if they are not listed yet. An error says that it is out of memory, and nothing changed.
     pub fn list_ballots<S: Places>(
         &mut self,
         alloc: Global,
@@ -116,7 +117,7 @@ impl KnownReach {
         Ok(())
     }
 
-    /// Lists the nominated values, where they are not listed yet. An error says that memory is short, and nothing
+    /// Lists the nominated values, if they are not listed yet. An error says that it is out of memory, and nothing
     /// changed.
     pub fn list_values<S: Places>(
         &mut self,
@@ -139,9 +140,9 @@ impl KnownReach {
         Ok(())
     }
 
-    /// A table took a row that leaves the reach as it is, and the region is that of the table with the row. Where memory
-    /// is short for the ballots or values that the row speaks of, none are listed any more. A row of the node itself
-    /// or of a stranger changes nothing, a nomination no ballots, and a row of ballots no values.
+    /// Follows a row that a table took and that leaves the reach as it is; the region is already that with the row. If
+    /// it is out of memory for the row's ballots or values, none are listed any more. A row of the node itself or of a
+    /// stranger changes nothing, a nomination no ballots, and a row of ballots no values.
     pub fn hear<S: Places>(
         &mut self,
         alloc: Global,
@@ -166,7 +167,7 @@ impl KnownReach {
         }
     }
 
-    /// The ballots follow a row of ballots of another reached node.
+    /// Brings the ballots up to date with a ballot row of another reached node.
     fn follow_ballots<S: Places>(
         &mut self,
         alloc: Global,
@@ -191,7 +192,8 @@ impl KnownReach {
         }
     }
 
-    /// The values follow what a nomination of another reached node says: those that were are its too, or were another's.
+    /// Adds the values that a nomination of another reached node says. None has to go, since a newer nomination has all
+    /// values of the older one.
     fn follow_values(&mut self, said: &Statement)
         ensures region { self.new.region ≡ self.old.region }
         ensures ballots { self.new.ballots ≡ self.old.ballots }
@@ -206,7 +208,6 @@ impl KnownReach {
     }
 }
 
-/// Whether the envelope is of another reached node.
 fn is_of_another(region: &Region, own: &NodeId, envelope: &Envelope) -> bool
     requires { IsAscending region.now.nodes.items }
     ensures { result ≡ is_of_another own.now region.now.nodes.items envelope.now }

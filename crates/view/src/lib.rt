@@ -1,5 +1,5 @@
-//! What a node sees of its table at one moment: the rows of those whom it reaches, the statements in them,
-//! and the two tests of federated voting by them (the Stellar Consensus Protocol draft, of federated voting).
+//! What a node sees of its table at one moment: the rows of those whom it reaches, and the statements in them. By them
+//! it answers the two tests of federated voting (the Stellar Consensus Protocol draft, of federated voting).
 //!
 //! A [`View`] borrows the table and a [`KnownReach`], and is made once an event: the rules ask it often, and
 //! both stay as they are meanwhile.

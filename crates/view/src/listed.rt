@@ -17,7 +17,7 @@ use types::{Ballot, LentBallot, Statement};
 /// Ballots in descending order, none twice: a search for the greatest one below a bound is a binary search.
 /// Contracts see the list.
 ///
-/// For example, of ballots (2, y), (1, z) and (1, y) the greatest below (2, x) is (1, z).
+/// For example, with values x < y < z, of ballots (2, y), (1, z) and (1, y) the greatest below (2, x) is (1, z).
 #[derive(Drop)]
 pub struct ListedBallots {
     ballots: Vec<Ballot>,
@@ -36,7 +36,7 @@ impl Model for ListedBallots {
 }
 
 impl ListedBallots {
-    /// The greatest of them below the bound.
+    /// The greatest of them below the bound, or the first if there is no bound.
     pub(crate) fn next(&self, bound: &Option<LentBallot>) -> Option<LentBallot<'_>>
         ensures { result ≡ next_under bound.now self.now }
     {
@@ -55,7 +55,7 @@ impl ListedBallots {
         }
     }
 
-    /// Lists the ballots of which the statement speaks in this way. An error says that memory is short.
+    /// Lists the ballots that the statement speaks of in this way. An error says that it is out of memory.
     pub(crate) fn add_mentioned(
         &mut self,
         mention: Mention,
@@ -69,7 +69,6 @@ impl ListedBallots {
         self.add_if(&ballots.third)
     }
 
-    /// Lists a ballot, if there is one. An error says that memory is short.
     #[tactic(auto, using(crate::proofs::ListedLaws::as_before))]
     fn add_if(&mut self, ballot: &Option<LentBallot>) -> Result<(), AllocError>
         ensures { OnOk result (AreListed self.new (self.old ++ filter has_positive_counter (option_to_list ballot.now))) }
@@ -80,8 +79,7 @@ impl ListedBallots {
         }
     }
 
-    /// Lists a ballot whose counter is from 1 on, where it is not listed yet. An error says that memory is
-    /// short.
+    /// Lists a ballot with a counter from 1 on, if it is not listed yet. An error says that it is out of memory.
     fn add(&mut self, ballot: &LentBallot) -> Result<(), AllocError>
         ensures { OnOk result (AreListed self.new (self.old ++ filter has_positive_counter (ballot.now ∷ []))) }
     {
@@ -98,7 +96,7 @@ impl ListedBallots {
         }
     }
 
-    /// The ballot is listed no longer. It takes no memory.
+    /// Takes a ballot out of the list, if it is there. It takes no memory.
     pub(crate) fn remove(&mut self, ballot: &LentBallot)
         ensures { AreLeft [] (ballot.now ∷ []) self.old self.new }
     {
@@ -109,14 +107,14 @@ impl ListedBallots {
         }
     }
 
-    /// They descend.
+    /// A law: they descend.
     fn are_descending(&self)
         ensures { IsDescending self.now }
     {
         let _ballots = &self.ballots;
     }
 
-    /// The ballot at this place is listed no longer. It takes no memory.
+    /// Takes out the ballot at this place. It takes no memory.
     fn remove_at(&mut self, place: usize)
         requires { place < length self.old }
         ensures { self.new ≡ remove self.old place }
@@ -124,7 +122,6 @@ impl ListedBallots {
         let _gone = self.ballots.remove(place);
     }
 
-    /// The place of the first of them that is below the bound, or behind all of them.
     fn place_under(&self, bound: &Option<LentBallot>) -> usize
         ensures { IsPlaceUnder bound.now self.now result }
     {
@@ -134,7 +131,6 @@ impl ListedBallots {
         }
     }
 
-    /// The place of the first of them that is below a ballot, or behind all of them.
     fn place_below(&self, bound: &LentBallot) -> usize
         ensures { IsPlaceUnder (Some bound.now) self.now result }
     {
@@ -144,8 +140,8 @@ impl ListedBallots {
         }
     }
 
-    /// The place of the first of them that is below a ballot, or behind all of them: in `Ok` where the ballot is
-    /// listed, right before it, and in `Err` where it is not.
+    /// The place of the first of them that is below a ballot, or behind all of them. It is in `Ok` if the ballot is
+    /// listed, which then stands right before it, and else in `Err`.
     fn find(&self, ballot: &LentBallot) -> Result<usize, usize>
         ensures { IsBallotPlace ballot.now self.now result }
     {
@@ -159,8 +155,8 @@ impl ListedBallots {
     }
 }
 
-/// How two ballots are ordered: by counter, then value. That two values are the same is seen sooner than which
-/// of them is above the other.
+/// How two ballots are ordered: by counter, then value. That two values are equal is seen sooner than which of them is
+/// greater.
 fn order(ballot: &LentBallot, other: &Ballot) -> Ordering
     ensures { result ≡ ballot_cmp ballot.now other.now }
 {

@@ -10,7 +10,7 @@ use envstore::Places;
 use fedvote::{Mention, statement_ballots};
 use types::{LentBallot, NodeId, Statement};
 
-/// Whether a row of another than this node speaks of the ballot in this way, and its counter is from 1 on.
+/// Whether a row of another node than this one speaks of the ballot in this way, and its counter is from 1 on.
 #[tactic(auto, using(crate::proofs::Leaving::counted_one))]
 pub(crate) fn is_mentioned<S: Places>(
     mention: Mention,
@@ -23,7 +23,7 @@ pub(crate) fn is_mentioned<S: Places>(
     ballot.counter() > 0 && is_mentioned_by_one(mention, own, rows, ballot)
 }
 
-/// The same for any counter.
+/// Whether a row of another node speaks of the ballot in this way, whatever its counter.
 fn is_mentioned_by_one<S: Places>(
     mention: Mention,
     own: &NodeId,
@@ -43,7 +43,6 @@ fn is_mentioned_by_one<S: Places>(
     false
 }
 
-/// Whether the statement speaks of the ballot in this way.
 #[tactic(auto, using(crate::proofs::Leaving::one_of_append))]
 fn mentions(mention: Mention, statement: &Statement, ballot: &LentBallot) -> bool
     ensures { result ≡ is_one_of (mentioned_by mention statement.now) ballot.now }
@@ -52,7 +51,6 @@ fn mentions(mention: Mention, statement: &Statement, ballot: &LentBallot) -> boo
     is_it(&ballots.first, ballot) || is_it(&ballots.second, ballot) || is_it(&ballots.third, ballot)
 }
 
-/// Whether there is a ballot, and it is this one.
 fn is_it(one: &Option<LentBallot>, ballot: &LentBallot) -> bool
     ensures { result ≡ is_one_of (option_to_list one.now) ballot.now }
 {

@@ -2,7 +2,7 @@
 
 use types::{Nested, NodeId};
 
-/// The node itself: its name, and its slices of the moment.
+/// The node itself: its name, and the slices that it has at the moment.
 #[derive(Clone, Copy)]
 pub struct Own<'a> {
     pub name: &'a NodeId,

@@ -22,8 +22,8 @@ pub(crate) struct OwnAnswer {
     pub passes: bool,
 }
 
-/// The reached nodes, to be asked one by one whether they pass a question: the node itself passes where its position
-/// does, another where its row does.
+/// The reached nodes, each to be asked whether it passes a question. The node itself passes if its position does,
+/// another node if its row does.
 #[derive(Drop)]
 pub(crate) struct Supporters<'a, S: Places> {
     pub rows: &'a ReachedRows<'a, S>,
@@ -42,7 +42,7 @@ impl<'a, S: Places> Passing for Supporters<'a, S> {
 }
 
 impl<'a, S: Places> Supporters<'a, S> {
-    /// Whether those who pass meet compiled slices. Where there are none, nobody does.
+    /// Whether those who pass meet compiled slices. If there are none, nobody does.
     pub(crate) fn meet(&self, form: &Option<Form>) -> bool
         ensures { (ws : List ℕ) → ArePassing (passes_within self.now.rows.now self.now.own.place self.now.own.passes (asks self.now.question.now)) ws → result ≡ met_at form.now ws }
     {
@@ -53,8 +53,8 @@ impl<'a, S: Places> Supporters<'a, S> {
     }
 }
 
-/// Adds to the empty set the places of those reached nodes who pass a question: of the node itself where its
-/// position does, of another where its row does.
+/// Adds to the empty set the places of the reached nodes who pass a question. The node itself passes if its position
+/// does, another node if its row does.
 pub(crate) fn add_supporters<S: Places>(
     places: &mut [u64],
     rows: &ReachedRows<'_, S>,
@@ -73,7 +73,6 @@ pub(crate) fn add_supporters<S: Places>(
     }
 }
 
-/// Whether the node at a place passes.
 fn passes_at<S: Places>(
     rows: &ReachedRows<'_, S>,
     own: OwnAnswer,

@@ -12,17 +12,17 @@ use std::alloc::{AllocError, Global};
 use std::marker::Model;
 use types::{Envelope, Kind, NodeId, Statement};
 
-/// Of at most so many nodes the rows are read where they stand, whenever one is asked for: to gather them would cost more.
+/// Of at most this many nodes each row is read where it stands, since to gather them would cost more.
 const MOST_IN_PLACE: usize = 64;
 
 /// The rows of one kind that the reached nodes have in a table.
 ///
-/// Each is found by the place that is kept of it, where that is: so it costs the same however many rows of strangers the
+/// Each is found by its place in the table, if that is kept. So it costs the same however many rows of strangers the
 /// table holds. Rows that are gathered are read there once, and later found by their nodes' places among the nodes.
 /// Contracts see the nodes, the table and the kind.
 ///
-/// For example, where A and C have rows of the kind and B has none, the places of A, B and C are that of A's row,
-/// nothing, and that of C's; and where they are gathered, A's row, nothing and C's are.
+/// For example, let A and C have rows of the kind, and B none. The places of A, B and C are then that of A's row,
+/// nothing, and that of C's; gathered are A's row, nothing and C's.
 #[derive(Drop)]
 pub(crate) struct ReachedRows<'a, S: Places> {
     nodes: &'a [NodeId],
@@ -49,8 +49,8 @@ impl<'a, S: Places> Model for ReachedRows<'a, S> {
 }
 
 impl<'a, S: Places> ReachedRows<'a, S> {
-    /// The rows of a kind that the nodes have in the table, where these stand at the places. None is gathered, and
-    /// it takes no memory.
+    /// The rows of a kind of these nodes, whose places in the table are known. None is gathered, and it takes no
+    /// memory.
     pub(crate) fn in_place(
         alloc: Global,
         nodes: &'a [NodeId],
@@ -77,7 +77,7 @@ impl<'a, S: Places> ReachedRows<'a, S> {
         self.table
     }
 
-    /// The same where no places are kept: a row is looked up, when it is asked for.
+    /// The rows of a kind of these nodes, whose places are not known: each row is looked up when it is asked for.
     pub(crate) fn by_look_up(
         alloc: Global,
         nodes: &'a [NodeId],
@@ -95,8 +95,8 @@ impl<'a, S: Places> ReachedRows<'a, S> {
         }
     }
 
-    /// The same for rows that are asked for often: they are gathered, where the nodes are many. An error says that
-    /// memory is short.
+    /// The rows of a kind of these nodes, if they are asked for often: of many nodes they are gathered. An error says
+    /// that it is out of memory.
     pub(crate) fn gather(
         alloc: Global,
         nodes: &'a [NodeId],
@@ -138,7 +138,7 @@ impl<'a, S: Places> ReachedRows<'a, S> {
         }
     }
 
-    /// The same where it is not gathered: at the place that is kept of it, or else it is looked up.
+    /// The row of a node that is not gathered: by its place in the table, if that is kept, or else by a look-up.
     fn row_there(&self, place: usize) -> Option<&'a Envelope>
         requires { place < length self.now.nodes }
         ensures { option_map (λ r. r.now) result ≡ row self.now.table (get_or self.now.nodes place 0) self.now.kind }
@@ -149,7 +149,7 @@ impl<'a, S: Places> ReachedRows<'a, S> {
         }
     }
 
-    /// What the row of the node at this place says, where it is another's than this node.
+    /// What the row of the node at this place says, if it is not this node's own.
     pub(crate) fn said_by_another(&self, own: &NodeId, place: usize) -> Option<&'a Statement>
         requires { place < length self.now.nodes }
         ensures { option_map (λ s. s.now) result ≡ said_by_another own.now (row self.now.table (get_or self.now.nodes place 0) self.now.kind) }

@@ -16,10 +16,10 @@ use fedvote::{Mention, statement_ballots};
 use std::alloc::{AllocError, Global};
 use types::{LentBallot, NodeId, Statement};
 
-/// The ballots that the ballot rows of other reached nodes name, and those at whose counters these rows speak of commit,
-/// both with counters from 1 on, in descending order.
+/// The ballots that the ballot rows of other reached nodes name, and those at whose counters these rows speak of
+/// commit. Both have counters from 1 on, in descending order.
 ///
-/// A row that comes adds what it speaks of, and takes away what the row before it spoke of and no row speaks of any more.
+/// A new row adds what it speaks of. It takes away what only the row that it replaces spoke of.
 #[derive(Drop)]
 pub struct ReachedBallots {
     pub(crate) named: ListedBallots,
@@ -37,7 +37,7 @@ impl ReachedBallots {
         }
     }
 
-    /// Those of these rows. An error says that memory is short.
+    /// The ballots that these rows speak of. An error says that it is out of memory.
     pub(crate) fn of_rows<S: Places>(
         alloc: Global,
         own: &NodeId,
@@ -63,8 +63,8 @@ impl ReachedBallots {
         Ok(ReachedBallots { named, committed })
     }
 
-    /// One of these rows has come in the place of another one, or as a first one. An error says that memory is short, and
-    /// nothing is known of what is listed then.
+    /// Follows the change of one of these rows from `before`, if it had one, to `now`. An error says that it is out of
+    /// memory, and then nothing is known of what is listed.
     pub(crate) fn replace<S: Places>(
         &mut self,
         own: &NodeId,
@@ -85,8 +85,8 @@ impl ReachedBallots {
     }
 }
 
-/// The ballots of which a row spoke in this way that stands no longer are listed no longer, but for those of which some
-/// row speaks in this way. It takes no memory.
+/// Takes out the ballots that a replaced row spoke of in this way, but for those that some row still speaks of. It
+/// takes no memory.
 fn leave_mentioned<S: Places>(
     listed: &mut ListedBallots,
     mention: Mention,
@@ -102,7 +102,7 @@ fn leave_mentioned<S: Places>(
     unless_mentioned(listed, mention, own, rows, &ballots.third);
 }
 
-/// A ballot, if there is one, is listed no longer, unless some row speaks of it in this way.
+/// Takes out a ballot, if there is one, unless some row speaks of it in this way.
 fn unless_mentioned<S: Places>(
     listed: &mut ListedBallots,
     mention: Mention,
@@ -121,7 +121,7 @@ fn unless_mentioned<S: Places>(
     listed.remove(ballot);
 }
 
-/// Whether the last statement, if there was one, says the same as this one.
+/// Whether a statement says the same as the last one, so that it adds no ballots.
 fn says(last: Option<&Statement>, statement: &Statement) -> bool
     ensures { IsTrue result → option_map (λ s. s.now) last.entry ≡ Some statement.now }
 {

@@ -24,13 +24,13 @@ use reach::{drops_none, keeps_reach, reach};
 use std::alloc::{AllocError, Global};
 use types::{Envelope, Kind, Nested, NodeId};
 
-/// The nodes that a node reaches, where it stands among them, what blocks it, and of each kind whose slices are
-/// met by whom and where in the table the rows of the nodes stand. Its owner keeps it from event to event.
+/// The nodes that a node reaches, its place among them, and what blocks it. Of each kind it has whose slices are met by
+/// whom, and where in the table the rows of the nodes stand. Its owner keeps it from event to event.
 ///
-/// Slices that are the same are mostly compiled once: their forms in one list have one number, below `numbers`, and
-/// a new row's slices are held against the node's own and those of the row that was set last.
+/// Slices that are the same are mostly compiled once: their forms in one list have one number, below `numbers`. A new
+/// row's slices are compared only with the node's own and with those of the row that was set last.
 ///
-/// A newer row stands in the place of the one before, so the places change with a first row alone.
+/// A newer row stands in the place of the one before, so the places change only with a first row.
 #[derive(Drop)]
 pub struct Region {
     pub nodes: Vec<NodeId>,
@@ -44,8 +44,8 @@ pub struct Region {
     pub latest: usize,
 }
 
-/// The slices in a reached node's row of a kind, compiled, and where that row is to stand in the table: all that
-/// a row changes in a region whose reach stays. The numbers of all forms are below `numbers` then.
+/// All that a row changes in a region whose reach stays: the compiled slices of a reached node's row of a kind, and
+/// where the row is to stand in the table. The numbers of all forms are below `numbers` afterwards.
 #[derive(Drop)]
 pub struct RegionEntry {
     kind: Kind,
@@ -58,14 +58,14 @@ pub struct RegionEntry {
 /// What a row of another reached node changes in a region.
 #[derive(Drop)]
 pub enum Change {
-    /// This entry; whom the node reaches stays.
+    /// Only this entry; whom the node reaches stays.
     Sets(RegionEntry),
     /// Whom the node reaches.
     Reach(Extent),
 }
 
 impl Region {
-    /// The region of a node by a table. An error says that memory is short.
+    /// The region of a node by a table. An error says that it is out of memory.
     pub fn of<'a, S: Places>(
         alloc: Global,
         own: &'a NodeId,
@@ -81,8 +81,8 @@ impl Region {
         Region::over(alloc, itself, table, placed, None)
     }
 
-    /// The same where the nodes that are reached are known, and where their rows stand. Forms are taken from a region of
-    /// other nodes, where there is one. An error says that memory is short.
+    /// The region of a node whose reached nodes are known, and where their rows stand. Forms are taken from a region of
+    /// other nodes, if there is one. An error says that it is out of memory.
     pub(crate) fn over<'a, S: Places>(
         alloc: Global,
         own: Own<'a>,
@@ -112,7 +112,7 @@ impl Region {
         })
     }
 
-    /// A copy. An error says that memory is short.
+    /// A copy. An error says that it is out of memory.
     pub fn try_copy(&self, alloc: Global) -> Result<Region, AllocError>
         ensures { IfOk result (λ r. IsCopy self.now r) }
     {
@@ -129,9 +129,8 @@ impl Region {
         })
     }
 
-    /// Whether the region surely stays as it is where the table takes the envelope: its sender is not
-    /// reached, or has a row of that kind with the same slices, in whose place the envelope then stands. It
-    /// takes no memory.
+    /// Whether the region surely stays as it is if the table takes the envelope. Its sender is not reached, or has a
+    /// row of that kind with the same slices, in whose place the envelope then stands. It takes no memory.
     pub fn stays<S: Places>(&self, table: &Rows<'_, S>, envelope: &Envelope) -> bool
         requires { IsAscending self.now.nodes.items }
         ensures { IsTrue result → (own : ℕ) (configured : Slices) → IsRegion own configured table.now self.now → IsRegion own configured (with_row envelope.now table.now) self.now }
@@ -139,14 +138,15 @@ impl Region {
         keeps_reach(&self.nodes, table, envelope)
     }
 
-    /// What the envelope changes in the region where the table takes it: an entry for a reached node's first row of its
-    /// kind, or for one with other slices than the row that it replaces, where it names reached nodes alone, and drops
-    /// none but this node or a name of its own slices, which is reached anyhow; a wider reach, where it drops none but
-    /// such a one and names others; and else another reach. An error says that memory is short.
+    /// What the envelope changes in the region if the table takes it. An error says that it is out of memory.
     ///
-    /// It costs some searches by name and, where its slices are neither the node's own nor those of the row that was
-    /// set last, a search for each name and the compiling of one set of slices, however many rows there are. After the
-    /// last number of a form there is no such entry, and the reach is another.
+    /// It is an entry if another reached node's slices name only reached nodes, and drop no name of its row of that
+    /// kind. They may drop this node and names of its own slices, which are reached anyhow. If they drop nothing else
+    /// but name others, the reach is wider; in all other cases it is another reach.
+    ///
+    /// It costs some searches by name, however many rows there are. If the slices are neither the node's own nor those
+    /// of the row that was set last, they are compiled, with a search for each name. After the last number of a form
+    /// there is no such entry, and the reach is another.
     pub fn change_by<S: Places>(
         &self,
         alloc: Global,
@@ -183,10 +183,9 @@ impl Region {
         }))
     }
 
-    /// The compiled form of the envelope's slices, for the list of its kind, where they name reached nodes alone: that
-    /// of the node itself or of the row that was set last, where their slices are the same, or else a new one. Whom
-    /// slices name that a reached node has is reached, so no name of these is searched for. An error says that memory
-    /// is short.
+    /// The compiled form of the envelope's slices, for the list of its kind, if they name only reached nodes. It is
+    /// that of the node itself or of the row that was set last if their slices are the same, or else a new one. An
+    /// error says that it is out of memory.
     fn form_for<S: Places>(
         &self,
         alloc: Global,
@@ -212,7 +211,6 @@ impl Region {
         reached.form_within(alloc, envelope.slices(), there, self.numbers)
     }
 
-    /// The compiled forms of a kind.
     pub(crate) fn forms(&self, kind: Kind) -> &[Option<Form>]
         ensures { result.now ≡ forms_of kind self.now }
     {
@@ -222,7 +220,7 @@ impl Region {
         }
     }
 
-    /// The rows of a kind that the nodes have in the table. None is gathered, and it takes no memory.
+    /// The rows of a kind of the reached nodes. None is gathered, and it takes no memory.
     pub(crate) fn rows<'a, S: Places>(
         &'a self,
         alloc: Global,
@@ -239,8 +237,8 @@ impl Region {
         ReachedRows::in_place(alloc, &self.nodes, places, table, kind)
     }
 
-    /// Sets what [`Region::change_by`] found. The region is then that of the table with the row, of the same nodes. It
-    /// takes no memory.
+    /// Sets what [`Region::change_by`] found. The region is then that of the table with the row; its nodes stay the
+    /// same. It takes no memory.
     pub fn set_entry(&mut self, entry: RegionEntry)
         ensures nodes { self.new.nodes.items ≡ self.old.nodes.items }
         ensures region { (own : ℕ) (configured : Slices) (table : List Sent) (e : Sent) → IsEntry own configured table e self.old entry → IsRegion own configured table self.old → IsRegion own configured (with_row e table) self.new }
@@ -260,8 +258,8 @@ impl Region {
     }
 }
 
-/// Where the envelope stands where the table takes it: in the place of its sender's row of that kind, or behind
-/// all others.
+/// Where the envelope stands once the table takes it: in the place of its sender's row of that kind, or behind all
+/// others.
 #[tactic(auto, using(crate::proofs::PlaceLaws::stands_behind, crate::proofs::PlaceLaws::stands_there))]
 fn row_place<S: Places>(table: &Rows<'_, S>, envelope: &Envelope) -> RowPlace
     ensures { place_of_row (with_row envelope.now table.now) envelope.now.sender (kind_of envelope.now.body) ≡ result }
@@ -273,7 +271,6 @@ fn row_place<S: Places>(table: &Rows<'_, S>, envelope: &Envelope) -> RowPlace
     }
 }
 
-/// Sets the slices at a place, where there is one.
 fn set_at(entries: &mut [Option<Form>], place: usize, slices: Form)
     ensures { place < length entries.old → entries.new ≡ set entries.old place (Some slices) }
 {
@@ -282,7 +279,6 @@ fn set_at(entries: &mut [Option<Form>], place: usize, slices: Form)
     }
 }
 
-/// Sets where the row of the node at a place stands, where there is such a place.
 fn set_row(rows: &mut [RowPlace], place: usize, row: RowPlace)
     ensures { place < length rows.old → rows.new ≡ set rows.old place row }
 {
@@ -291,7 +287,8 @@ fn set_row(rows: &mut [RowPlace], place: usize, row: RowPlace)
     }
 }
 
-/// A copy of compiled slices, each in its place. An error says that memory is short.
+/// A copy of compiled slices, each in its place. An error says that it is out of memory, or that a form has too many
+/// owners.
 fn copy_of_all(alloc: Global, forms: &[Option<Form>]) -> Result<Vec<Option<Form>>, AllocError>
     ensures { IfOk result (λ v. v.items ≡ forms.now) }
 {
@@ -332,7 +329,7 @@ struct KindForms {
     nominations: Vec<Option<Form>>,
 }
 
-/// The slices that the nodes have by their rows, compiled, kind by kind. An error says that memory is short.
+/// The slices that the nodes have by their rows, compiled, kind by kind. An error says that it is out of memory.
 fn kind_forms<'a, S: Places>(
     alloc: Global,
     own: Own<'a>,
@@ -356,8 +353,8 @@ fn kind_forms<'a, S: Places>(
     })
 }
 
-/// The slices that the nodes have by rows of one kind, compiled, in the order of the nodes; the node's own are
-/// configured. An error says that memory is short.
+/// The compiled slices by rows of one kind, in the order of the nodes; the node's own are the configured ones. An error
+/// says that it is out of memory.
 fn forms_by<'a, S: Places>(
     alloc: Global,
     own: Own<'a>,
@@ -385,7 +382,7 @@ pub(crate) struct Placed {
 }
 
 impl Placed {
-    /// The rows of a kind that the nodes have in the table. None is gathered, and it takes no memory.
+    /// The rows of a kind of these nodes. None is gathered, and it takes no memory.
     fn rows_of<'a, S: Places>(
         &'a self,
         alloc: Global,
@@ -399,7 +396,7 @@ impl Placed {
     }
 }
 
-/// A region of other nodes, where its nodes stand among all, and the one node whose rows may be others since.
+/// A region of other nodes, and where its nodes stand among all. Only the sender's rows may have changed since.
 #[derive(Clone, Copy)]
 pub(crate) struct FormerRegion<'a> {
     pub region: &'a Region,
@@ -430,7 +427,7 @@ pub(crate) struct KindPlaces {
 }
 
 impl KindPlaces {
-    /// Those of no node yet, with room for so many nodes. An error says that memory is short.
+    /// The places of no node yet, with room for `count` nodes. An error says that it is out of memory.
     pub(crate) fn with_capacity(alloc: Global, count: usize) -> Result<KindPlaces, AllocError>
         ensures ballots { IfOk result (λ p. p.ballots.items ≡ []) }
         ensures nominations { IfOk result (λ p. p.nominations.items ≡ []) }
@@ -443,7 +440,7 @@ impl KindPlaces {
         })
     }
 
-    /// Adds those of the next node. An error says that memory is short.
+    /// Adds the places of the next node. An error says that it is out of memory.
     pub(crate) fn push(&mut self, places: RowPlaces) -> Result<(), AllocError>
         ensures ballots { OnOk result (self.new.ballots.items ≡ self.old.ballots.items ++ places.ballot ∷ []) }
         ensures nominations { OnOk result (self.new.nominations.items ≡ self.old.nominations.items ++ places.nomination ∷ []) }
@@ -453,7 +450,6 @@ impl KindPlaces {
         Ok(())
     }
 
-    /// Those of one kind.
     fn of(&self, kind: Kind) -> &[RowPlace]
         ensures { result.now ≡ places_of_kind kind self.now }
     {
@@ -464,7 +460,7 @@ impl KindPlaces {
     }
 }
 
-/// Where the rows that the nodes have stand in the table: each node is looked up once. An error says that memory is short.
+/// Where the rows of the nodes stand in the table; each node is looked up once. An error says that it is out of memory.
 fn row_places<S: Places>(
     alloc: Global,
     table: &Rows<'_, S>,

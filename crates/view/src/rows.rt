@@ -10,7 +10,7 @@ use latest::{RowPlace, Rows};
 use std::alloc::{AllocError, Global};
 use types::{Envelope, Kind, NodeId, Statement, Value, Values};
 
-/// The rows at these places in a table, in their order: nothing without a place. An error says that memory is short.
+/// The rows at these places in a table, in their order; none for no place. An error says that it is out of memory.
 pub(crate) fn rows_where<'a, S: Places>(
     alloc: Global,
     places: &[RowPlace],
@@ -25,7 +25,7 @@ pub(crate) fn rows_where<'a, S: Places>(
     Ok(rows)
 }
 
-/// The row at a place in a table: nothing without a place.
+/// The row at a place in a table; none for no place.
 pub(crate) fn row_where<'a, S: Places>(
     table: &'a Rows<'a, S>,
     place: RowPlace,
@@ -38,7 +38,7 @@ pub(crate) fn row_where<'a, S: Places>(
     }
 }
 
-/// The values in the rows of others than this node, ascending. An error says that memory is short.
+/// The values in the rows of other nodes than this one, ascending. An error says that it is out of memory.
 pub(crate) fn values_of_others<S: Places>(
     alloc: Global,
     own: &NodeId,
@@ -55,7 +55,7 @@ pub(crate) fn values_of_others<S: Places>(
     Ok(values)
 }
 
-/// The values in the rows of a kind that the nodes have, ascending. An error says that memory is short.
+/// The values in the rows of a kind of these nodes, ascending. An error says that it is out of memory.
 pub(crate) fn values_of<S: Places>(
     alloc: Global,
     nodes: &[NodeId],
@@ -83,7 +83,6 @@ pub(crate) fn said_in<'a>(row: Option<&'a Envelope>) -> Option<&'a Statement>
     }
 }
 
-/// Adds the values of what is said, if something is.
 #[tactic(auto, using(crate::proofs::Gathering::one_said))]
 fn insert_said(values: &mut Values, said: Option<&Statement>) -> Result<(), AllocError>
     ensures { OnOk result (values.new ≡ all_with (flat_map values_by (option_to_list (option_map (λ s. s.now) said.entry))) values.old) }
@@ -94,7 +93,8 @@ fn insert_said(values: &mut Values, said: Option<&Statement>) -> Result<(), Allo
     }
 }
 
-/// Adds the values that a statement votes for or accepts as nominated, each where it is not there yet.
+/// Adds the values that a statement votes for or accepts as nominated, if they are not there yet. An error says that it
+/// is out of memory.
 #[tactic(auto, using(crate::proofs::Gathering::all_with_append))]
 pub(crate) fn insert_values(values: &mut Values, statement: &Statement) -> Result<(), AllocError>
     ensures { OnOk result (values.new ≡ all_with (values_by statement.now) values.old) }
@@ -110,7 +110,6 @@ pub(crate) fn insert_values(values: &mut Values, statement: &Statement) -> Resul
     }
 }
 
-/// Adds these values, each where it is not there yet.
 #[tactic(auto, using(crate::proofs::Gathering::all_with_append))]
 fn insert_all(values: &mut Values, more: &[Value]) -> Result<(), AllocError>
     ensures { OnOk result (values.new ≡ all_with more.now values.old) }

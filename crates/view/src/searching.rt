@@ -9,7 +9,7 @@ use envstore::Places;
 use fedvote::{counter_by, lesser};
 use types::{NodeId, Statement};
 
-/// The least counter above this one that a statement has.
+/// The least counter above this one in the statements of other nodes than this one.
 pub(crate) fn next_counter<S: Places>(
     own: &NodeId,
     rows: &ReachedRows<'_, S>,
@@ -24,7 +24,7 @@ pub(crate) fn next_counter<S: Places>(
     least
 }
 
-/// The lesser of the counter so far and of that of what is said, if something is, where it is above this one.
+/// The lesser of `least` and the statement's counter, if that is above this one.
 #[tactic(auto, unfolding(fedvote::specs::Searching::least_above))]
 fn lesser_counter(least: Option<u32>, above: u32, said: Option<&Statement>) -> Option<u32>
     ensures { result ≡ lesser_of least (next_counter above (option_to_list (option_map (λ s. s.now) said.entry))) }

@@ -31,24 +31,26 @@ use latest::Rows;
 use std::alloc::{AllocError, Global};
 use types::{Kind, Leaders, LentBallot, Nested, NodeId, Values};
 
-/// A set of the reached nodes stands in so many words on the stack, where they have room for all of them.
+/// A set of reached nodes stands on the stack if this many words have room for all of them.
 const FEW_WORDS: usize = 8;
 
-/// Among so many nodes a quorum is searched for at once: to ask first whether there may be one would cost more.
+/// Among at most this many nodes a quorum is searched for at once. To ask first whether there may be one would cost
+/// more.
 const FEW_NODES: usize = 8;
 
-/// What a node with these slices and leaders sees of a table: the rows of the other nodes that it reaches,
-/// and the nomination rows of its leaders, reached or not (the Stellar Consensus Protocol draft, of federated
-/// voting; that strangers' rows are left out is this host's profile).
+/// What a node with these slices and leaders sees of a table: the rows of the other nodes that it reaches, and the
+/// nomination rows of its leaders, reached or not (the Stellar Consensus Protocol draft, of federated voting). That
+/// rows of strangers are left out is this host's profile.
 ///
-/// Rows of strangers are not looked at: each reached node's rows stand at the places that the region keeps of
-/// them, and both tests find them by the node's place in the reach. Where many are reached, their ballots are read
-/// once, when the view is made; their nominations, for which rules of nomination alone ask, are read where they
-/// stand, and rows of leaders are looked up. A test asks the names of the node's slices one by one, until its answer is
-/// known. The ballots that a search goes through are listed in order, where their owner has listed them, since the
-/// rules ask for the next one below a bound again and again, and else it goes through the rows; nominated values are
-/// copied from their list, where there is one, or gathered when a rule asks for them. What is known of the reach is its
-/// owner's, who keeps it from event to event.
+/// Rows of strangers are not looked at: the region keeps the places of each reached node's rows, and both tests find a
+/// row by the node's place in the reach. If many are reached, [`View::of`] reads their ballots once. Nominations are
+/// read where they stand, since only rules of nomination ask for them, and rows of leaders are looked up. A test asks
+/// the names of the node's slices one by one, until its answer is known.
+///
+/// The rules ask for the next ballot below a bound again and again. So a search goes through the ballots in order, if
+/// their owner has listed them, and else through the rows. Nominated values are copied from their list, if there is
+/// one, or gathered when a rule asks for them. What is known of the reach is its owner's, who keeps it from event to
+/// event.
 #[derive(Drop)]
 pub struct View<'a, S: Places> {
     own: &'a NodeId,
@@ -69,8 +71,8 @@ pub struct View<'a, S: Places> {
 }
 
 impl<'a, S: Places> View<'a, S> {
-    /// What the node sees of the table now, by what is known of its reach. Where many are reached, their ballot rows are
-    /// gathered. An error says that memory is short.
+    /// What the node sees of the table now, by what is known of its reach. If many are reached, their ballot rows are
+    /// gathered. An error says that it is out of memory.
     pub fn of(
         alloc: Global,
         own: Own<'a>,
@@ -87,7 +89,8 @@ impl<'a, S: Places> View<'a, S> {
         Ok(View::by_ballot_rows(alloc, own, leaders, known, ballots))
     }
 
-    /// The same, where the rules of balloting are hardly asked: ballot rows are read where they stand. It takes no memory.
+    /// What the node sees of the table now, if the rules of balloting hardly ask: ballot rows are read where they
+    /// stand. It takes no memory.
     pub fn in_place(
         alloc: Global,
         own: Own<'a>,
@@ -102,7 +105,6 @@ impl<'a, S: Places> View<'a, S> {
         View::by_ballot_rows(alloc, own, leaders, known, ballots)
     }
 
-    /// The same by the ballot rows of the reached nodes, which are at hand.
     fn by_ballot_rows(
         alloc: Global,
         own: Own<'a>,
@@ -151,7 +153,7 @@ impl<'a, S: Places> View<'a, S> {
         }
     }
 
-    /// Whether some quorum that contains the node all passes. The words are the empty set of the reached nodes.
+    /// Whether some quorum that contains the node passes. `places` is the empty set of the reached nodes.
     fn has_quorum(&self, places: &mut [u64], own_passes: bool, question: &Question<'_>) -> bool
         requires { IsEmptySet (length self.now.region.now.nodes.items) places.old }
         ensures { result ≡ (seen self.now.own.now self.now.slices.now self.now.leaders.now self.now.table.now).quorum (kind_asked question.now) own_passes (asks question.now) }
@@ -161,8 +163,8 @@ impl<'a, S: Places> View<'a, S> {
         in_quorum(places, self.region.place, self.forms_for(question))
     }
 
-    /// Whether there may be a quorum that contains the node and all passes. There is none where those who pass do not
-    /// satisfy the node's slices: that is so most often, and known after a few of them. Among few nodes it is not asked.
+    /// Whether there may be a quorum that contains the node and passes. There is none if those who pass do not satisfy
+    /// the node's slices. Mostly that is so, and it is known after a few of them. Among few nodes it is not asked.
     fn may_have_quorum(&self, own_passes: bool, question: &Question<'_>) -> bool
         ensures { IsFalse result → (seen self.now.own.now self.now.slices.now self.now.leaders.now self.now.table.now).quorum (kind_asked question.now) own_passes (asks question.now) ≡ false }
     {
@@ -194,7 +196,6 @@ impl<'a, S: Places> View<'a, S> {
         is_met_by(&self.region.blocking, &supporters)
     }
 
-    /// The node's own answer, where its position answers so.
     fn own_answer(&self, passes: bool) -> OwnAnswer
         ensures { result ≡ record { place = self.now.region.now.place; passes = passes } }
     {

@@ -1,5 +1,4 @@
-//! Searches among the ballots of a view's rows, which go through a list where there is one, and the values that its
-//! nominations speak of, likewise.
+//! Searches among the ballots and nominated values of a view's rows, which go through a list if there is one.
 
 ghost use Rattle.std.specs.Prelude.{◌≡◌, IfOk, IfSome, flat_map, option_map, option_to_list};
 ghost use Rattle.fedvote.specs.Mentions.{mentioned_by, mentioned_in};
@@ -15,8 +14,8 @@ use fedvote::{Mention, better_mentioned};
 use std::alloc::{AllocError, Global};
 use types::{LentBallot, NodeId, Statement, Values};
 
-/// The values that the nomination rows of others than this node vote for or accept, ascending: a copy of their list, or
-/// else gathered from each row. An error says that memory is short.
+/// The values that the nomination rows of other nodes than this one vote for or accept, ascending: a copy of their
+/// list, or else gathered from each row. An error says that it is out of memory.
 pub(crate) fn nominated_values<S: Places>(
     alloc: Global,
     listed: &Option<Values>,
@@ -32,8 +31,8 @@ pub(crate) fn nominated_values<S: Places>(
     }
 }
 
-/// The greatest ballot below the bound of which the rows of others than this node speak in this way: by their list, or
-/// else by each row.
+/// The greatest ballot below the bound that the rows of other nodes than this one speak of in this way: by their list,
+/// or else by each row.
 pub(crate) fn next_mentioned<'a, S: Places>(
     listed: &'a Option<ReachedBallots>,
     mention: Mention,
@@ -50,7 +49,7 @@ pub(crate) fn next_mentioned<'a, S: Places>(
     }
 }
 
-/// The same by each row.
+/// The greatest such ballot, found by going through each row.
 fn mentioned_in_rows<'a, S: Places>(
     mention: Mention,
     own: &NodeId,
@@ -66,7 +65,7 @@ fn mentioned_in_rows<'a, S: Places>(
     best
 }
 
-/// The greatest of the best ballot so far and of those of which what is said speaks in this way, if something is said.
+/// The greater of the best ballot so far and of the greatest below the bound that a statement speaks of in this way.
 #[tactic(auto, using(crate::proofs::Searches::one_named, crate::proofs::Searches::nothing_said))]
 fn mentioned_with<'a>(
     mention: Mention,

@@ -13,7 +13,7 @@ pub fn name(number: u64) -> NodeId {
     NodeId::from_words(0, 0, 0, number)
 }
 
-/// So many of the nodes of these numbers.
+/// A set that asks for `threshold` of the nodes of these numbers.
 pub fn set_of(alloc: Global, threshold: u8, numbers: &[u64]) -> Result<SliceSet, Fail> {
     let mut members = Vec::new(alloc);
     for number in numbers {
@@ -22,7 +22,7 @@ pub fn set_of(alloc: Global, threshold: u8, numbers: &[u64]) -> Result<SliceSet,
     Ok(SliceSet::new(threshold, members))
 }
 
-/// The same as slices.
+/// Slices that ask for `threshold` of the nodes of these numbers.
 pub fn slices_of(alloc: Global, threshold: u8, numbers: &[u64]) -> Result<Nested, Fail> {
     let set = set_of(alloc, threshold, numbers)?;
     Ok(Nested::new(alloc, set)?.ok_or("slices")?)
@@ -59,8 +59,8 @@ pub fn envelope_from(sender: u64, slices: Nested, body: Statement) -> Result<Env
     Ok(Envelope::new(name(sender), 1, slices, body).ok_or("statement")?)
 }
 
-/// The vote of the node of this number to prepare the ballot with this counter, with slices of which those of these
-/// numbers are needed.
+/// The vote of the node of this number to prepare the ballot with this counter, with slices that need all nodes of
+/// `needed`.
 pub fn vote_of(alloc: Global, sender: u64, counter: u32, needed: &[u64]) -> Result<Envelope, Fail> {
     let threshold = u8::try_from(needed.len()).ok().ok_or("slices")?;
     let slices = slices_of(alloc, threshold, needed)?;

@@ -1,5 +1,5 @@
-//! That with memory a table takes a row and is copied: no clause says so. All else of an offer and a copy follows from
-//! their clauses.
+//! That a table takes a row and is copied if there is memory: no clause says so. All else of an offer and a copy
+//! follows from their clauses.
 
 ghost use Rattle.envstore.specs.Archives.{AreFiled};
 

@@ -1,6 +1,6 @@
-//! What no clause says of a listener: that with memory the ballots and the values that were listed are kept when rows
-//! come, where to list them anew would be right too; and that what is known of the reach follows rows that change it, where
-//! to forget it would be, if it was asked for since the last such row.
+//! What no clause says of a listener. If there is memory, the ballots and the values that were listed are kept when
+//! rows come; it would be right too to list them anew. What is known of the reach follows rows that change it, if the
+//! reach was asked for since the last such row; it would be right too to forget it.
 
 ghost use Rattle.std.specs.Prelude.{◌≡◌, [], IfOk};
 ghost use Rattle.envstore.specs.Archives.{AreFiled};
@@ -40,7 +40,7 @@ fn hear(
     Ok(())
 }
 
-/// A vote of this node for the ballot with this counter reaches it, with slices of which these nodes are needed.
+/// A vote reaches it: its sender, the counter of the ballot, and the nodes that the sender's slices need.
 fn hear_vote(
     alloc: Global,
     archive: &mut Archive<BoxShelf>,
@@ -132,7 +132,8 @@ fn strangers(listener: &Listener) -> [bool; 2] {
     ]
 }
 
-/// The same where node 2 names node 3, then node 4 in its place, and then node 5, before anybody asked.
+/// Whether nodes 3 and 4 are known to be strangers after node 2 named node 3, then node 4 in its place, and then node 5
+/// before anybody asked.
 fn strangers_throughout(
     alloc: Global,
     archive: &mut Archive<BoxShelf>,

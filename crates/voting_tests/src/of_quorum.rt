@@ -1,5 +1,5 @@
-//! That with memory quorums of real slices are found, that blocking sets of them are told, and what is accepted and
-//! confirmed by them. No clause says that there is an answer; which one it is, the definitions say.
+//! That quorums of real slices are found if there is memory, that blocking sets of them are told, and what is accepted
+//! and confirmed by them. No clause says that there is an answer; which one it is, the definitions say.
 
 ghost use Rattle.std.specs.Prelude.{Some, ◌==◌, ◌||◌};
 
@@ -58,7 +58,7 @@ fn finds_quorums_where_there_is_memory(rt: HostRuntime) -> Result<(), Fail> {
     Ok(())
 }
 
-/// One node votes for a claim, and two accept it, who may be one.
+/// One node votes for a claim, and two, who may be the same, accept it.
 #[derive(Drop)]
 struct Said {
     voter: NodeId,
@@ -119,7 +119,7 @@ fn nested_slices(alloc: Global) -> Result<Nested, Fail> {
     Ok(Nested::new(alloc, SliceSet::new(2, members))?.ok_or("slices")?)
 }
 
-// Each node needs node 1 and one of the nodes 2 and 3, so node 1 alone blocks, and node 3 alone does not.
+// Each node needs node 1 and one of the nodes 2 and 3, so node 1 blocks by itself, and node 3 does not.
 #[test]
 fn accepts_and_confirms_where_there_is_memory(rt: HostRuntime) -> Result<(), Fail> {
     let alloc = rt.alloc();

@@ -1,6 +1,7 @@
-//! What no script of networks can tell of a node, with answers worked out by hand from the rules: a host hands no node a
-//! row in its own name, and takes one proposal a slot. And that with memory a node decides, is copied, and takes a step
-//! beside itself: no clause says so, nor of what it calls for that, from slices that are compiled to rounds of nomination.
+//! What no script of networks can tell of a node, with answers worked out by hand from the rules: a host hands no node
+//! a row in its own name, and takes one proposal a slot. And that a node decides, is copied, and takes a step beside
+//! itself if there is memory: no clause says so, nor of what it calls for that, from slices that are compiled to rounds
+//! of nomination.
 
 ghost use Rattle.std.specs.Prelude.{[], ◌≡◌, IfOk};
 ghost use Rattle.envstore.specs.Archives.{AreFiled};
@@ -22,7 +23,7 @@ fn node(alloc: Global, slices: &[u8]) -> Result<Node, Fail>
     Ok(Node::new(alloc, name, 1, slices))
 }
 
-/// What a node of these words says that needs B alone.
+/// What the node of this name says, which needs only B.
 fn said(alloc: Global, sender: &[u8], statement: &[u8]) -> Result<Envelope, Fail> {
     let name = name_of(sender).ok_or("name")?;
     let slices = slices_of(alloc, b"1[B]")?.ok_or("slices")?;
@@ -45,8 +46,8 @@ fn outs_at(
     Ok(given_out.outs.len())
 }
 
-/// How much it gives out where B and C, who block it, accept that all ballots below 6 are aborted, where a row of its
-/// own names <5,q>, and where D does.
+/// How much it gives out when B and C, who block it, accept that all ballots below 6 are aborted, when a row of its own
+/// names <5,q>, and when D does.
 fn outs_at_each(
     alloc: Global,
     archive: &mut Archive<BoxShelf>,
@@ -65,8 +66,8 @@ fn outs_at_each(
     Ok([first, second, own, named])
 }
 
-// A accepts <5,q> once a reached node names it. What A itself names is no candidate: its own position stands for it, and
-// names none.
+// A accepts <5,q> once a reached node names it. What A itself names is no candidate: its own position stands for it,
+// and names none.
 #[test]
 fn a_row_of_its_own_names_no_candidates(rt: HostRuntime) -> Result<(), Fail> {
     let alloc = rt.alloc();
@@ -79,7 +80,7 @@ fn a_row_of_its_own_names_no_candidates(rt: HostRuntime) -> Result<(), Fail> {
     Ok(())
 }
 
-/// The round whose timer is to be armed, where that is all that is given out.
+/// The round whose timer is to be armed, if that is all that is given out.
 fn round_in(outs: &[FiledOut]) -> Option<u32> {
     match outs {
         [FiledOut::ArmNomination(round)] => Some(*round),
@@ -87,7 +88,7 @@ fn round_in(outs: &[FiledOut]) -> Option<u32> {
     }
 }
 
-/// The round whose timer an event arms, where it gives out no more.
+/// The round whose timer an event arms, if it gives out no more.
 fn round_at(
     alloc: Global,
     archive: &mut Archive<BoxShelf>,
@@ -102,7 +103,7 @@ fn round_at(
     Ok(round_in(&given_out.outs))
 }
 
-/// The rounds whose timers are armed where it proposes x, where the timer fires, and where it proposes y.
+/// The rounds whose timers are armed when it proposes x, when the timer fires, and when it proposes y.
 fn rounds_at_each(
     alloc: Global,
     archive: &mut Archive<BoxShelf>,
@@ -139,7 +140,7 @@ fn copied_round(alloc: Global, archive: &Archive<BoxShelf>, node: &Node) -> Resu
     Ok(copy.inputs().round)
 }
 
-/// The round that a step beside the node leads to where the timer of round 1 fires.
+/// The round that a step beside the node leads to when the timer of round 1 fires.
 fn stepped_round(alloc: Global, archive: &mut Archive<BoxShelf>, node: &Node) -> Result<u32, Fail>
     requires { AreFiled archive.old node.now.rows }
 {
@@ -148,7 +149,7 @@ fn stepped_round(alloc: Global, archive: &mut Archive<BoxShelf>, node: &Node) ->
     Ok(stepped.inputs().round)
 }
 
-/// What the node answers throughout.
+/// Whether all of these rounds, and the node in the end, are as worked out.
 fn is_as_told(alloc: Global, archive: &mut Archive<BoxShelf>, node: &mut Node) -> Result<bool, Fail>
     requires { AreFiled archive.old node.old.rows }
 {
@@ -184,7 +185,7 @@ fn has_decided(outs: &[FiledOut], x: &Value) -> bool {
     }
 }
 
-/// Whether the node decides where it proposes x.
+/// Whether the node decides when it proposes x.
 fn decides(alloc: Global, archive: &mut Archive<BoxShelf>, node: &mut Node) -> Result<bool, Fail>
     requires { AreFiled archive.old node.old.rows }
 {

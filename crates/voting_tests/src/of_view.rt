@@ -1,5 +1,5 @@
-//! What no clause says of a region: that with memory a first row that names others is found to widen it, where to find the
-//! reach anew would be right too.
+//! What no clause says of a region: that a first row that names others is found to widen it, if there is memory. It
+//! would be right too to find the reach anew.
 
 ghost use Rattle.std.specs.Prelude.{IfOk};
 ghost use Rattle.protocol.specs.Sets.{IsAscending};
@@ -45,7 +45,7 @@ fn is_wider(change: &Change) -> bool {
     }
 }
 
-/// The same where node 2, which is needed, names node 3.
+/// Whether a statement of node 2, which is needed and names node 3, widens the region of node 1.
 fn widens_by_another_name(alloc: Global, table: &Rows<'_, BoxShelf>) -> Result<bool, Fail> {
     let slices = slices_of(alloc, 2, &[1, 2])?;
     let row = vote_of(alloc, 2, 1, &[3])?;

@@ -14,9 +14,8 @@ use std::alloc::{AllocError, Global};
 use std::sync::Wait;
 
 impl Queue {
-    /// An empty queue that holds at most `capacity` jobs, 1 to 65,536, and as many passes as asked for, 1 to
-    /// 64, by which nothing was put or taken. An error says that memory is short; nothing after it takes
-    /// memory.
+    /// An empty queue that holds at most `capacity` jobs, 1 to 65,536, and `passes` passes, 1 to 64, by which nothing
+    /// was put or taken. An error says that it is out of memory; nothing after it takes memory.
     pub fn new(
         alloc: Global,
         capacity: usize,
@@ -40,12 +39,12 @@ impl Queue {
         ))
     }
 
-    /// Puts a job. Where the queue is full, the job is handed back, and the pass is as it was. It does not
-    /// wait for room, but it may wait while a call of another thread is under way.
+    /// Puts a job. If the queue is full, the job is handed back, and the pass is as it was. It does not wait for room,
+    /// but it may wait while a call of another thread is under way.
     ///
-    /// A job is handed back only where the queue may be full: there are calls of the other passes with which
-    /// it holds as many jobs as its capacity. On a queue of one pass, which has made all calls, its own puts
-    /// less its takes are then exactly the capacity.
+    /// A job is handed back only if the queue may be full: there are calls of the other passes with which it holds as
+    /// many jobs as its capacity. On a queue of one pass, which has made all calls, its own puts less its takes are
+    /// then exactly the capacity.
     pub fn put<R: Wait>(&self, rt: &R, pass: &mut Pass, job: Job) -> Result<(), Job>
         requires pass { IsPassOfQueue self.now pass.old }
         requires part { 0 < (view pass.old).parts }
@@ -59,8 +58,8 @@ impl Queue {
     /// Takes a job, which no other pass then has. `None` says that there is none, and the pass is as it was.
     /// It does not wait for a job, but it may wait while a call of another thread is under way.
     ///
-    /// It answers `None` only where the queue may be empty: there are calls of the other passes with which it
-    /// holds no job. On a queue of one pass as many jobs were then taken as were put.
+    /// It answers `None` only if the queue may be empty: there are calls of the other passes with which it holds no
+    /// job. On a queue of one pass as many jobs were then taken as were put.
     pub fn take<R: Wait>(&self, rt: &R, pass: &mut Pass) -> Option<Job>
         requires pass { IsPassOfQueue self.now pass.old }
         requires part { 0 < (view pass.old).parts }

@@ -7,7 +7,7 @@ ghost use Rattle.work.specs.Queues.{AllPasses, IsFreshOn, parts_by};
 
 use crate::rule::{CutsOff, Pass, RuledQueue};
 
-/// So many passes, in the room that is there for them: each has one part, and the last one all others.
+/// `passes` passes, in the room that is there for them: each has one part, and the last one all others.
 pub(crate) fn share_out(
     line: &RuledQueue,
     mut first: Pass,

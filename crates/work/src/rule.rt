@@ -16,7 +16,7 @@ pub struct Job {
 }
 
 impl Job {
-    /// A copy. An error says that memory is short.
+    /// A copy. An error says that it is out of memory.
     pub fn try_copy(&self, alloc: Global) -> Result<Job, AllocError>
         ensures { IfOk result (λ j. j ≡ self.now) }
     {
@@ -27,8 +27,8 @@ impl Job {
     }
 }
 
-/// What a pass knows: its parts of the 64 that know the whole, and the jobs that it has put and taken, each
-/// in order. No value of it is ever made: it is for contracts alone.
+/// What a pass knows: its parts of the 64 that know the whole, and the jobs that it has put and taken, each in order.
+/// No value of it is ever made: it is only for contracts.
 pub struct Hand {
     pub parts: u64,
     pub put: LinkedList<Job>,
@@ -103,6 +103,6 @@ impl Join<Hand> for CutsOff {
 /// The queue of the toolchain, under the rule.
 pub type RuledQueue = RuledArrayQueue<Job, Hand, Fair>;
 
-/// The leave of one caller to put and to take. It is of one queue, and has no bytes. Contracts know it with
-/// the jobs that went by it (`Hand`).
+/// The right of one caller to put and to take. It is of one queue, and has no bytes. Contracts know it with the jobs
+/// that went by it (`Hand`).
 pub type Pass = crossbeam_queue::Pass<Job, Hand>;

@@ -11,7 +11,7 @@ HasNet [] number = ⊥
 HasNet (n ∷ ns) number = (number ≡ net_number n) ⊎ HasNet ns number
 
 -- Why a network of this number does not join these. Of the three one alone can hold: its number is there; it is not, and
--- there are 4,096 networks; or neither, and memory is short.
+-- there are 4,096 networks; or neither, and it is out of memory.
 abbrev pub IsWhyNotJoined : List Net → ℕ → NotJoined → Type 0
 IsWhyNotJoined nets number NumberThere = HasNet nets number
 IsWhyNotJoined nets number TooManyNetworks = NoNet nets number × (length nets ≡ 4096)

@@ -11,7 +11,7 @@ use std::sync::Wait;
 use types::{Kind, NodeId, Out};
 use work::Job;
 
-/// An emission, by the numbers that a Hear names it by.
+/// An emission, as a Hear names it.
 #[derive(Clone, Copy)]
 pub(crate) struct SlotEmission {
     pub network: u32,
@@ -41,7 +41,8 @@ pub(crate) fn apply_by<S: Shelf + Drop, H: Wait + Drop, R: Wait, G: Gate>(
     answer.is_ok()
 }
 
-/// The same, with one attempt at the cell: where it is taken, the job is handed back, and nothing has changed.
+/// What [`apply_by`] does, with one attempt at the cell: if it is taken, the job is handed back, and nothing has
+/// changed.
 pub(crate) fn try_apply_by<S: Shelf + Drop, H: Wait + Drop, R: Wait, G: Gate>(
     rt: &R,
     cell: &Cell<S, H>,

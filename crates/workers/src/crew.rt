@@ -33,8 +33,8 @@ impl<S: Shelf, H: Wait + Drop> Model for Crew<S, H> {
 }
 
 impl<S: Shelf + Drop, H: Wait + Drop> Crew<S, H> {
-    /// Room for so many workers, at least one, at each network that a host has now. An error says that memory is
-    /// short.
+    /// Room for `workers` workers, at least one, at each network that a host has now. An error says that it is out of
+    /// memory.
     pub fn new(alloc: Global, host: &Host<S, H>, workers: usize) -> Result<Crew<S, H>, AllocError>
         requires { 0 < workers }
         ensures { IfOk result (λ c. c ≡ length host.now) }

@@ -30,7 +30,7 @@ pub(crate) struct WorkerRoom<S: Shelf, H: Wait + Drop> {
     pub workers: Vec<Worker<S, H>>,
 }
 
-/// So many workers, or as many as the fewest seats of a cell.
+/// `most`, or as many as the fewest seats of a cell, if those are fewer.
 pub(crate) fn fewest_seats<S: Shelf, H: Wait + Drop>(
     spares: &[SpareSeats<S, H>],
     most: usize,
@@ -47,7 +47,6 @@ pub(crate) fn fewest_seats<S: Shelf, H: Wait + Drop>(
     least
 }
 
-/// Room for so many workers at so many cells. An error says that memory is short.
 pub(crate) fn make_worker_room<S: Shelf, H: Wait + Drop>(
     alloc: Global,
     workers: usize,
@@ -98,7 +97,7 @@ pub(crate) fn deal_one<S: Shelf, H: Wait + Drop>(
     seats
 }
 
-/// Workers that have a pass each, as long as there are some, and a seat at each cell.
+/// A worker for each room, with a pass of its own and a seat at each cell.
 pub(crate) fn deal<S: Shelf, H: Wait + Drop>(
     spares: &mut Vec<SpareSeats<S, H>>,
     passes: &mut Vec<Pass>,

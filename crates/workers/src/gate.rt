@@ -3,10 +3,10 @@
 use std::sync::Wait;
 use work::Job;
 
-/// It is called by each worker round each application of a job, while the worker has no lock. So who waits in it
-/// holds up that worker alone, and no network. A job of a network that is not there is no application.
+/// Each worker calls it before and after each application of a job, while it has no lock. So who waits in it holds up
+/// only that worker, and no network. A job of a network that is not there is no application.
 ///
-/// Each job that it sees before is seen again by the same thread: as applied, or as put off.
+/// Each job that `before` sees is seen again by the same thread: by `after`, or by `put_off`.
 ///
 /// No contract speaks of it: an implementation may count, wait, or let other threads go first.
 pub trait Gate {
@@ -16,7 +16,7 @@ pub trait Gate {
     /// This thread has applied a job of the network with this number, or its cell has refused it.
     fn after<R: Wait>(&self, rt: &R, network: u32);
 
-    /// This thread has found the network with this number taken, and puts the job off: it is seen before once more, by
+    /// This thread has found the network with this number taken, and puts the job off: `before` sees it once more, by
     /// this thread or by another. An implementation that has nothing to do here leaves it out.
     fn put_off<R: Wait>(&self, _rt: &R, _network: u32) {}
 }

@@ -29,7 +29,7 @@ pub const MAX_NETWORKS: usize = 4096;
 pub struct Host<S: Shelf, H: Wait + Drop> {
     pub(crate) alloc: Global,
     pub(crate) host_state: HostState<S, H>,
-    // Whether the lists of the state stand turned around, the least number last, as where networks are closed.
+    // Whether the lists of the state stand turned around, the least number last, as when networks are closed.
     pub(crate) is_turned: bool,
 }
 
@@ -79,7 +79,7 @@ impl<S: Shelf + Drop, H: Wait + Drop> Host<S, H> {
     /// Takes a network in, given by its cell and all seats of it, in the place of its number.
     ///
     /// An error says why not, and hands the cell and the seats back: a network of this number is there, or 4,096
-    /// networks are, or memory is short, which it says only where neither is so. The host is then as it was.
+    /// networks are. It says that it is out of memory only if neither is so. The host is then as it was.
     pub fn add(
         &mut self,
         cell: Cell<S, H>,
@@ -114,8 +114,9 @@ impl<S: Shelf + Drop, H: Wait + Drop> Host<S, H> {
     /// Takes out the network with the least number, closes its cell, and hands over its journal and its seats,
     /// which have ended: together one history of one thread. `None` says that there is no network left.
     ///
-    /// It takes no memory, and time by the seats of this network alone, however many others the host has; but the first
-    /// of such calls turns the networks around, and whatever else is called then turns them back.
+    /// It takes no memory, and only as much time as the seats of this network ask for, however many others the host
+    /// has. But the first of such calls turns the networks around, and a run, `add` or `split_at` behind it turns them
+    /// back.
     pub fn close_next<R: Wait>(&mut self, rt: &R) -> Option<(Journal<S>, Vec<Seat<S, H>>)>
         ensures none { IfNone result ((self.old ≡ []) × (self.new ≡ [])) }
         ensures closed { IfSome result (λ r. (net : Net) × (self.old ≡ net ∷ self.new) × IsLeast net self.new × IsClosedNet net r.0 r.1.items) }
@@ -133,7 +134,7 @@ impl<S: Shelf + Drop, H: Wait + Drop> Host<S, H> {
         }
     }
 
-    /// The first so many networks, and the others, each as a host of their own. Where memory is short, the host is
+    /// The first `count` networks, and the others, each part as a host of its own. If it is out of memory, the host is
     /// handed back as it was.
     pub fn split_at(self, count: usize) -> Result<(Host<S, H>, Host<S, H>), Host<S, H>>
         requires { count ≤ length self }

@@ -19,7 +19,7 @@ pub(crate) struct HostState<S: Shelf, H: Wait + Drop> {
 }
 
 impl<S: Shelf + Drop, H: Wait + Drop> HostState<S, H> {
-    /// Makes room for one network more. `false` says that memory is short.
+    /// Makes room for one network more. `false` says that it is out of memory.
     pub(crate) fn reserve(&mut self) -> bool
         ensures same { IsSameHostState self.old self.new }
         ensures room { IsTrue result → HasRoom self.new }
@@ -33,7 +33,7 @@ impl<S: Shelf + Drop, H: Wait + Drop> HostState<S, H> {
         self.spares.reserve(1).is_ok()
     }
 
-    /// A network joins at a place, where there is room.
+    /// A network joins at a place, for which there is room.
     pub(crate) fn put_at(&mut self, place: usize, cell: Cell<S, H>, seats: Vec<Seat<S, H>>)
         requires place { (place ≤ length self.old.shared.numbers.items) × (place ≤ length self.old.shared.cells.items) × (place ≤ length self.old.spares.items) }
         requires room { HasRoom self.old }
@@ -72,7 +72,6 @@ impl<S: Shelf + Drop, H: Wait + Drop> HostState<S, H> {
         }
     }
 
-    /// The last network leaves.
     pub(crate) fn remove_last(&mut self) -> (Cell<S, H>, Vec<Seat<S, H>>)
         requires { (0 < length self.old.shared.numbers.items) × (0 < length self.old.shared.cells.items) × (0 < length self.old.spares.items) }
         ensures { IsRemoved self.old result.0 result.1.items self.new }
@@ -90,8 +89,7 @@ impl<S: Shelf + Drop, H: Wait + Drop> HostState<S, H> {
         (cell, seats)
     }
 
-    /// The networks behind the first so many leave, without the queue. An error says that memory is short, and all
-    /// are as they were.
+    /// The networks behind the first `count` leave, without the queue. If it is out of memory, all are as they were.
     pub(crate) fn split_off(
         &mut self,
         alloc: Global,

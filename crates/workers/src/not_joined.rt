@@ -7,6 +7,6 @@ pub enum NotJoined {
     NumberThere,
     /// None of its number is, and there are as many networks as a host may have.
     TooManyNetworks,
-    /// There is room by number, and memory is short.
+    /// There is room by number, but it is out of memory.
     NoMemory,
 }

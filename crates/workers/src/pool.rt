@@ -19,7 +19,7 @@ use std::thread;
 use std::thread::Threads;
 use work::Pass;
 
-/// Each worker works, in a thread of its own where one can be started.
+/// Each worker works, in a thread of its own if one can be started.
 fn start<S: Shelf + Drop + Send, H: Wait + Drop + Send, R: Threads + Wait + Sync, G: Gate + Sync>(
     rt: &R,
     shared: &Shared<S, H>,

@@ -28,8 +28,8 @@ use work::{Job, Pass, Queue};
 pub struct Report {
     /// Jobs that were applied: as many as the seats have gained receipts.
     pub applied: u64,
-    /// Jobs that a cell refused, for whatever reason, want of memory among them, and jobs of networks that are
-    /// not there.
+    /// Jobs that a cell refused, for whatever reason, out of memory among them, and jobs of networks that are not
+    /// there.
     pub refused: u64,
     /// Jobs that were left: none.
     pub unrun: u64,
@@ -59,7 +59,6 @@ impl Report {
     }
 }
 
-/// What the workers counted.
 fn report_of<S: Shelf, H: Wait + Drop, R: Wait>(rt: &R, workers: &[Worker<S, H>]) -> Report
     ensures { IsCounted workers.now result }
 {
@@ -118,19 +117,19 @@ where
 
 /// Runs the jobs that a queue holds, and what follows from them, by a crew of workers; then the queue is closed.
 ///
-/// Each worker has a pass of the queue and a seat at each network, so no more of the crew work than there are
-/// passes, and no more than the network with the fewest seats has; each works in a thread of its own where one can
-/// be started. A job is applied by the worker's seat at its network. For each emission that is given out, each
-/// other hosted node of the network gets a job by which it hears the emission; the same worker applies it at
-/// once, by the same seat, and what follows from it in turn, before it takes the next job. So nothing new is put into
-/// the queue. A worker that finds a job's network taken by another thread puts the job back, behind the others, and goes
-/// on with the next: a network that is held up holds up no worker, as long as there is a place in the queue. A worker
-/// ends when it finds the queue empty; a job that is left then is applied by the first worker at the close.
+/// Each worker has a pass of the queue and a seat at each network. So no more of the crew work than there are passes,
+/// and no more than the network with the fewest seats has. Each works in a thread of its own if one can be started. A
+/// job is applied by the worker's seat at its network. For each emission that is given out, each other hosted node of
+/// the network gets a job by which it hears the emission. The same worker applies it at once, by the same seat, and
+/// what follows from it in turn, before it takes the next job. So nothing new is put into the queue. A worker that
+/// finds a job's network taken by another thread puts the job back, behind the others, and goes on with the next. So a
+/// network that is held up holds up no worker, as long as there is a place in the queue. A worker ends when it finds
+/// the queue empty; a job that is left then is applied by the first worker at the close.
 ///
-/// However jobs are weighed: what the queue held, and one Hear for each emission of the receipts that were gained
-/// and each other hosted node, are the jobs that were applied, those that were refused, and those of networks
-/// that are not there; and the report has these numbers. It takes no memory but for what cells keep. Cells and
-/// seats are the same after it, but that seats have gained receipts and refusals.
+/// However jobs are weighed: what the queue held, and one Hear for each emission of the receipts that were gained and
+/// each other hosted node, are the jobs that were applied, those that were refused, and those of networks that are not
+/// there. The report has these numbers. It takes no memory but for what cells keep. Cells and seats are the same after
+/// it, but that seats have gained receipts and refusals, and that those of workers have let go of all receipts.
 pub fn run<S: Shelf + Drop + Send, H: Wait + Drop + Send, R: Threads + Wait + Sync, G: Gate + Sync>(
     rt: &R,
     host: &mut Host<S, H>,

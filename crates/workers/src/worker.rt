@@ -63,7 +63,6 @@ fn hearing(emission: &SlotEmission, hosted: &HostedNode) -> Option<Job>
 }
 
 impl<S: Shelf + Drop, H: Wait + Drop> Worker<S, H> {
-    /// Counts a job, as applied or as refused.
     fn count<R: Wait>(&mut self, rt: &R, is_applied: bool)
         ensures same { (self.new.seats ≡ self.old.seats) × (self.new.pass ≡ self.old.pass) }
         ensures applied { self.new.applied ≡ self.old.applied + (if is_applied then 1 else 0) }
@@ -98,7 +97,7 @@ impl<S: Shelf + Drop, H: Wait + Drop> Worker<S, H> {
         self.count(workplace.rt, is_applied);
     }
 
-    /// Applies a job by the seat at a cell, and counts it, where the cell is free at once. Else the job is handed back.
+    /// Applies a job by the seat at a cell, and counts it, if the cell is free at once. Else the job is handed back.
     fn try_apply_at<R: Wait, G: Gate>(
         &mut self,
         workplace: &Workplace<'_, S, H, R, G>,
@@ -125,7 +124,7 @@ impl<S: Shelf + Drop, H: Wait + Drop> Worker<S, H> {
         }
     }
 
-    /// Takes a job where there is a queue with one.
+    /// Takes a job, if there is a queue with one.
     fn take<R: Wait>(&mut self, rt: &R, shared: &Shared<S, H>) -> Option<Job>
         requires { IsPassing shared.now.queue self.old.pass }
         ensures pass { IsPassing shared.now.queue self.new.pass }
@@ -138,7 +137,7 @@ impl<S: Shelf + Drop, H: Wait + Drop> Worker<S, H> {
         }
     }
 
-    /// Puts a job behind the others, where there is a queue with a place for it. Else the job is handed back.
+    /// Puts a job behind the others, if there is a queue with a place for it. Else the job is handed back.
     fn put_back<R: Wait>(&mut self, rt: &R, shared: &Shared<S, H>, job: Job) -> Option<Job>
         requires { IsPassing shared.now.queue self.old.pass }
         ensures pass { IsPassing shared.now.queue self.new.pass }
@@ -151,7 +150,6 @@ impl<S: Shelf + Drop, H: Wait + Drop> Worker<S, H> {
         }
     }
 
-    /// Each other node of a cell's network hears an emission.
     fn let_others_hear<R: Wait, G: Gate>(
         &mut self,
         workplace: &Workplace<'_, S, H, R, G>,
@@ -197,9 +195,9 @@ impl<S: Shelf + Drop, H: Wait + Drop> Worker<S, H> {
         }
     }
 
-    /// Goes through the receipts of the seat at one cell, which lets each of them go, until it keeps none. A hearing that
-    /// is applied adds a receipt behind the others, so what follows from hearings is one list and no call within a call;
-    /// each receipt draws an event of the network's budget, which is finite.
+    /// Goes through the receipts of the seat at one cell, which lets each of them go, until it keeps none. A hearing
+    /// that is applied adds a receipt behind the others, so what follows from hearings is one list and no call within a
+    /// call. It ends: each receipt draws an event of the network's budget, which is finite.
     fn follow_receipts<R: Wait, G: Gate>(&mut self, workplace: &Workplace<'_, S, H, R, G>, k: usize)
         requires { IsBusy workplace.now.shared.now.cells.items workplace.now.shared.now.queue k self.old }
         ensures ready { IsReady workplace.now.shared.now.cells.items workplace.now.shared.now.queue self.new }
@@ -234,8 +232,8 @@ impl<S: Shelf + Drop, H: Wait + Drop> Worker<S, H> {
         }
     }
 
-    /// The same, with one attempt at the network's cell: where that is taken, the job is handed back. What follows from
-    /// a job waits for the cell.
+    /// What [`Worker::serve`] does, with one attempt at the network's cell: if that is taken, the job is handed back.
+    /// What follows from a job waits for the cell.
     fn try_serve<R: Wait, G: Gate>(
         &mut self,
         workplace: &Workplace<'_, S, H, R, G>,
@@ -261,7 +259,7 @@ impl<S: Shelf + Drop, H: Wait + Drop> Worker<S, H> {
         }
     }
 
-    /// Puts a job behind the others, and lets other threads go on. Where it has no place there, serves it.
+    /// Puts a job behind the others, and lets other threads go on. If it has no place there, it is served.
     fn put_off<R: Wait, G: Gate>(&mut self, workplace: &Workplace<'_, S, H, R, G>, job: Job)
         requires order { IsNumbered workplace.now.shared.now.numbers.items workplace.now.shared.now.cells.items }
         requires ready { IsReady workplace.now.shared.now.cells.items workplace.now.shared.now.queue self.old }
@@ -274,7 +272,7 @@ impl<S: Shelf + Drop, H: Wait + Drop> Worker<S, H> {
         }
     }
 
-    /// Serves a job that was taken. Where its network is held up, it is put off, so that this worker goes on with others.
+    /// Serves a job that was taken. If its network is held up, it is put off, so that this worker goes on with others.
     fn serve_or_put_off<R: Wait, G: Gate>(
         &mut self,
         workplace: &Workplace<'_, S, H, R, G>,
@@ -291,7 +289,7 @@ impl<S: Shelf + Drop, H: Wait + Drop> Worker<S, H> {
         }
     }
 
-    /// Takes and serves jobs until the queue was empty.
+    /// Takes and serves jobs until it finds the queue empty.
     pub(crate) fn work<R: Wait, G: Gate>(&mut self, workplace: &Workplace<'_, S, H, R, G>)
         requires order { IsNumbered workplace.now.shared.now.numbers.items workplace.now.shared.now.cells.items }
         requires ready { IsReady workplace.now.shared.now.cells.items workplace.now.shared.now.queue self.old }
@@ -306,7 +304,6 @@ impl<S: Shelf + Drop, H: Wait + Drop> Worker<S, H> {
         }
     }
 
-    /// Serves jobs.
     pub(crate) fn serve_all<R: Wait, G: Gate>(
         &mut self,
         workplace: &Workplace<'_, S, H, R, G>,

@@ -1,4 +1,4 @@
-//! The journals of many networks by number, and the histories that they are those of (this host's profile).
+//! The journals of many networks by number, and of which histories they are (this host's profile).
 #![tactic(auto)]
 
 mod world;

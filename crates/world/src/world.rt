@@ -22,18 +22,18 @@ pub enum WorldError {
     /// There is a network of that number.
     #[error("there is a network of that number")]
     NetTwice,
-    /// There are 4,096 networks.
+    /// There are 4,096 networks already.
     #[error("there are 4,096 networks")]
     TooManyNets,
-    /// Memory was wanting.
+    /// It is out of memory.
     #[error("memory is wanting")]
     NoMemory,
 }
 
 /// The journals of a host, ascending by the numbers of their networks.
 ///
-/// The numbers stand in a list of their own, so that a network is found by a binary search in memory that
-/// lies together, and an event costs the same among 4,096 networks. Contracts see the list of the journals.
+/// The numbers stand in a list of their own, so that a binary search for a network stays in memory that lies together.
+/// So an event costs the same among 4,096 networks. Contracts see the list of the journals.
 ///
 /// For example, the journals of networks that were added as 7, 3 and 5 stand as 3, 5, 7, and so do their numbers.
 #[derive(Drop)]
@@ -71,11 +71,11 @@ impl<S: Shelf> World<S> {
         }
     }
 
-    /// A network joins, with a shelf for its envelopes; nothing has happened to it. Events that named its
-    /// number before were refused, so a history of the host is one without them.
+    /// Adds a network, with a shelf for its envelopes; nothing has happened to it. Events that named its number before
+    /// were refused, so a history of the host is one without them.
     ///
-    /// An error says that a network of that number is there, or that 4,096 networks are, or that memory is
-    /// short, in this order; the host is as it was.
+    /// An error says that there is a network of that number, or that there are 4,096 networks, or that it is out of
+    /// memory, in this order. The host is as it was then.
     pub fn add(&mut self, config: NetConfig, shelf: S) -> Result<(), WorldError>
     where
         S: Drop,
@@ -94,11 +94,11 @@ impl<S: Shelf> World<S> {
         }
     }
 
-    /// The journal of a network joins, with all that it has, in the place of its number. It is handed back
-    /// where a network of that number is there, or 4,096 are, or memory is short; then the host is as it was.
+    /// Adds the journal of a network, with all that it has, in the place of its number. It is handed back if there is a
+    /// network of that number, if there are 4,096, or if it is out of memory; then the host is as it was.
     ///
-    /// Where the journal is that of a history of its own, the host's history is from then on one in which the
-    /// events of that history come last; events of the host's that named its number before were refused.
+    /// If the journal is that of a history of its own, the events of that history come last in the host's history from
+    /// then on. Events of the host's that named its number before were refused.
     pub fn adopt(&mut self, journal: Journal<S>) -> Result<(), Journal<S>>
         ensures ok { OnOk result (self.new ≡ logs_with journal self.old) }
         ensures fresh { OnOk result (log_at self.old journal.config.number ≡ None) }
@@ -112,8 +112,8 @@ impl<S: Shelf> World<S> {
         }
     }
 
-    /// The journal of a network leaves, if it is there. A history of the host is from then on one without that network and
-    /// without the events that named its number. It takes no memory.
+    /// Takes the journal of a network out, if it is there. A history of the host is from then on one without that
+    /// network and without the events that named its number. It takes no memory.
     pub fn remove(&mut self, number: u32) -> Option<Journal<S>>
         ensures which { result ≡ log_at self.old number }
         ensures rest { self.new ≡ logs_without number self.old }
@@ -142,10 +142,10 @@ impl<S: Shelf> World<S> {
         &self.journals
     }
 
-    /// One event of a network, by its journal. The event of a network that is not there is refused.
+    /// Applies one event of a network, by its journal. If the network is not there, the event is refused.
     ///
-    /// An error is the first refusal that applies, or says that memory is short, as by [`Journal::apply`]; the host
-    /// is as it was.
+    /// An error is the first refusal that applies, or says that it is out of memory, as of [`Journal::apply`]. The host
+    /// is as it was then.
     pub fn apply(&mut self, number: u32, event: Event) -> Result<Vec<Out>, Refusal>
         ensures answer { IsAnswered self.old number event result self.new }
         ensures same { OnErr result (self.new ≡ self.old) }
@@ -164,7 +164,6 @@ impl<S: Shelf> World<S> {
         self.numbers.binary_search(&number)
     }
 
-    /// The journal at the place of its number leaves.
     fn take_at(&mut self, at: usize, number: u32) -> Journal<S>
         requires { IsPlaceOf self.old number (Ok at) }
         ensures which { Some result ≡ log_at self.old number }
@@ -174,8 +173,8 @@ impl<S: Shelf> World<S> {
         self.journals.remove(at)
     }
 
-    /// A journal joins in the place of its number. With the reason it is handed back where a network of that
-    /// number is there, or 4,096 are, or memory is short, in this order; then the host is as it was.
+    /// Adds a journal in the place of its number. It is handed back with the reason if there is a network of that
+    /// number, if there are 4,096, or if it is out of memory, in this order; then the host is as it was.
     fn join(&mut self, journal: Journal<S>) -> Result<(), (WorldError, Journal<S>)>
         ensures ok { OnOk result (self.new ≡ logs_with journal self.old) }
         ensures fresh { OnOk result (log_at self.old journal.config.number ≡ None) }
@@ -198,8 +197,7 @@ impl<S: Shelf> World<S> {
         }
     }
 
-    /// A journal joins at the place of its number. It is handed back where memory is short; then the host is
-    /// as it was.
+    /// Adds a journal at the place of its number. It is handed back if it is out of memory; then the host is as it was.
     fn put_at(&mut self, at: usize, journal: Journal<S>) -> Result<(), Journal<S>>
         requires at { IsPlaceOf self.old journal.config.number (Err at) }
         requires few { length self.old < 4096 }

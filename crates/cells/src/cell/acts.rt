@@ -29,7 +29,7 @@ use std::sync::Wait;
 use std::thread;
 use types::Event;
 
-/// Not all seats of the cell were there. It and those that were are handed back.
+/// Not all seats of the cell were there. The cell, and those that were, are handed back.
 #[derive(Drop)]
 pub struct SeatsMissing<S: Shelf, H: Wait + Drop> {
     pub cell: Cell<S, H>,
@@ -39,13 +39,12 @@ pub struct SeatsMissing<S: Shelf, H: Wait + Drop> {
 /// How many use a cell: its seats, by which threads apply events, and the watches of what it decides.
 #[derive(Clone, Copy)]
 pub struct CellUsers {
-    /// The seats.
+    /// The seats, 1 to 64.
     pub seats: u64,
-    /// The watches.
+    /// The watches, at most 64.
     pub watches: usize,
 }
 
-/// Whether a seat has this number.
 fn has<S: Shelf, H: Wait + Drop>(seats: &[Seat<S, H>], number: u64) -> bool
     ensures { IsTrue result ↔ HasNumber seats.now number }
 {
@@ -120,8 +119,7 @@ fn gather<S: Shelf, H: Wait + Drop, R: Wait>(
     cell_state
 }
 
-/// A publisher with nothing appended, and so many watches of it, which have seen nothing. An error says that memory
-/// is short.
+/// A publisher with nothing appended, and `count` watches of it, which have seen nothing.
 fn publisher_and_watches<H: Wait + Drop>(
     rt: H,
     alloc: Global,
@@ -150,7 +148,7 @@ impl<S: Shelf + Drop, H: Wait + Drop> Cell<S, H> {
 
 impl<S: Shelf + Drop, H: Wait + Drop + Copy> Cell<S, H> {
     /// A cell with 1 to 64 seats, numbered from 0 on, for a network where nothing has happened, over a shelf. What it
-    /// decides goes to a publisher with nothing appended, if there is one. An error says that memory is short.
+    /// decides goes to a publisher with nothing appended, if there is one. An error says that it is out of memory.
     fn open_with(
         rt: &H,
         alloc: Global,
@@ -188,8 +186,8 @@ impl<S: Shelf + Drop, H: Wait + Drop + Copy> Cell<S, H> {
         Ok((cell, all))
     }
 
-    /// A cell with 1 to 64 seats, numbered from 0 on, for a network where nothing has happened, over a shelf, and
-    /// up to 64 watches of what it decides. An error says that memory is short.
+    /// A cell with 1 to 64 seats, numbered from 0 on, for a network where nothing has happened, over a shelf, and up to
+    /// 64 watches of what it decides. An error says that it is out of memory.
     pub fn open_watched(
         rt: &H,
         alloc: Global,
@@ -211,8 +209,8 @@ impl<S: Shelf + Drop, H: Wait + Drop + Copy> Cell<S, H> {
         Ok((cell, all, given))
     }
 
-    /// A cell as by [`Cell::open_watched`], with no watch: it has no publisher either, and what it decides is found in
-    /// its journal alone.
+    /// A cell as by [`Cell::open_watched`], with no watch: it has no publisher either, and what it decides is found
+    /// only in its journal.
     pub fn open_on(
         rt: &H,
         alloc: Global,
@@ -238,9 +236,9 @@ impl<S: Shelf + Drop, H: Wait + Drop> Cell<S, H> {
     /// What the journal decided is published, as far as there is memory; the rest goes with a later call. Beside
     /// the lock it waits for watches that read.
     ///
-    /// An error is [`CellRefusal::Closed`] where the cell was stopped, else the first refusal of the network
-    /// that applies, or says that memory is short, which it does only where none applies, or while the bytes of
-    /// an envelope are read; the network and the receipts are as they were.
+    /// An error is [`CellRefusal::Closed`] if the cell was stopped, and else the first refusal of the network that
+    /// applies. It says that it is out of memory only if none applies, or while the bytes of an envelope are read.
+    /// Behind an error the network and the receipts are as they were.
     pub fn apply<R: Wait>(
         &self,
         rt: &R,
@@ -267,10 +265,10 @@ impl<S: Shelf + Drop, H: Wait + Drop> Cell<S, H> {
         unreachable!()
     }
 
-    /// As [`Cell::apply`], with one attempt at the lock: where another seat has it, or another thread is in the way, the
-    /// event is handed back at once, and nothing has changed. So who has other work need not wait.
+    /// As [`Cell::apply`], with one attempt at the lock: if another seat has it, or another thread is in the way, the
+    /// event is handed back at once, and nothing has changed. So a thread that has other work need not wait.
     ///
-    /// Once it has the lock it may still wait for watches that read, as far as something is published.
+    /// Once it has the lock it may still wait for watches that read, if something is published.
     pub fn try_apply<R: Wait>(
         &self,
         rt: &R,
@@ -305,7 +303,7 @@ impl<S: Shelf + Drop, H: Wait + Drop> Cell<S, H> {
         }
     }
 
-    /// Sets the stop mark, for good. It takes no memory.
+    /// Sets the stop mark, for good. It waits for the lock, and takes no memory.
     pub fn stop<R: Wait>(&self, rt: &R, seat: &mut Seat<S, H>)
         requires { IsSeatOf self.now seat.old }
         ensures seat { IsSeatOf self.now seat.new }
@@ -319,9 +317,8 @@ impl<S: Shelf + Drop, H: Wait + Drop> Cell<S, H> {
     }
 
     /// Publishes what the journal decided, as far as there is memory, and has a watch of this cell see all that is
-    /// published. It answers how many more decisions the journal has that the seat has now seen: none, where there
-    /// was memory. None says that the watch is not of this cell: then no more is known than that what it saw has
-    /// grown.
+    /// published. It answers how many more decisions the journal has that the seat has now seen: none, if there was
+    /// memory. None says that the watch is not of this cell: then no more is known than that what it saw has grown.
     pub fn tell<R: Wait>(&self, rt: &R, seat: &mut Seat<S, H>, watch: &mut Watch) -> Option<usize>
         requires { IsSeatOf self.now seat.old }
         ensures seat { IsSeatOf self.now seat.new }
@@ -338,8 +335,9 @@ impl<S: Shelf + Drop, H: Wait + Drop> Cell<S, H> {
         missing
     }
 
-    /// The journal, the seats with their receipts, and what was published, where all seats of the cell are there. Watches
-    /// read nothing from now on. A cell of [`Cell::open_on`] has published nothing, and there is None. It takes no memory.
+    /// The journal, the seats with their receipts, and what was published, if all seats of the cell are there. Watches
+    /// read nothing from now on. A cell of [`Cell::open_on`] has published nothing, and there is None. It takes no
+    /// memory, and waits for watches that read.
     ///
     /// An error hands the cell and the seats back, as they were.
     pub fn close_watched<R: Wait>(

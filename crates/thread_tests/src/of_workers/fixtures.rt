@@ -24,7 +24,7 @@ pub(super) struct Tally {
     pub decisions: u64,
 }
 
-/// A network of so many nodes joins, whose cell has so many seats.
+/// A network joins: its number, how many nodes it has, and how many seats its cell has.
 pub(super) fn join<R: Wait + Drop + Copy>(
     rt: &R,
     alloc: Global,
@@ -40,7 +40,7 @@ pub(super) fn join<R: Wait + Drop + Copy>(
     }
 }
 
-/// A network of one node joins, whose cell has so many seats, and a watch.
+/// A network of one node joins, whose cell has `seats` seats, and a watch.
 pub(super) fn join_watched<R: Wait + Drop + Copy>(
     rt: &R,
     alloc: Global,
@@ -62,7 +62,7 @@ pub(super) fn join_watched<R: Wait + Drop + Copy>(
     }
 }
 
-/// Why a network of a node alone, with one seat, does not join.
+/// Why a network of one node, with one seat, does not join.
 pub(super) fn refusal_of<R: Wait + Drop + Copy>(
     rt: &R,
     alloc: Global,
@@ -124,7 +124,7 @@ pub(super) fn proposals(alloc: Global, networks: u32, count: u64) -> Option<Vec<
     Some(jobs)
 }
 
-/// A report of so many jobs, all of which were applied.
+/// A report of jobs that were all applied.
 pub(super) fn report(applied: u64) -> Report {
     Report {
         applied,
@@ -133,8 +133,8 @@ pub(super) fn report(applied: u64) -> Report {
     }
 }
 
-/// The jobs are run by so many workers, which have a pass each of a queue of so many places; those for which there is
-/// no place, when the others are done. `None` where there was no memory for them.
+/// Runs the jobs. `queue` is how many places the queue has, and how many workers there are, with a pass each. Jobs for
+/// which there is no place are run when the others are done. `None` if it is out of memory for them.
 pub(super) fn run_jobs<R: Threads + Wait + Sync + Send + Drop, G: Gate + Sync>(
     rt: &R,
     alloc: Global,
@@ -160,7 +160,7 @@ pub(super) fn run_jobs<R: Threads + Wait + Sync + Send + Drop, G: Gate + Sync>(
     None
 }
 
-/// As many of the jobs as there are places for.
+/// Runs as many of the jobs as there are places for.
 fn run_turn<R: Threads + Wait + Sync + Send + Drop, G: Gate + Sync>(
     rt: &R,
     alloc: Global,
@@ -214,7 +214,7 @@ fn count_outs(outs: &[Out], tally: &mut Tally) {
     }
 }
 
-/// Adds what an entry of a journal has, where the same event gives out the same once more.
+/// Adds what an entry of a journal gave out. `None` if the same event does not give out the same once more.
 fn count_entry<S: Shelf>(
     alloc: Global,
     journal: &Journal<S>,
@@ -276,7 +276,7 @@ fn close_each<R: Wait + Drop>(
     }
 }
 
-/// What all journals and seats have; each half of the networks is closed for itself. `None` where memory is short.
+/// What all journals and seats have; each half of the networks is closed for itself. `None` if it is out of memory.
 pub(super) fn close_all<R: Wait + Drop>(
     rt: &R,
     alloc: Global,

@@ -10,8 +10,8 @@ use std::collections::VecDeque;
 use std::marker::Model;
 use std::thread::Threads;
 
-/// Counts plus signs. A line of them, and of nothing else, is kept; it is answered by its number and how many there have
-/// been. An empty line and one that begins with `#` is not answered, and another is bad.
+/// Counts plus signs. A line of them, and of nothing else, is kept; it is answered by its number and how many there
+/// have been. An empty line and one that begins with `#` is not answered, and another is bad.
 #[derive(Drop)]
 pub struct Counter {
     sum: u64,

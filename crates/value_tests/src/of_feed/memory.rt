@@ -8,7 +8,7 @@ use std::alloc::Global;
 use std::process::Abort;
 
 /// Keeps what was done, and what was told of it. One of its calls fails: then half a line is written, or nothing is on
-/// the disk, or nothing is told. Where memory is short it aborts.
+/// the disk, or nothing is told. If it is out of memory it aborts.
 #[derive(Drop)]
 pub struct MemoryDesk<R: Abort + Drop> {
     /// What was done, one after the other.

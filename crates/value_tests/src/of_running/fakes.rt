@@ -64,7 +64,7 @@ impl FakeWriter {
         }
     }
 
-    /// Counts a call, and fails where it is the one that is to fail.
+    /// Counts a call, and fails if it is the one that is to fail.
     fn count_call(&mut self) -> io::Result<()> {
         self.calls = self.calls.saturating_add(1);
         if self.fails_at != 0 && self.calls > self.fails_at {
@@ -90,8 +90,8 @@ impl Write for FakeWriter {
     }
 }
 
-/// Prints the last field of a line, except for three words: `quiet` prints nothing, `bad` is a bad
-/// line, and at `full` there is no memory.
+/// Prints the last field of a line, except for three words: `quiet` prints nothing, `bad` is a bad line, and at `full`
+/// it is out of memory.
 #[derive(Drop)]
 pub struct LastField {}
 
