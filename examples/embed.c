@@ -4,7 +4,7 @@
  *     ./embed < cases/serve/two-nodes-hear-each-other/lines
  *
  * It reads lines from the standard input, has a host answer each, and prints the blocks, as `scphost serve` does. With the word
- * `--bytes` envelopes are printed as bytes. The status is 0 at the end of the input, 3 if memory is short, 4 if it cannot write.
+ * `--bytes` envelopes are printed as bytes. The status is 0 at the end of the input, 3 if it is out of memory, 4 if it cannot write.
  */
 #define _POSIX_C_SOURCE 200809L
 #include "scp_host.h"

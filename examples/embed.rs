@@ -40,7 +40,7 @@ mod scp_host {
     }
 
     impl Host {
-        /// A host without networks; `None` if memory is short.
+        /// A host without networks; `None` if it is out of memory.
         pub fn new(bytes: bool) -> Option<Host> {
             let mut handle = Handle { at: null_mut() };
             // SAFETY: the handle begins with null, and is changed by the library alone, here and below.
