@@ -121,8 +121,8 @@ impl<S: Shelf> Network<S> {
         node.rows(&self.archive)
     }
 
-    /// Lets go of what was filed for slots that are closed by now, if that is due ([`Archive::is_due`]). It takes no
-    /// memory.
+    /// Lets go of what was filed for slots that are closed by now, if that is due ([`Archive::is_due`]). It cannot
+    /// fail.
     ///
     /// Who goes on reading what was given out at a closed slot, as a journal does, does not call this.
     pub fn forget_closed(&mut self)
