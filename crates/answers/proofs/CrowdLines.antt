@@ -3,7 +3,7 @@ use Rattle.std.proofs.Common.{◌≡◌, ◌∙◌, List, [], ◌∷◌, ◌++�
 use Rattle.std.specs.List.{flat_map}
 use Rattle.scripts.specs.Script.{Bytes}
 use Rattle.protocol.specs.Networks.{Reply}
-use Rattle.crowds.specs.Replies.{reply_of}
+use Rattle.crowds.specs.Replies.{reply_of_answer}
 use Rattle.crowds.specs.declared.reply.Reply.{Reply as Replied}
 use Rattle.crowds.specs.declared.reply.Reply.TheVariants as replied
 use Rattle.requests.specs.Replies.{IsReply}
@@ -14,9 +14,9 @@ pub line_of_one : (r : Replied) (text : Bytes) → IsReply (answer_of r) text �
 line_of_one (replied.Done outs) text e = ap line e
 line_of_one (replied.Refused r) text e = ap line e
 
-pub lines_of_model : (xs : List Replied) (ys : List Reply) → map reply_of xs ≡ ys → flat_map line_of_replied xs ≡ flat_map line_of_reply ys
+pub lines_of_model : (xs : List Replied) (ys : List Reply) → map reply_of_answer xs ≡ ys → flat_map line_of_replied xs ≡ flat_map line_of_reply ys
 lines_of_model xs ys e = of_each xs ∙ ap (flat_map line_of_reply) e
   where
-    of_each : (xs : List Replied) → flat_map line_of_replied xs ≡ flat_map line_of_reply (map reply_of xs)
+    of_each : (xs : List Replied) → flat_map line_of_replied xs ≡ flat_map line_of_reply (map reply_of_answer xs)
     of_each [] = refl
     of_each (x ∷ xs) = ap (λ ys. line_of_replied x ++ ys) (of_each xs)

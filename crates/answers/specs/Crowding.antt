@@ -7,10 +7,10 @@ use Rattle.protocol.specs.Hosts.{History}
 use Rattle.protocol.specs.Networks.{Reply}
 use Rattle.protocol.specs.Networks.Reply.{Done, Refused}
 use Rattle.crowds.specs.Crowding.{AreNeverCrowdedOut, IsCrowdHere}
-use Rattle.crowds.specs.Replies.{reply_of}
+use Rattle.crowds.specs.Replies.{reply_of_answer}
 use Rattle.crowds.specs.declared.reply.Reply.{Reply as Replied}
 use Rattle.crowds.specs.declared.verdict.Crowd.{Crowd}
-use Rattle.crowds.specs.declared.verdict.Crowd.TheVariants.{CastDiffers, RosterDiffers, OutsideRoster}
+use Rattle.crowds.specs.declared.verdict.Crowd.TheVariants.{CastDiffers, OutsideRoster, RosterDiffers}
 use Rattle.crowds.specs.declared.verdict.Crowd.TheVariants.{InputsDiffer, Same}
 use Rattle.requests.specs.Replies.{behind_space, refusal_text}
 use Rattle.scripts.specs.Script.{Bytes}
@@ -28,31 +28,31 @@ line_of_reply (Refused r) = line (refusal_text r)
 
 -- the line of a reply as the code has it
 abbrev pub line_of_replied : Replied → Bytes
-line_of_replied r = line_of_reply (reply_of r)
+line_of_replied r = line_of_reply (reply_of_answer r)
 
 -- the lines of a verdict: what differs, or `same` and each reply
-abbrev pub lines_of : Crowd → Bytes
-lines_of (CastDiffers u) = line (codes "cast differs at " ++ text_of_name u)
-lines_of RosterDiffers = line (codes "roster differs")
-lines_of (OutsideRoster u) = line (codes "outside roster at " ++ text_of_name u)
-lines_of (InputsDiffer place) = line (codes "inputs differ at " ++ decimal place)
-lines_of (Same replies) = line (codes "same") ++ flat_map line_of_reply replies
+abbrev pub crowd_lines : Crowd → Bytes
+crowd_lines (CastDiffers u) = line (codes "cast differs at " ++ text_of_name u)
+crowd_lines RosterDiffers = line (codes "roster differs")
+crowd_lines (OutsideRoster u) = line (codes "outside roster at " ++ text_of_name u)
+crowd_lines (InputsDiffer place) = line (codes "inputs differ at " ++ decimal place)
+crowd_lines (Same replies) = line (codes "same") ++ flat_map line_of_reply replies
 
 -- whether the verdict names a difference
-abbrev pub is_difference : Crowd → Bool
-is_difference (Same replies) = false
-is_difference (CastDiffers u) = true
-is_difference RosterDiffers = true
-is_difference (OutsideRoster u) = true
-is_difference (InputsDiffer place) = true
+abbrev pub is_crowd_difference : Crowd → Bool
+is_crowd_difference (Same replies) = false
+is_crowd_difference (CastDiffers u) = true
+is_crowd_difference RosterDiffers = true
+is_crowd_difference (OutsideRoster u) = true
+is_crowd_difference (InputsDiffer place) = true
 
 -- an answer tells this verdict on two submissions
-abbrev pub Tells : Crowd → Answer → Type 0
-Tells verdict answer = (answer.differs ≡ is_difference verdict) × (string_bytes answer.text ≡ lines_of verdict)
+abbrev pub TellsVerdict : Crowd → Answer → Type 0
+TellsVerdict verdict answer = (answer.differs ≡ is_crowd_difference verdict) × (string_bytes answer.text ≡ crowd_lines verdict)
 
 -- the answer tells the right verdict on two submissions, and in these no member that a roster has is crowded out
 pub record TellsCrowd (one other : History) (subject : Subject) (answer : Answer) : Type 0 where
   pub verdict : Crowd
   pub right : IsCrowdHere one other subject.net subject.slot subject.node verdict
   pub never_crowded_out : AreNeverCrowdedOut one other subject.net subject.slot subject.node
-  pub tells : Tells verdict answer
+  pub tells : TellsVerdict verdict answer

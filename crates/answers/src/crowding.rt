@@ -3,7 +3,7 @@
 ghost use Rattle.std.specs.Prelude.{◌≡◌, ◌++◌, IfErr, IfOk, OnOk, codes, string_bytes};
 ghost use Rattle.std.specs.List.{flat_map};
 ghost use Rattle.scripts.specs.Names.{text_of_name};
-ghost use Rattle.answers.specs.Crowding.{Tells, TellsCrowd, line, line_of_replied, line_of_reply as line_of};
+ghost use Rattle.answers.specs.Crowding.{TellsCrowd, TellsVerdict, line, line_of_replied, line_of_reply as line_of};
 ghost use Rattle.answers.specs.Scripts.{IsSubmittedBy, StopsSubmission};
 
 use crate::answer::Answer;
@@ -47,7 +47,7 @@ pub fn answer_crowd(
 }
 
 fn answer_verdict(alloc: Global, verdict: &Crowd) -> Result<Answer, AllocError>
-    ensures { IfOk result (Tells verdict.now) }
+    ensures { IfOk result (TellsVerdict verdict.now) }
 {
     match verdict {
         Crowd::CastDiffers(node) => {

@@ -6,10 +6,10 @@ use Rattle.protocol.specs.Hosts.{Config, Entry}
 use Rattle.hoststep.specs.Logs.{Log}
 use Rattle.cells.specs.Receipts.{extract_of, extracts_of}
 use Rattle.cells.specs.Views.{CellStateSight, Knowledge}
-use Rattle.cells.specs.Rule.{IsTaken, IsKnownAtEnd, with_note, AllBelow}
+use Rattle.cells.specs.Rule.{IsStateTaken, IsKnownAtEnd, with_note, AllBelow}
 use Rattle.cells.specs.Sights.{SeatSight}
 use Rattle.cells.specs.Sounds.{IsSound, AllStand, AllRight}
-use Rattle.cells.specs.Closing.{Keeps, AllSeats, HasNumber, ended_sight, Gathered, IsOneHistory}
+use Rattle.cells.specs.Closing.{CloserKeeps, AllSeats, HasNumber, ended_sight, Gathered, IsOneHistory}
 use Rattle.cells.proofs.Counts.{as_many}
 use Rattle.cells.proofs.Seats.{stand_more, right_more}
 use Rattle.std.proofs.Common.{get_or, option_map, set}
@@ -17,17 +17,17 @@ use Rattle.std.proofs.lemmas.List.Elements.{All-map, All-more, All-weaker}
 use Rattle.std.proofs.lemmas.Option.{get_or_from_slice_get, slice_get-map, slice_get_within}
 use Rattle.std.proofs.lemmas.List.Edits.{map_over_more}
 
-pub keeps_shown : (b v w n : Knowledge) → Keeps b v → w ≡ with_note v n → Keeps b w
-keeps_shown b v w n k is = subst (Keeps b) (sym is) (record { holding = k.holding; live = k.live; known = k.known; opens = k.opens; config = k.config; all = k.all; owners = k.owners; over = k.over; stopper = k.stopper })
+pub keeps_shown : (b v w n : Knowledge) → CloserKeeps b v → w ≡ with_note v n → CloserKeeps b w
+keeps_shown b v w n k is = subst (CloserKeeps b) (sym is) (record { holding = k.holding; live = k.live; known = k.known; opens = k.opens; config = k.config; all = k.all; owners = k.owners; over = k.over; stopper = k.stopper })
 
-pub end_known_by : (b v w : Knowledge) → Keeps b v → IsKnownAtEnd v.config v.all v.owners v.over v.stopper w → IsKnownAtEnd b.config b.all b.owners b.over b.stopper w
+pub end_known_by : (b v w : Knowledge) → CloserKeeps b v → IsKnownAtEnd v.config v.all v.owners v.over v.stopper w → IsKnownAtEnd b.config b.all b.owners b.over b.stopper w
 end_known_by b v w k t = subst (λ (y : Config × List Entry × List ℕ × Bool × ℕ). IsKnownAtEnd y.0 y.1 y.2 y.3 y.4 w) (λ i. (k.config i, k.all i, k.owners i, k.over i, k.stopper i)) t
 
 -- what the one who has the desk knows of a seat
 abbrev pub KnowsItsEnd : Knowledge → SeatSight → Type 0
 KnowsItsEnd b s = IsKnownAtEnd b.config b.all b.owners b.over b.stopper s.me × IsSound s.me × (s.me.config ≡ b.config)
 
-pub gathered : (c : Config) (n : ℕ) (d : CellStateSight) (v w : Knowledge) (xs now : List SeatSight) (i : ℕ) → IsTaken v d w → v.config ≡ c → v.seats ≡ n
+pub gathered : (c : Config) (n : ℕ) (d : CellStateSight) (v w : Knowledge) (xs now : List SeatSight) (i : ℕ) → IsStateTaken v d w → v.config ≡ c → v.seats ≡ n
     → now ≡ map ended_sight (take i xs) ++ drop i xs → length xs ≤ i
     → AllSeats (λ s. KnowsItsEnd w (ended_sight s)) (take i xs) → Gathered c n d now
 gathered c n d v w xs now i t config seats is whole all =
@@ -89,7 +89,7 @@ seam_read f xs now i d h is = ap (λ l. get_or l i d) is ∙ seam_at f xs i d h
 
 -- one turn of the loop
 pub one_more_seat : (b v w : Knowledge) (xs seats : List SeatSight) (i : ℕ) (item new : SeatSight) → i < length xs → seats ≡ map ended_sight (take i xs) ++ drop i xs → item ≡ get_or seats i item
-    → new ≡ ended_sight item → Keeps b v → IsKnownAtEnd v.config v.all v.owners v.over v.stopper new.me → IsSound new.me → item.me.config ≡ b.config
+    → new ≡ ended_sight item → CloserKeeps b v → IsKnownAtEnd v.config v.all v.owners v.over v.stopper new.me → IsSound new.me → item.me.config ≡ b.config
     → AllSeats (λ s. KnowsItsEnd b (ended_sight s)) (take i xs)
     → (set seats i new ≡ map ended_sight (take (i + 1) xs) ++ drop (i + 1) xs) × AllSeats (λ s. KnowsItsEnd b (ended_sight s)) (take (i + 1) xs)
 one_more_seat b v w xs seats i item new lt is at now keeps end_known sound config all =

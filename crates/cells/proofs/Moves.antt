@@ -11,9 +11,9 @@ use Rattle.atomic_table.proofs.Lists.{at_set}
 use Rattle.types.specs.declared.event.Event.{Event}
 use Rattle.protocol.specs.Hosts.{Config, Entry}
 use Rattle.cells.specs.declared.refusal.CellRefusal.{CellRefusal}
-use Rattle.cells.specs.Receipts.{AppliedEvent, Extract, entry_of, extract, extract_of, extracts_from, extracts_of}
-use Rattle.cells.specs.Views.{Denial, CellStateSight, Knowledge, nobody}
-use Rattle.cells.specs.Rule.{opener, after_opening, one_more, seat_of, fresh, after_end, note_of, closer_of, with_note, cell_state_at, AllBelow, History, World, Claims, Has, Fits, AllFit, IsOpen, Holds, IsEmpty, after_taking, IsTaken, Agrees, after_application, denial, after_denial, after_look, after_stop, HasCellState}
+use Rattle.cells.specs.Receipts.{AppliedEvent, Extract, extract, extract_of, extracts_from, extracts_of, receipt_entry}
+use Rattle.cells.specs.Views.{Denial, CellStateSight, Knowledge, nothing_known}
+use Rattle.cells.specs.Rule.{opener, after_opening, one_more, seat_of, new_seat, after_end, note_of, closer_of, with_note, cell_state_at, AllBelow, CellHistory, World, Claims, Has, FitsWorld, AllFit, IsOpen, Holds, IsEmpty, after_taking, IsStateTaken, Agrees, after_application, denial, after_denial, after_look, after_stop, HasCellState}
 
 off : {A : Type 0} → false ≡ true → A
 off e = absurd (true≢false (sym e))
@@ -48,7 +48,7 @@ only v views id is at = go id (subst (λ (l : List Knowledge). get_elem? l id �
 
 -- a view that has and claims nothing fits
 fits_idle : (g : World) (id : ℕ) (v : Knowledge) → v.opening ≡ false → v.opens ≡ false → v.live ≡ false → v.claims ≡ false → v.holding ≡ false
-    → (v.known ≡ true → (v.config ≡ g.past.config) × (v.seats ≡ g.past.seats)) → Fits g id v
+    → (v.known ≡ true → (v.config ≡ g.past.config) × (v.seats ≡ g.past.seats)) → FitsWorld g id v
 fits_idle g id v opening opens live claims holding known = record {
   opening = opening;
   opens = λ l. off (sym opens ∙ l);
@@ -118,8 +118,8 @@ opens id v config seats opening items views room h at =
     (λ (w : (g : World) × IsOpen g items views). off (sym (w.1.fit id v at).opening ∙ opening))
     h
   where
-    one : (u : Knowledge) (j : ℕ) → get_elem? (after_opening config seats ∷ []) j ≡ some u → Fits (first_world config seats) j u
-    one u zero e = subst (Fits (first_world config seats) 0) (some-injective (after_opening config seats) u e) (record {
+    one : (u : Knowledge) (j : ℕ) → get_elem? (after_opening config seats ∷ []) j ≡ some u → FitsWorld (first_world config seats) j u
+    one u zero e = subst (FitsWorld (first_world config seats) 0) (some-injective (after_opening config seats) u e) (record {
       opening = refl;
       opens = λ _. (refl, refl);
       known = λ _. (refl, refl);
@@ -133,7 +133,7 @@ below_more : (m n : ℕ) (os : List ℕ) → m ≤ n → AllBelow m os → AllBe
 below_more m n os le all k d lt = omega (arith, le, all k d lt)
 
 -- what a view claims of a seat stays where that part of it stays
-same_claims : (h : History) (u w : Knowledge) → w.number ≡ u.number → w.seen ≡ u.seen → w.stopped ≡ u.stopped → w.receipts ≡ u.receipts → w.stops ≡ u.stops → w.closed ≡ u.closed → Claims h u → Claims h w
+same_claims : (h : CellHistory) (u w : Knowledge) → w.number ≡ u.number → w.seen ≡ u.seen → w.stopped ≡ u.stopped → w.receipts ≡ u.receipts → w.stops ≡ u.stops → w.closed ≡ u.closed → Claims h u → Claims h w
 same_claims h u w number seen stopped receipts stops closed c = record {
   made = subst (λ (n : ℕ). n < h.made) (sym number) c.made;
   seen = subst (λ (l : List Entry). IsPrefix l h.entries) (sym seen) c.seen;
@@ -144,7 +144,7 @@ same_claims h u w number seen stopped receipts stops closed c = record {
 }
 
 -- the cell state is taken
-pub takes : (id : ℕ) (v : Knowledge) → v.known ≡ true → v.holding ≡ false → Pops Holds id v (λ x w. IsTaken v x w)
+pub takes : (id : ℕ) (v : Knowledge) → v.known ≡ true → v.holding ≡ false → Pops Holds id v (λ x w. IsStateTaken v x w)
 takes id v known away x items views h at =
     let world = past_opening (x ∷ items) views id v h at known in
     let g : World = world.0 in
@@ -169,7 +169,7 @@ takes id v known away x items views h at =
           owned = o.owned;
           stopper = o.stopper;
           made = o.made;
-          fit = all_set (Fits g') views id w
+          fit = all_set (FitsWorld g') views id w
               (record {
                 opening = f.opening;
                 opens = f.opens;
@@ -221,11 +221,11 @@ extracts_others config by o os e es len apart =
     ∙ ap (λ (b : Bool). extracts_of config by os es ++ (if b then extract config es e ∷ [] else [])) (ne_eqb o by apart)
     ∙ append-nil (extracts_of config by os es)
 
-abbrev grown : History → ℕ → Entry → History
+abbrev grown : CellHistory → ℕ → Entry → CellHistory
 grown h by e = record h { entries = h.entries ++ e ∷ []; owners = h.owners ++ by ∷ [] }
 
 -- what is said of another seat stays, where there is no mark
-others_grow : (h : History) (by : ℕ) (e : Entry) (u : Knowledge) → h.over ≡ false → length h.owners ≡ length h.entries → u.number ≢ by → Claims h u → Claims (grown h by e) u
+others_grow : (h : CellHistory) (by : ℕ) (e : Entry) (u : Knowledge) → h.over ≡ false → length h.owners ≡ length h.entries → u.number ≢ by → Claims h u → Claims (grown h by e) u
 others_grow h by e u running len apart c = record {
   made = c.made;
   seen = prefix_more u.seen h.entries e c.seen;
@@ -236,7 +236,7 @@ others_grow h by e u running len apart c = record {
 }
 
 -- another seat that is live or noted has another number
-another : (g : World) (id : ℕ) (v : Knowledge) (j : ℕ) (u : Knowledge) → HasCellState v → Fits g id v → Fits g j u → j ≢ id → (u.live ≡ true) ⊎ (u.claims ≡ true) → u.number ≢ v.number
+another : (g : World) (id : ℕ) (v : Knowledge) (j : ℕ) (u : Knowledge) → HasCellState v → FitsWorld g id v → FitsWorld g j u → j ≢ id → (u.live ≡ true) ⊎ (u.claims ≡ true) → u.number ≢ v.number
 another g id v j u s f k apart is same =
     ⊎_elim
     (λ (l : u.live ≡ true). apart ((k.live l).0 ∙ ap g.home same ∙ sym (f.live s.live).0))
@@ -250,11 +250,11 @@ abbrev back : Knowledge → List Entry → Bool → List AppliedEvent → List D
 back v seen stop receipts denials stops = record v { holding = false; seen = seen; stopped = stop; receipts = receipts; denials = denials; stops = stops }
 
 -- what was done, with another journal or another mark
-abbrev renewed : History → List Entry → List ℕ → Bool → ℕ → History
+abbrev renewed : CellHistory → List Entry → List ℕ → Bool → ℕ → CellHistory
 renewed h entries owners over stopper = record h { entries = entries; owners = owners; over = over; stopper = stopper }
 
 -- the cell state with that history fits it, and so does what was claimed
-record IsBack (past : History) (v : Knowledge) (x : CellStateSight) (w : Knowledge) (now : History) : Type 0 where
+record IsBack (past : CellHistory) (v : Knowledge) (x : CellStateSight) (w : Knowledge) (now : CellHistory) : Type 0 where
   cell_state : x ≡ cell_state_at now.config now.seats now.entries now.over
   paired : length now.owners ≡ length now.entries
   owned : AllBelow now.made now.owners
@@ -264,8 +264,8 @@ record IsBack (past : History) (v : Knowledge) (x : CellStateSight) (w : Knowled
 
 -- a seat puts the cell state back with what this makes of the history, if it fits whatever world is open
 gives : (id : ℕ) (v : Knowledge) (x : CellStateSight) (seen : List Entry) (stop : Bool) (receipts : List AppliedEvent) (denials : List Denial) (stops : ℕ)
-    (entries : History → List Entry) (owners : History → List ℕ) (over : History → Bool) (stopper : History → ℕ) → HasCellState v
-    → ((g : World) (items : List CellStateSight) (views : List Knowledge) → IsOpen g items views → Fits g id v → Has g id v → Claims g.past v
+    (entries : CellHistory → List Entry) (owners : CellHistory → List ℕ) (over : CellHistory → Bool) (stopper : CellHistory → ℕ) → HasCellState v
+    → ((g : World) (items : List CellStateSight) (views : List Knowledge) → IsOpen g items views → FitsWorld g id v → Has g id v → Claims g.past v
     → IsBack g.past v x (back v seen stop receipts denials stops) (renewed g.past (entries g.past) (owners g.past) (over g.past) (stopper g.past)))
     → Pushes Holds 1 id v x (λ w. w ≡ back v seen stop receipts denials stops)
 gives id v x seen stop receipts denials stops entries owners over stopper s fits items views room h at =
@@ -287,7 +287,7 @@ gives id v x seen stop receipts denials stops entries owners over stopper s fits
           owned = b.owned;
           stopper = b.stopper;
           made = o.made;
-          fit = all_set (Fits g') views id w
+          fit = all_set (FitsWorld g') views id w
               (record {
                 opening = f.opening;
                 opens = f.opens;
@@ -310,9 +310,9 @@ gives id v x seen stop receipts denials stops entries owners over stopper s fits
       refl,
     )
 
-pub adds : (id : ℕ) (v : Knowledge) (r : AppliedEvent) → HasCellState v → v.over ≡ false → extract_of r ≡ extract v.config v.all (entry_of r) → Pushes Holds 1 id v (cell_state_at v.config v.seats (v.all ++ entry_of r ∷ []) v.over) (λ w. w ≡ after_application v r)
+pub adds : (id : ℕ) (v : Knowledge) (r : AppliedEvent) → HasCellState v → v.over ≡ false → extract_of r ≡ extract v.config v.all (receipt_entry r) → Pushes Holds 1 id v (cell_state_at v.config v.seats (v.all ++ receipt_entry r ∷ []) v.over) (λ w. w ≡ after_application v r)
 adds id v r s running is =
-    let e : Entry = entry_of r in
+    let e : Entry = receipt_entry r in
     gives id v (cell_state_at v.config v.seats (v.all ++ e ∷ []) v.over) (v.all ++ e ∷ []) v.over (v.receipts ++ r ∷ []) v.denials v.stops
     (λ past. past.entries ++ e ∷ []) (λ past. past.owners ++ v.number ∷ []) (λ past. past.over) (λ past. past.stopper) s
     (λ g items views o f has c.
@@ -421,7 +421,7 @@ sits id v opens known live claims holding room items views h at =
       stops = k.stops;
       ended = k.ended ∙ sym (ap (λ (b : Bool). if b then false else g.past.ended u.number) (ne_eqb u.number g.past.made (λ e. let a = k.made in absurd (omega arith))));
     } in
-    let same : seat_of v ≡ fresh g.past.config g.past.seats g.past.made = λ i. fresh ((f.known known).0 i) ((f.known known).1 i) (made i) in
+    let same : seat_of v ≡ new_seat g.past.config g.past.seats g.past.made = λ i. new_seat ((f.known known).0 i) ((f.known known).1 i) (made i) in
     inr (
       g',
       record {
@@ -431,7 +431,7 @@ sits id v opens known live claims holding room items views h at =
         owned = below_more g.past.made (suc g.past.made) g.past.owners (omega arith) o.owned;
         stopper = λ t. let a = o.stopper t in omega arith;
         made = let a = (f.known known).1 in omega arith;
-        fit = all_forked (Fits g') views id (one_more v) (seat_of v)
+        fit = all_forked (FitsWorld g') views id (one_more v) (seat_of v)
             (record {
               opening = f.opening;
               opens = λ _. ((f.opens opens).0, ap suc made);
@@ -500,7 +500,7 @@ ends id v live claims holding opens known items views h at =
     inr (
       g',
       open_seated g gone items views (set views id (after_end v) ++ note_of v ∷ []) o
-          (all_forked (Fits g') views id (after_end v) (note_of v)
+          (all_forked (FitsWorld g') views id (after_end v) (note_of v)
           (record {
             opening = f.opening;
             opens = f.opens;
@@ -538,11 +538,11 @@ closes id v known items views h at =
     inr (
       g,
       open_seated g g.past.ended items views (set views id v ++ closer_of v ∷ []) o
-          (all_forked (Fits g) views id v (closer_of v) f (fits_idle g (length (set views id v)) (closer_of v) refl refl refl refl refl (λ _. f.known known)) (λ j u apart e. o.fit j u e)),
+          (all_forked (FitsWorld g) views id v (closer_of v) f (fits_idle g (length (set views id v)) (closer_of v) refl refl refl refl refl (λ _. f.known known)) (λ j u apart e. o.fit j u e)),
     )
 
 -- the closer takes a note in
-pub shows : (id : ℕ) (v : Knowledge) (other : ℕ) (n : Knowledge) → v.known ≡ true → v.live ≡ false → v.opens ≡ false → n.claims ≡ true → Merges Holds id v other n (with_note v n) nobody
+pub shows : (id : ℕ) (v : Knowledge) (other : ℕ) (n : Knowledge) → v.known ≡ true → v.live ≡ false → v.opens ≡ false → n.claims ≡ true → Merges Holds id v other n (with_note v n) nothing_known
 shows id v other n known live opens claims items views h at apart there =
     let world = past_opening items views id v h at known in
     let g : World = world.0 in
@@ -551,7 +551,7 @@ shows id v other n known live opens claims items views h at apart there =
     let w : Knowledge = with_note v n in
     let was : get_elem? views other ≡ some n = ⊎_elim (λ (t : (other ≡ id) × (w ≡ n)). absurd (apart t.0)) (λ (t : (other ≢ id) × (get_elem? views other ≡ some n)). t.1) (at_set views id other w n there) in
     let k = (o.fit other n was).claims claims in
-    let with_note : AllFit g (set views id w) = all_set (Fits g) views id w
+    let with_note : AllFit g (set views id w) = all_set (FitsWorld g) views id w
     (record {
       opening = f.opening;
       opens = λ l. off (sym opens ∙ l);
@@ -563,8 +563,8 @@ shows id v other n known live opens claims items views h at apart there =
     (λ j u _ e. o.fit j u e) in
     inr (
       g,
-      open_seated g g.past.ended items views (set (set views id w) other nobody) o
-          (all_set (Fits g) (set views id w) other nobody (fits_idle g other nobody refl refl refl refl refl (λ l. off l)) (λ j u _ e. with_note j u e)),
+      open_seated g g.past.ended items views (set (set views id w) other nothing_known) o
+          (all_set (FitsWorld g) (set views id w) other nothing_known (fits_idle g other nothing_known refl refl refl refl refl (λ l. off l)) (λ j u _ e. with_note j u e)),
     )
 
 -- the cell state that the closer has agrees with the note

@@ -14,11 +14,11 @@ use Rattle.types.specs.declared.event.Event.{Event}
 use Rattle.types.specs.declared.event.Out.{Out}
 use Rattle.protocol.specs.Hosts.{Config, Entry}
 use Rattle.cells.specs.declared.refusal.CellRefusal.{CellRefusal}
-use Rattle.cells.specs.Receipts.{AppliedEvent, Extract, entry_of, extract, extract_of, receipt}
+use Rattle.cells.specs.Receipts.{AppliedEvent, Extract, extract, extract_of, receipt, receipt_entry}
 use Rattle.cells.specs.Views.{Denial, CellStateSight, Knowledge}
-use Rattle.cells.specs.Rule.{HasCellState, Holds, denial, IsTaken, after_application, after_denial, after_look, after_stop, cell_state_at, fresh}
+use Rattle.cells.specs.Rule.{HasCellState, Holds, denial, IsStateTaken, after_application, after_denial, after_look, after_stop, cell_state_at, new_seat}
 use Rattle.cells.specs.Sights.{SeatSight}
-use Rattle.cells.specs.Sounds.{Stands, IsRight, IsWhy, AllStand, AllRight, IsRising, IsSound, IsFree, IsSeat}
+use Rattle.cells.specs.Sounds.{Stands, IsRight, IsWhy, AllStand, AllRight, RisesFrom, IsSound, IsFree, IsSeat}
 use Rattle.cells.specs.Cells.{AllFresh, IsSeatOf}
 use Rattle.hoststep.proofs.Growing.{slice_get-snoc}
 use Rattle.cells.proofs.Moves.{looks, stops}
@@ -61,14 +61,14 @@ right_more config a b s t (d ∷ ds) p up r =
 all_more : {X : Type 0} (P : X → Type 0) (xs : List X) (x : X) → AllByRecursion P xs → P x → AllByRecursion P (xs ++ x ∷ [])
 all_more P xs x all one = recursion_from_All P (xs ++ x ∷ []) (All-push P xs x (All-from_recursion P xs all) one)
 
-rising_snoc : (config : Config) (a : List Entry) (n : ℕ) (rs : List AppliedEvent) (r : AppliedEvent) → IsRising n rs → AllStand config a rs → n ≤ r.number → length a ≤ r.number → IsRising n (rs ++ r ∷ [])
+rising_snoc : (config : Config) (a : List Entry) (n : ℕ) (rs : List AppliedEvent) (r : AppliedEvent) → RisesFrom n rs → AllStand config a rs → n ≤ r.number → length a ≤ r.number → RisesFrom n (rs ++ r ∷ [])
 rising_snoc config a n [] r up all le far = (le, tt)
 rising_snoc config a n (x ∷ xs) r up all le far =
     let within : x.number < length a = slice_get_within a x.number all.0.0 all.0.1 in
     (up.0, rising_snoc config a (suc x.number) xs r up.1 all.1 (omega arith) far)
 
 -- what a seat claims is right of all that it sees at the cell state
-sound_seen : (v : Knowledge) (x : CellStateSight) (w : Knowledge) (over : Bool) (stops : ℕ) → IsFree v → IsSound v → IsTaken v x w → (v.stopped ≡ true → over ≡ true)
+sound_seen : (v : Knowledge) (x : CellStateSight) (w : Knowledge) (over : Bool) (stops : ℕ) → IsFree v → IsSound v → IsStateTaken v x w → (v.stopped ≡ true → over ≡ true)
     → IsSound (record w { holding = false; seen = w.all; stopped = over; stops = stops })
 sound_seen v x w over stops f s t up =
     let config : w.config ≡ v.config = ap (λ (u : Knowledge). u.config) t.now in
@@ -77,12 +77,12 @@ sound_seen v x w over stops f s t up =
     let p = t.seen f.live in
     record {
       stand = subst (λ (y : Config × List AppliedEvent). AllStand y.0 w.all y.1) (λ i. (sym config i, sym receipts i)) (stand_more v.config v.seen w.all v.receipts p s.stand);
-      rising = subst (λ (l : List AppliedEvent). IsRising 0 l) (sym receipts) s.rising;
+      rising = subst (λ (l : List AppliedEvent). RisesFrom 0 l) (sym receipts) s.rising;
       right = subst (λ (y : Config × List Denial). AllRight y.0 w.all over y.1) (λ i. (sym config i, sym denials i)) (right_more v.config v.seen w.all v.stopped over v.denials p up s.right);
     }
 
 -- a refusal
-sound_denied : (v : Knowledge) (x : CellStateSight) (w : Knowledge) (event : Event) (refusal : CellRefusal) → IsFree v → IsSound v → IsTaken v x w → IsWhy x.log.config x.log.entries x.stopped event refusal → IsSound (after_denial w event refusal)
+sound_denied : (v : Knowledge) (x : CellStateSight) (w : Knowledge) (event : Event) (refusal : CellRefusal) → IsFree v → IsSound v → IsStateTaken v x w → IsWhy x.log.config x.log.entries x.stopped event refusal → IsSound (after_denial w event refusal)
 sound_denied v x w event refusal f s t why =
     let all : w.all ≡ x.log.entries = ap (λ (u : Knowledge). u.all) t.now in
     let over : w.over ≡ x.stopped = ap (λ (u : Knowledge). u.over) t.now in
@@ -92,9 +92,9 @@ sound_denied v x w event refusal f s t why =
     record { stand = before.stand; rising = before.rising; right = all_more (IsRight w.config w.all w.over) w.denials (denial event refusal (length w.all)) before.right one }
 
 -- an application
-sound_added : (v : Knowledge) (x : CellStateSight) (w : Knowledge) (r : AppliedEvent) → IsFree v → IsSound v → IsTaken v x w → extract_of r ≡ extract w.config w.all (entry_of r) → IsSound (after_application w r)
+sound_added : (v : Knowledge) (x : CellStateSight) (w : Knowledge) (r : AppliedEvent) → IsFree v → IsSound v → IsStateTaken v x w → extract_of r ≡ extract w.config w.all (receipt_entry r) → IsSound (after_application w r)
 sound_added v x w r f s t made =
-    let e : Entry = entry_of r in
+    let e : Entry = receipt_entry r in
     let number : r.number ≡ length w.all = ap (λ (y : Extract). y.number) made in
     let front : take r.number (w.all ++ e ∷ []) ≡ w.all = ap (λ (n : ℕ). take n (w.all ++ e ∷ [])) number ∙ take-append_seam w.all (e ∷ []) in
     let here : Stands w.config (w.all ++ e ∷ []) r = (e, ap (slice_get (w.all ++ e ∷ [])) number ∙ get_last w.all e, made ∙ ap (λ (l : List Entry). extract w.config l e) (sym front)) in
@@ -109,7 +109,7 @@ sound_added v x w r f s t made =
 abbrev IsBack : Knowledge → Knowledge → Type 0
 IsBack w u = (u.number ≡ w.number) × (u.known ≡ w.known) × (u.live ≡ w.live) × (u.claims ≡ w.claims) × (u.opens ≡ w.opens) × (u.holding ≡ false)
 
-seat_back : (p q r : Pass CellStateSight Knowledge) (n : ℕ) (rs now : List AppliedEvent) (x : CellStateSight) (u : Knowledge) → IsSeat p n rs → IsTaken (view p) x (view q) → q.me.1 ≡ p.me.1 → r.me.1 ≡ q.me.1
+seat_back : (p q r : Pass CellStateSight Knowledge) (n : ℕ) (rs now : List AppliedEvent) (x : CellStateSight) (u : Knowledge) → IsSeat p n rs → IsStateTaken (view p) x (view q) → q.me.1 ≡ p.me.1 → r.me.1 ≡ q.me.1
     → view r ≡ u → IsBack (view q) u → (gone : List AppliedEvent) → u.receipts ≡ gone ++ now → IsSound u → IsSeat r n now
 seat_back p q r n rs now x u s t one two is same gone receipts sound =
     let f = s.free in
@@ -130,51 +130,51 @@ seat_back p q r n rs now x u s t one two is same gone receipts sound =
     }
 
 -- the receipts of one that took the cell state
-receipts_there : (p q : Pass CellStateSight Knowledge) (n : ℕ) (rs : List AppliedEvent) (x : CellStateSight) → (s : IsSeat p n rs) → IsTaken (view p) x (view q) → (view q).receipts ≡ s.gone ++ rs
+receipts_there : (p q : Pass CellStateSight Knowledge) (n : ℕ) (rs : List AppliedEvent) (x : CellStateSight) → (s : IsSeat p n rs) → IsStateTaken (view p) x (view q) → (view q).receipts ≡ s.gone ++ rs
 receipts_there p q n rs x s t = ap (λ (y : Knowledge). y.receipts) t.now ∙ s.receipts
 
-pub seat_denied : (p q r : Pass CellStateSight Knowledge) (n : ℕ) (rs now : List AppliedEvent) (x : CellStateSight) (event : Event) (refusal : CellRefusal) → IsSeat p n rs → IsTaken (view p) x (view q) → q.me.1 ≡ p.me.1 → r.me.1 ≡ q.me.1
+pub seat_denied : (p q r : Pass CellStateSight Knowledge) (n : ℕ) (rs now : List AppliedEvent) (x : CellStateSight) (event : Event) (refusal : CellRefusal) → IsSeat p n rs → IsStateTaken (view p) x (view q) → q.me.1 ≡ p.me.1 → r.me.1 ≡ q.me.1
     → view r ≡ after_denial (view q) event refusal → now ≡ rs → IsWhy x.log.config x.log.entries x.stopped event refusal → IsSeat r n now
 seat_denied p q r n rs now x event refusal s t one two is same why =
     seat_back p q r n rs now x (after_denial (view q) event refusal) s t one two is (refl, refl, refl, refl, refl, refl) s.gone (receipts_there p q n rs x s t ∙ ap (λ (l : List AppliedEvent). s.gone ++ l) (sym same))
     (sound_denied (view p) x (view q) event refusal s.free s.sound t why)
 
-pub seat_added : (p q r : Pass CellStateSight Knowledge) (n : ℕ) (rs now : List AppliedEvent) (x : CellStateSight) (a : AppliedEvent) → IsSeat p n rs → IsTaken (view p) x (view q) → q.me.1 ≡ p.me.1 → r.me.1 ≡ q.me.1
-    → view r ≡ after_application (view q) a → now ≡ rs ++ a ∷ [] → extract_of a ≡ extract (view q).config (view q).all (entry_of a) → IsSeat r n now
+pub seat_added : (p q r : Pass CellStateSight Knowledge) (n : ℕ) (rs now : List AppliedEvent) (x : CellStateSight) (a : AppliedEvent) → IsSeat p n rs → IsStateTaken (view p) x (view q) → q.me.1 ≡ p.me.1 → r.me.1 ≡ q.me.1
+    → view r ≡ after_application (view q) a → now ≡ rs ++ a ∷ [] → extract_of a ≡ extract (view q).config (view q).all (receipt_entry a) → IsSeat r n now
 seat_added p q r n rs now x a s t one two is same made =
     seat_back p q r n rs now x (after_application (view q) a) s t one two is (refl, refl, refl, refl, refl, refl) s.gone
     (ap (λ (l : List AppliedEvent). l ++ a ∷ []) (receipts_there p q n rs x s t) ∙ append_assoc s.gone rs (a ∷ []) ∙ ap (λ (l : List AppliedEvent). s.gone ++ l) (sym same)) (sound_added (view p) x (view q) a s.free s.sound t made)
 
 -- a receipt that was made at the cell state
-pub made_at : (v : Knowledge) (x : CellStateSight) (w : Knowledge) (event : Event) (outs : List Out) (a : AppliedEvent) → IsTaken v x w → a ≡ receipt x.log.config x.log.entries event outs → extract_of a ≡ extract w.config w.all (entry_of a)
+pub made_at : (v : Knowledge) (x : CellStateSight) (w : Knowledge) (event : Event) (outs : List Out) (a : AppliedEvent) → IsStateTaken v x w → a ≡ receipt x.log.config x.log.entries event outs → extract_of a ≡ extract w.config w.all (receipt_entry a)
 made_at v x w event outs a t is =
     let all : x.log.entries ≡ w.all = sym (ap (λ (u : Knowledge). u.all) t.now) in
     let config : x.log.config ≡ w.config = t.config ∙ sym (ap (λ (u : Knowledge). u.config) t.now) in
-    ap extract_of is ∙ (λ i. extract (config i) (all i) (entry_of (sym is i)))
+    ap extract_of is ∙ (λ i. extract (config i) (all i) (receipt_entry (sym is i)))
 
 -- what was seen before is a beginning of what is seen after an application
-pub seen_added : (v : Knowledge) (x : CellStateSight) (w u : Knowledge) (r : AppliedEvent) → IsFree v → IsTaken v x w → u ≡ after_application w r → IsPrefix v.seen u.seen
+pub seen_added : (v : Knowledge) (x : CellStateSight) (w u : Knowledge) (r : AppliedEvent) → IsFree v → IsStateTaken v x w → u ≡ after_application w r → IsPrefix v.seen u.seen
 seen_added v x w u r f t is = let p = t.seen f.live in
-    (p.0 ++ entry_of r ∷ [], sym (append_assoc v.seen p.0 (entry_of r ∷ [])) ∙ ap (λ (l : List Entry). l ++ entry_of r ∷ []) p.1 ∙ sym (ap (λ (y : Knowledge). y.seen) is))
+    (p.0 ++ receipt_entry r ∷ [], sym (append_assoc v.seen p.0 (receipt_entry r ∷ [])) ∙ ap (λ (l : List Entry). l ++ receipt_entry r ∷ []) p.1 ∙ sym (ap (λ (y : Knowledge). y.seen) is))
 
-pub seat_stopped : (p q r : Pass CellStateSight Knowledge) (n : ℕ) (rs : List AppliedEvent) (x : CellStateSight) → IsSeat p n rs → IsTaken (view p) x (view q) → q.me.1 ≡ p.me.1 → r.me.1 ≡ q.me.1
+pub seat_stopped : (p q r : Pass CellStateSight Knowledge) (n : ℕ) (rs : List AppliedEvent) (x : CellStateSight) → IsSeat p n rs → IsStateTaken (view p) x (view q) → q.me.1 ≡ p.me.1 → r.me.1 ≡ q.me.1
     → view r ≡ after_stop (view q) → IsSeat r n rs
 seat_stopped p q r n rs x s t one two is =
     seat_back p q r n rs rs x (after_stop (view q)) s t one two is (refl, refl, refl, refl, refl, refl) s.gone (receipts_there p q n rs x s t)
     (sound_seen (view p) x (view q) true (suc (view q).stops) s.free s.sound t (λ _. refl))
 
 -- one that looked
-pub seat_looked : (p q r : Pass CellStateSight Knowledge) (n : ℕ) (rs : List AppliedEvent) (x : CellStateSight) → IsSeat p n rs → IsTaken (view p) x (view q) → q.me.1 ≡ p.me.1 → r.me.1 ≡ q.me.1
+pub seat_looked : (p q r : Pass CellStateSight Knowledge) (n : ℕ) (rs : List AppliedEvent) (x : CellStateSight) → IsSeat p n rs → IsStateTaken (view p) x (view q) → q.me.1 ≡ p.me.1 → r.me.1 ≡ q.me.1
     → view r ≡ after_look (view q) → IsSeat r n rs
 seat_looked p q r n rs x s t one two is =
     seat_back p q r n rs rs x (after_look (view q)) s t one two is (refl, refl, refl, refl, refl, refl) s.gone (receipts_there p q n rs x s t)
     (sound_seen (view p) x (view q) (view q).over (view q).stops s.free s.sound t (t.stopped s.free.live))
 
 -- what a seat took goes back, with this mark
-given : (v : Knowledge) (x : CellStateSight) (w : Knowledge) (m n : Bool) → IsTaken v x w → m ≡ n → record x { stopped = m } ≡ cell_state_at w.config w.seats w.all n
+given : (v : Knowledge) (x : CellStateSight) (w : Knowledge) (m n : Bool) → IsStateTaken v x w → m ≡ n → record x { stopped = m } ≡ cell_state_at w.config w.seats w.all n
 given v x w m n t same = λ i. cell_state_at ((t.config ∙ sym (ap (λ (u : Knowledge). u.config) t.now)) i) ((t.seats ∙ sym (ap (λ (u : Knowledge). u.seats) t.now)) i) (sym (ap (λ (u : Knowledge). u.all) t.now) i) (same i)
 
-has_taken : (v : Knowledge) (x : CellStateSight) (w : Knowledge) → IsFree v → v.closed ≡ false → IsTaken v x w → HasCellState w
+has_taken : (v : Knowledge) (x : CellStateSight) (w : Knowledge) → IsFree v → v.closed ≡ false → IsStateTaken v x w → HasCellState w
 has_taken v x w f open_yet t = record {
   known = ap (λ (u : Knowledge). u.known) t.now ∙ f.known;
   live = ap (λ (u : Knowledge). u.live) t.now ∙ f.live;
@@ -184,16 +184,16 @@ has_taken v x w f open_yet t = record {
   holding = ap (λ (u : Knowledge). u.holding) t.now;
 }
 
-pub looks_taken : (id : ℕ) (v : Knowledge) (x : CellStateSight) (w : Knowledge) → IsFree v → v.closed ≡ false → IsTaken v x w → Pushes Holds 1 id w x (λ u. u ≡ after_look w)
+pub looks_taken : (id : ℕ) (v : Knowledge) (x : CellStateSight) (w : Knowledge) → IsFree v → v.closed ≡ false → IsStateTaken v x w → Pushes Holds 1 id w x (λ u. u ≡ after_look w)
 looks_taken id v x w f open_yet t =
     subst (λ (y : CellStateSight). Pushes Holds 1 id w y (λ u. u ≡ after_look w)) (sym (given v x w x.stopped w.over t (sym (ap (λ (u : Knowledge). u.over) t.now)))) (looks id w (has_taken v x w f open_yet t))
 
-pub stops_taken : (id : ℕ) (v : Knowledge) (x : CellStateSight) (w : Knowledge) → IsFree v → v.closed ≡ false → IsTaken v x w → Pushes Holds 1 id w (record x { stopped = true }) (λ u. u ≡ after_stop w)
+pub stops_taken : (id : ℕ) (v : Knowledge) (x : CellStateSight) (w : Knowledge) → IsFree v → v.closed ≡ false → IsStateTaken v x w → Pushes Holds 1 id w (record x { stopped = true }) (λ u. u ≡ after_stop w)
 stops_taken id v x w f open_yet t =
     subst (λ (y : CellStateSight). Pushes Holds 1 id w y (λ u. u ≡ after_stop w)) (sym (given v x w true true t refl)) (stops id w (has_taken v x w f open_yet t))
 
 -- a seat that was made just now
-pub seat_fresh : (p : Pass CellStateSight Knowledge) (config : Config) (seats n : ℕ) → p.me.1 ≡ [] → view p ≡ fresh config seats n → IsSeat p n []
+pub seat_fresh : (p : Pass CellStateSight Knowledge) (config : Config) (seats n : ℕ) → p.me.1 ≡ [] → view p ≡ new_seat config seats n → IsSeat p n []
 seat_fresh p config seats n slot is = record {
   no_slot = slot;
   number = ap (λ (y : Knowledge). y.number) is;
@@ -255,12 +255,12 @@ seat_bare p n rs left s none = record {
 -- ---- seats that were made just now
 
 -- one seat more
-pub seats_more : (cell : TableId) (config : Config) (seats : ℕ) (all : List SeatSight) (n : ℕ) (new : SeatSight) → length all ≡ n → new.cell ≡ cell → new.me ≡ fresh config seats n
-    → ((k : ℕ) (s : SeatSight) → slice_get all k ≡ Some s → (s.cell ≡ cell) × (s.me ≡ fresh config seats k))
-    → (k : ℕ) (s : SeatSight) → slice_get (all ++ new ∷ []) k ≡ Some s → (s.cell ≡ cell) × (s.me ≡ fresh config seats k)
+pub seats_more : (cell : TableId) (config : Config) (seats : ℕ) (all : List SeatSight) (n : ℕ) (new : SeatSight) → length all ≡ n → new.cell ≡ cell → new.me ≡ new_seat config seats n
+    → ((k : ℕ) (s : SeatSight) → slice_get all k ≡ Some s → (s.cell ≡ cell) × (s.me ≡ new_seat config seats k))
+    → (k : ℕ) (s : SeatSight) → slice_get (all ++ new ∷ []) k ≡ Some s → (s.cell ≡ cell) × (s.me ≡ new_seat config seats k)
 seats_more cell config seats all n new len at me old k s e =
     ⊎_elim (λ h. old k s h)
-    (λ (h : (k ≡ length all) × (new ≡ s)). (sym (ap (λ (t : SeatSight). t.cell) h.1) ∙ at, sym (ap (λ (t : SeatSight). t.me) h.1) ∙ me ∙ ap (fresh config seats) (sym len ∙ sym h.0)))
+    (λ (h : (k ≡ length all) × (new ≡ s)). (sym (ap (λ (t : SeatSight). t.cell) h.1) ∙ at, sym (ap (λ (t : SeatSight). t.me) h.1) ∙ me ∙ ap (new_seat config seats) (sym len ∙ sym h.0)))
     (slice_get-snoc all new s k e)
 
 -- seats that were made just now are open seats

@@ -10,8 +10,8 @@ use Rattle.protocol.specs.Runs.{outs_given, refusal_of}
 use Rattle.hoststep.specs.Logs.{IsEntered}
 use Rattle.cells.specs.declared.refusal.CellRefusal.{CellRefusal}
 use Rattle.cells.specs.declared.refusal.CellRefusal.TheVariants.{Closed}
-use Rattle.cells.specs.Receipts.{AppliedEvent, entry_of, receipt}
-use Rattle.cells.specs.Rule.{denial, fresh}
+use Rattle.cells.specs.Receipts.{AppliedEvent, receipt, receipt_entry}
+use Rattle.cells.specs.Rule.{denial, new_seat}
 use Rattle.cells.specs.Sights.{CellSight, SeatSight}
 use Rattle.cells.specs.Sounds.{IsWhy}
 use Rattle.cells.specs.Views.{CellStateSight}
@@ -26,14 +26,14 @@ pub record IsSeatOf (c : CellSight) (s : SeatSight) : Type 0 where
 -- seats of this cell, made just now and numbered from 0 on
 abbrev pub AllFresh : TableId → Config → ℕ → List SeatSight → Type 0
 AllFresh cell config seats all =
-    (k : ℕ) (s : SeatSight) → slice_get all k ≡ Some s → (s.cell ≡ cell) × (s.me ≡ fresh config seats k)
+    (k : ℕ) (s : SeatSight) → slice_get all k ≡ Some s → (s.cell ≡ cell) × (s.me ≡ new_seat config seats k)
 
 -- an event was entered in the journal that lies under the lock, and its receipt made
 pub record IsEnteredAt (old : CellStateSight) (event : Event) (r : AppliedEvent) (new : CellStateSight) : Type 0 where
   pub running : old.stopped ≡ false
   pub entered : IsEntered old.log (step_of event) r.outs
   pub made : r ≡ receipt old.log.config old.log.entries event r.outs
-  pub cell_state : new ≡ record old { log = record old.log { entries = old.log.entries ++ entry_of r ∷ [] } }
+  pub cell_state : new ≡ record old { log = record old.log { entries = old.log.entries ++ receipt_entry r ∷ [] } }
 
 -- why an event was not entered; the stop mark comes first
 abbrev pub IsDenied : CellStateSight → Event → CellRefusal → Type 0
@@ -41,14 +41,14 @@ IsDenied d event r = IsWhy d.log.config d.log.entries d.stopped event r × ((r �
 
 -- A seat gained one receipt, of this event with what it gives out after the entries before it, after which it is not
 -- refused, and nothing else but what it saw.
-pub record IsApplied (c : CellSight) (event : Event) (old new : SeatSight) : Type 0 where
+pub record HasGainedReceipt (c : CellSight) (event : Event) (old new : SeatSight) : Type 0 where
   pub before : List Entry
   pub given : List Out
   pub seen_before : IsPrefix old.me.seen before
   pub free : refusal_of c.config before (step_of event) ≡ None
   pub outs : given ≡ outs_given c.config before (step_of event)
   pub receipts : new.me.receipts ≡ old.me.receipts ++ receipt c.config before event given ∷ []
-  pub seen : new.me.seen ≡ before ++ entry_of (receipt c.config before event given) ∷ []
+  pub seen : new.me.seen ≡ before ++ receipt_entry (receipt c.config before event given) ∷ []
   pub denials : new.me.denials ≡ old.me.denials
   pub stops : new.me.stops ≡ old.me.stops
   pub let_go : new.let_go ≡ old.let_go

@@ -54,7 +54,7 @@ pub record IsOneHistory (n : ℕ) (j : Log) (seats : List SeatSight) : Type 0 wh
   pub stops : AllSeats (λ s. s.me.stopped ≡ true → (i : ℕ) × (t : SeatSight) × (slice_get seats i ≡ Some t) × (0 < t.me.stops)) seats
 
 -- the closer has the cell state still
-pub record Keeps (before after : Knowledge) : Type 0 where
+pub record CloserKeeps (before after : Knowledge) : Type 0 where
   pub holding : after.holding ≡ true
   pub live : after.live ≡ false
   pub known : after.known ≡ true

@@ -35,8 +35,8 @@ receipt config before event outs = record {
 }
 
 -- the entry that a receipt is of
-abbrev pub entry_of : AppliedEvent → Entry
-entry_of r = record { event = step_of r.event; outs = r.outs }
+abbrev pub receipt_entry : AppliedEvent → Entry
+receipt_entry r = record { event = step_of r.event; outs = r.outs }
 
 -- what a receipt has, without the event's bytes
 abbrev pub extract_of : AppliedEvent → Extract

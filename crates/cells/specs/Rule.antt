@@ -7,27 +7,27 @@ use lib.ListN.{get_elem?}
 use Rattle.types.specs.declared.event.Event.{Event}
 use Rattle.protocol.specs.Hosts.{Config, Entry}
 use Rattle.cells.specs.declared.refusal.CellRefusal.{CellRefusal}
-use Rattle.cells.specs.Receipts.{AppliedEvent, entry_of, extract_of, extracts_of}
-use Rattle.cells.specs.Views.{Denial, CellStateSight, Knowledge, nobody}
+use Rattle.cells.specs.Receipts.{AppliedEvent, extract_of, extracts_of, receipt_entry}
+use Rattle.cells.specs.Views.{Denial, CellStateSight, Knowledge, nothing_known}
 
 -- what the pass knows with which a lock begins
 abbrev pub opener : Knowledge
-opener = record nobody { opening = true }
+opener = record nothing_known { opening = true }
 
 -- once the cell state is there, it makes the seats
 abbrev pub after_opening : Config → ℕ → Knowledge
-after_opening config seats = record nobody { opens = true; known = true; config = config; seats = seats }
+after_opening config seats = record nothing_known { opens = true; known = true; config = config; seats = seats }
 
 -- what the pass that makes seats knows once it has made one more
 abbrev pub one_more : Knowledge → Knowledge
 one_more v = record v { made = suc v.made }
 
-abbrev pub fresh : Config → ℕ → ℕ → Knowledge
-fresh config seats number = record nobody { known = true; live = true; config = config; seats = seats; number = number }
+abbrev pub new_seat : Config → ℕ → ℕ → Knowledge
+new_seat config seats number = record nothing_known { known = true; live = true; config = config; seats = seats; number = number }
 
 -- what the next seat knows that is made
 abbrev pub seat_of : Knowledge → Knowledge
-seat_of v = fresh v.config v.seats v.made
+seat_of v = new_seat v.config v.seats v.made
 
 -- what a seat knows that has ended
 abbrev pub after_end : Knowledge → Knowledge
@@ -39,7 +39,7 @@ note_of v = record v { live = false; claims = true; closed = true }
 
 -- what the pass knows that closes a cell
 abbrev pub closer_of : Knowledge → Knowledge
-closer_of v = record nobody { known = true; config = v.config; seats = v.seats }
+closer_of v = record nothing_known { known = true; config = v.config; seats = v.seats }
 
 -- what the closer knows with a note
 abbrev pub with_note : Knowledge → Knowledge → Knowledge
@@ -64,7 +64,7 @@ abbrev pub AllBelow : ℕ → List ℕ → Type 0
 AllBelow n os = All (λ o. o < n) os
 
 -- what was done, and who did it
-pub record History : Type 0 where
+pub record CellHistory : Type 0 where
   pub config : Config
   pub seats : ℕ
   pub entries : List Entry
@@ -75,14 +75,14 @@ pub record History : Type 0 where
   pub ended : ℕ → Bool
 
 pub record World : Type 0 where
-  pub past : History
+  pub past : CellHistory
   pub home : ℕ → ℕ
   pub free : Bool
   pub holder : ℕ
   pub opener : ℕ
 
 -- what a seat's own view, or a note of it, says of the seat
-pub record Claims (h : History) (v : Knowledge) : Type 0 where
+pub record Claims (h : CellHistory) (v : Knowledge) : Type 0 where
   pub made : v.number < h.made
   pub seen : IsPrefix v.seen h.entries
   -- who saw the mark saw all there is, and nothing is added to it
@@ -100,7 +100,7 @@ pub record Has (g : World) (id : ℕ) (v : Knowledge) : Type 0 where
   pub over : v.over ≡ g.past.over
   pub stopper : v.stopper ≡ g.past.stopper
 
-pub record Fits (g : World) (id : ℕ) (v : Knowledge) : Type 0 where
+pub record FitsWorld (g : World) (id : ℕ) (v : Knowledge) : Type 0 where
   pub opening : v.opening ≡ false
   pub opens : v.opens ≡ true → (id ≡ g.opener) × (v.made ≡ g.past.made)
   pub known : v.known ≡ true → (v.config ≡ g.past.config) × (v.seats ≡ g.past.seats)
@@ -109,7 +109,7 @@ pub record Fits (g : World) (id : ℕ) (v : Knowledge) : Type 0 where
   pub holding : v.holding ≡ true → Has g id v
 
 abbrev pub AllFit : World → List Knowledge → Type 0
-AllFit g views = (id : ℕ) (v : Knowledge) → get_elem? views id ≡ some v → Fits g id v
+AllFit g views = (id : ℕ) (v : Knowledge) → get_elem? views id ≡ some v → FitsWorld g id v
 
 pub record IsOpen (g : World) (items : List CellStateSight) (views : List Knowledge) : Type 0 where
   pub there : g.free ≡ true → items ≡ cell_state_at g.past.config g.past.seats g.past.entries g.past.over ∷ []
@@ -134,7 +134,7 @@ after_taking v all over owners stopper =
     record v { holding = true; all = all; over = over; owners = owners; stopper = stopper }
 
 -- the cell state was taken: what its taker knows from now on, which begins with all that it had seen
-pub record IsTaken (v : Knowledge) (x : CellStateSight) (w : Knowledge) : Type 0 where
+pub record IsStateTaken (v : Knowledge) (x : CellStateSight) (w : Knowledge) : Type 0 where
   pub config : x.log.config ≡ v.config
   pub seats : x.seats ≡ v.seats
   pub now : w ≡ after_taking v x.log.entries x.stopped w.owners w.stopper
@@ -159,7 +159,7 @@ Agrees v = IsKnownAtEnd v.config v.all v.owners v.over v.stopper v
 -- what a seat knows after an event was applied
 abbrev pub after_application : Knowledge → AppliedEvent → Knowledge
 after_application v r =
-    record v { holding = false; seen = v.all ++ entry_of r ∷ []; stopped = v.over; receipts = v.receipts ++ r ∷ [] }
+    record v { holding = false; seen = v.all ++ receipt_entry r ∷ []; stopped = v.over; receipts = v.receipts ++ r ∷ [] }
 
 abbrev pub denial : Event → CellRefusal → ℕ → Denial
 denial event refusal n = record { event = event; refusal = refusal; length = n }

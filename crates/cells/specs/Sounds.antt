@@ -41,14 +41,14 @@ abbrev pub AllRight : Config → List Entry → Bool → List Denial → Type 0
 AllRight config entries stopped ds = AllByRecursion (IsRight config entries stopped) ds
 
 -- the numbers rise, from n on
-abbrev pub IsRising : ℕ → List AppliedEvent → Type 0
-IsRising n [] = Unit {0}
-IsRising n (r ∷ rs) = (n ≤ r.number) × IsRising (suc r.number) rs
+abbrev pub RisesFrom : ℕ → List AppliedEvent → Type 0
+RisesFrom n [] = Unit {0}
+RisesFrom n (r ∷ rs) = (n ≤ r.number) × RisesFrom (suc r.number) rs
 
 -- what a seat knows is sound: receipts stand in what was seen, at rising numbers, and denials were right
 pub record IsSound (v : Knowledge) : Type 0 where
   pub stand : AllStand v.config v.seen v.receipts
-  pub rising : IsRising 0 v.receipts
+  pub rising : RisesFrom 0 v.receipts
   pub right : AllRight v.config v.seen v.stopped v.denials
 
 -- a seat that may act

@@ -48,8 +48,8 @@ abbrev pub no_config : Config
 no_config = record { number = 0; nodes = []; budgets = record { events = 0; bytes = 0; slots = 0 }; roster = None }
 
 -- what a pass knows that knows nothing
-abbrev pub nobody : Knowledge
-nobody = record {
+abbrev pub nothing_known : Knowledge
+nothing_known = record {
   opening = false;
   opens = false;
   known = false;

@@ -3,8 +3,8 @@
 ghost use Rattle.std.specs.Prelude.{◌≡◌, ◌⊎◌, true, false, [], ◌∷◌, ◌++◌, MatchOption};
 ghost use Rattle.crossbeam_queue.specs.Fifo.{Pushes};
 ghost use Rattle.crossbeam_queue.specs.Passes.{view, IsSamePass, IsPassOf, ruled_capacity};
-ghost use Rattle.cells.specs.Receipts.{entry_of, extract, extract_of};
-ghost use Rattle.cells.specs.Rule.{Holds, IsTaken, after_application, after_denial, HasCellState, cell_state_at};
+ghost use Rattle.cells.specs.Receipts.{extract, extract_of, receipt_entry};
+ghost use Rattle.cells.specs.Rule.{Holds, IsStateTaken, after_application, after_denial, HasCellState, cell_state_at};
 
 use crate::cell_state::CellState;
 use crate::receipt::Receipt;
@@ -26,7 +26,7 @@ pub(crate) fn try_take<S: Shelf, H: Wait + Drop>(
     requires known { (view pass.old).known ≡ true }
     requires away { (view pass.old).holding ≡ false }
     ensures queue { IsSamePass pass.old pass.new }
-    ensures rule { MatchOption result (view pass.new ≡ view pass.old) (λ x. IsTaken (view pass.old) x (view pass.new)) }
+    ensures rule { MatchOption result (view pass.new ≡ view pass.old) (λ x. IsStateTaken (view pass.old) x (view pass.new)) }
 {
     lock.try_pop_as::<Takes>(pass)
 }
@@ -41,7 +41,7 @@ pub(crate) fn take<S: Shelf, H: Wait + Drop, R: Wait>(
     requires known { (view pass.old).known ≡ true }
     requires away { (view pass.old).holding ≡ false }
     ensures queue { IsSamePass pass.old pass.new }
-    ensures rule { IsTaken (view pass.old) result (view pass.new) }
+    ensures rule { IsStateTaken (view pass.old) result (view pass.new) }
 {
     for _ in rt.forever() {
         if let Some(cell_state) = try_take(lock, pass) {
@@ -82,8 +82,8 @@ pub(crate) fn add<N: Next, S: Shelf, H: Wait + Drop, R: Wait>(
     requires queue { IsPassOf lock.now pass.old × (ruled_capacity lock.now ≡ 1) }
     requires sits { HasCellState (view pass.old) }
     requires running { (view pass.old).over ≡ false }
-    requires cell_state { cell_state ≡ cell_state_at (view pass.old).config (view pass.old).seats ((view pass.old).all ++ entry_of made.now.value ∷ []) (view pass.old).over }
-    requires made { extract_of made.now.value ≡ extract (view pass.old).config (view pass.old).all (entry_of made.now.value) }
+    requires cell_state { cell_state ≡ cell_state_at (view pass.old).config (view pass.old).seats ((view pass.old).all ++ receipt_entry made.now.value ∷ []) (view pass.old).over }
+    requires made { extract_of made.now.value ≡ extract (view pass.old).config (view pass.old).all (receipt_entry made.now.value) }
     requires next { N.next ≡ after_application (view pass.old) made.now.value }
     ensures queue { IsSamePass pass.old pass.new }
     ensures view { view pass.new ≡ after_application (view pass.old) made.now.value }

@@ -15,20 +15,20 @@ pub struct PassKnowledge;
 impl Model for PassKnowledge {
     ghost use Rattle.std.specs.Coded.{codes};
     ghost use Rattle.types.specs.Trees.{members_code};
-    ghost use Rattle.cells.specs.Views.{Knowledge, nobody};
+    ghost use Rattle.cells.specs.Views.{Knowledge, nothing_known};
 
     ghost Value = { Knowledge };
 
     ghost coded = { Prim.hlevel (codes, members_code) };
 
-    ghost view = { λ _. nobody };
+    ghost view = { λ _. nothing_known };
 }
 
 /// The rule of the lock.
 pub struct OneHistory;
 
 impl<S: Shelf, H: Wait + Drop> Protocol<CellState<S, H>, PassKnowledge> for OneHistory {
-    ghost use Rattle.cells.specs.Rule.{opener, Holds};
+    ghost use Rattle.cells.specs.Rule.{Holds, opener};
 
     ghost holds = { Holds };
 
@@ -69,9 +69,9 @@ impl<N: Next, S: Shelf, H: Wait + Drop> Lesson<CellState<S, H>, PassKnowledge> f
 pub struct Takes;
 
 impl<S: Shelf, H: Wait + Drop> Outcome<CellState<S, H>, PassKnowledge> for Takes {
-    ghost use Rattle.cells.specs.Rule.{IsTaken};
+    ghost use Rattle.cells.specs.Rule.{IsStateTaken};
 
-    ghost then = { IsTaken };
+    ghost then = { IsStateTaken };
 }
 
 /// A seat is made.
@@ -112,11 +112,11 @@ pub struct Shows;
 
 impl Join<PassKnowledge> for Shows {
     ghost use Rattle.cells.specs.Rule.{with_note};
-    ghost use Rattle.cells.specs.Views.{nobody};
+    ghost use Rattle.cells.specs.Views.{nothing_known};
 
     ghost both = { with_note };
 
-    ghost spent = { nobody };
+    ghost spent = { nothing_known };
 }
 
 /// The closer compares the note with the cell state that it has.

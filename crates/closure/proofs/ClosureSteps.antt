@@ -15,7 +15,7 @@ use Rattle.protocol.specs.Isolation.{node_rule, announcement_rules, closure}
 use Rattle.protocol.proofs.Sets.Finite.{among_head, among_tail}
 use Rattle.protocol.proofs.Sets.Contained.{contains_head, contains_tail, contained_cases}
 use Rattle.protocol.proofs.Sets.Derived.{least_is}
-use Rattle.closure.specs.Announcing.{AnnouncedSlices, announced_by, announced_in, announced_at, IsNamedBy, MemberList, names_of, AreMembersAt, IsChained, IsClosureList}
+use Rattle.closure.specs.Announcing.{AnnouncedSlices, announced_by, announced_in, announced_at, IsNamedBy, MemberList, member_names, AreMembersAt, IsChained, IsClosureList}
 use Rattle.closure.specs.Announcing.IsNamedBy.{configured, learnt}
 use Rattle.closure.specs.Turns.{AllNamesAreMembers}
 use Rattle.protocol.proofs.Sets.Mapped.{mapped_to, mapped_from}
@@ -249,16 +249,16 @@ module _ (nodes : List HostedNode) (i : ℕ) (run : List Entry) where
 
   -- ---- each member of a chained list is derived
   module _ (v : ℕ) (list : MemberList) (chained : IsChained nodes i v run list) where
-    name_at : (k u : ℕ) → slice_get (names_of list) k ≡ Some u → (m : ℕ × ℕ) × (slice_get list k ≡ Some m) × (m.0 ≡ u)
+    name_at : (k u : ℕ) → slice_get (member_names list) k ≡ Some u → (m : ℕ × ℕ) × (slice_get list k ≡ Some m) × (m.0 ≡ u)
     name_at k u e = go list k e
       where
-        go : (xs : MemberList) (k : ℕ) → slice_get (names_of xs) k ≡ Some u → (m : ℕ × ℕ) × (slice_get xs k ≡ Some m) × (m.0 ≡ u)
+        go : (xs : MemberList) (k : ℕ) → slice_get (member_names xs) k ≡ Some u → (m : ℕ × ℕ) × (slice_get xs k ≡ Some m) × (m.0 ≡ u)
         go [] k e = cc
         go (x ∷ xs) zero e = (x, refl, cc)
         go (x ∷ xs) (suc k) e = go xs k e
 
     -- by the places below a bound
-    derived_below : (b k u : ℕ) → k < b → slice_get (names_of list) k ≡ Some u → Derived rules v u
+    derived_below : (b k u : ℕ) → k < b → slice_get (member_names list) k ≡ Some u → Derived rules v u
     derived_below zero k u l e = absurd (omega arith)
     derived_below (suc b) zero u l e =
         let m = name_at 0 u e in
@@ -271,18 +271,18 @@ module _ (nodes : List HostedNode) (i : ℕ) (run : List Entry) where
     derived_below (suc b) (suc k) u l e =
         let m = name_at (suc k) u e in
         let link = chained.later k m.0 m.1 in
-        let r = ruled (among (take (suc k) (names_of list))) link.namer m.0.0 link.named in
+        let r = ruled (among (take (suc k) (member_names list))) link.namer m.0.0 link.named in
         let before = link.before in
         given r.rule r.known (λ x s. elim (r.sources x s) [
           | inl same ↦ subst (λ w. Derived rules v w) (sym same) (derived_below b m.0.1 link.namer (omega arith) link.there)
-          | inr taken ↦ let p = place_taken (names_of list) (suc k) x taken in let below = p.1 in derived_below b p.0 x (omega arith) p.2
+          | inr taken ↦ let p = place_taken (member_names list) (suc k) x taken in let below = p.1 in derived_below b p.0 x (omega arith) p.2
         ]) (subst (λ w. IsTrue (among r.rule.gives w)) m.2 r.gives)
 
-    pub all_derived : (u : ℕ) → IsTrue (among (names_of list) u) → Derived rules v u
-    all_derived u h = let p = place_among (names_of list) u h in derived_below (suc p.0) p.0 u (omega arith) p.1
+    pub all_derived : (u : ℕ) → IsTrue (among (member_names list) u) → Derived rules v u
+    all_derived u h = let p = place_among (member_names list) u h in derived_below (suc p.0) p.0 u (omega arith) p.1
 
   -- ---- where all is settled, the list is closed
-  all_closed : (v : ℕ) (list : MemberList) → IsAscending (node_names nodes) → IsChained nodes i v run list → AllNamesAreMembers nodes i run (names_of list) (names_of list) → IsClosed rules v (among (names_of list))
+  all_closed : (v : ℕ) (list : MemberList) → IsAscending (node_names nodes) → IsChained nodes i v run list → AllNamesAreMembers nodes i run (member_names list) (member_names list) → IsClosed rules v (among (member_names list))
   all_closed v list up chained settled = record {
     start = first_in list chained.first;
     each = λ r c within u g. elim (contained_either r (map node_rule nodes) (flat_map (λ x. announcement_rules i x.event) run) c) [
@@ -291,34 +291,34 @@ module _ (nodes : List HostedNode) (i : ℕ) (run : List Entry) where
     ];
   }
     where
-      first_in : (xs : MemberList) → slice_get xs 0 ≡ Some (v, 0) → among (names_of xs) v ≡ true
+      first_in : (xs : MemberList) → slice_get xs 0 ≡ Some (v, 0) → among (member_names xs) v ≡ true
       first_in [] e = cc
-      first_in (x ∷ xs) e = let same : x.0 ≡ v = cc in subst (λ w. among (names_of (x ∷ xs)) w ≡ true) same (among_head x.0 (names_of xs))
+      first_in (x ∷ xs) e = let same : x.0 ≡ v = cc in subst (λ w. among (member_names (x ∷ xs)) w ≡ true) same (among_head x.0 (member_names xs))
 
-      by_node : (r : Rule) → Contains (map node_rule nodes) r → AreWithin (among r.sources) (among (names_of list)) → (u : ℕ) → IsTrue (among r.gives u) → among (names_of list) u ≡ true
+      by_node : (r : Rule) → Contains (map node_rule nodes) r → AreWithin (among r.sources) (among (member_names list)) → (u : ℕ) → IsTrue (among r.gives u) → among (member_names list) u ≡ true
       by_node r k within u g =
           let h = mapped_from node_rule nodes r k in
-          let member : among (names_of list) h.0.name ≡ true = subst (λ (x : Rule). AreWithin (among x.sources) (among (names_of list))) (sym h.2) within h.0.name (among_head h.0.name []) in
-          let place = place_among (names_of list) h.0.name member in
+          let member : among (member_names list) h.0.name ≡ true = subst (λ (x : Rule). AreWithin (among x.sources) (among (member_names list))) (sym h.2) within h.0.name (among_head h.0.name []) in
+          let place = place_among (member_names list) h.0.name member in
           settled place.0 h.0.name place.1 u (configured h.0.slices (found_node nodes h.0 up h.1) (subst (λ (x : Rule). IsTrue (among x.gives u)) (sym h.2) g))
 
-      by_announcement : (r : Rule) → Contains (flat_map (λ x. announcement_rules i x.event) run) r → AreWithin (among r.sources) (among (names_of list)) → (u : ℕ) → IsTrue (among r.gives u) → among (names_of list) u ≡ true
+      by_announcement : (r : Rule) → Contains (flat_map (λ x. announcement_rules i x.event) run) r → AreWithin (among r.sources) (among (member_names list)) → (u : ℕ) → IsTrue (among r.gives u) → among (member_names list) u ≡ true
       by_announcement r k within u g =
           let x = from_flat (λ (y : Entry). announcement_rules i y.event) run r k in
           let ruled_by = rule_announced i x.1.event r x.3 in
           let a = ruled_by.announcement in
-          let receiver : among (names_of list) a.receiver ≡ true = within a.receiver ruled_by.is.receiver in
-          let sender : among (names_of list) a.sender ≡ true = within a.sender ruled_by.is.sender in
-          let place = place_among (names_of list) a.sender sender in
+          let receiver : among (member_names list) a.receiver ≡ true = within a.receiver ruled_by.is.receiver in
+          let sender : among (member_names list) a.sender ≡ true = within a.sender ruled_by.is.sender in
+          let place = place_among (member_names list) a.sender sender in
           let at : announced_at run x.0 ≡ Some a = ap announced_in x.2 ∙ ruled_by.by in
           settled place.0 a.sender place.1 u (learnt x.0 a at ruled_by.at refl receiver (subst (λ (ns : List ℕ). IsTrue (among ns u)) ruled_by.is.gives g))
 
   -- a chained list in which all is settled is the closure
-  pub is_closure : (v : ℕ) (list : MemberList) → IsAscending (node_names nodes) → IsChained nodes i v run list → AllNamesAreMembers nodes i run (names_of list) (names_of list) → IsDistinct (λ x y. x == y) (names_of list) → AreMembersAt nodes i v run 0 list → IsClosureList nodes i v run list
+  pub is_closure : (v : ℕ) (list : MemberList) → IsAscending (node_names nodes) → IsChained nodes i v run list → AllNamesAreMembers nodes i run (member_names list) (member_names list) → IsDistinct (λ x y. x == y) (member_names list) → AreMembersAt nodes i v run 0 list → IsClosureList nodes i v run list
   unfolding closure
   is_closure v list up chained settled once in_turn = record {
     chained = chained;
     once = once;
     in_turn = in_turn;
-    exactly = λ u. ap (λ (set : Names). set u) (least_is rules v (among (names_of list)) (all_closed v list up chained settled) (all_derived v list chained));
+    exactly = λ u. ap (λ (set : Names). set u) (least_is rules v (among (member_names list)) (all_closed v list up chained settled) (all_derived v list chained));
   }

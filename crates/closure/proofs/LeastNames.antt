@@ -4,7 +4,7 @@ use Rattle.std.proofs.lemmas.Bool.{cases_lt, or_cases, or_left, or_right, eq-eqb
 use Rattle.std.proofs.lemmas.Bool.Decides.{nat_tests}
 use Rattle.protocol.specs.Sets.{among}
 use Rattle.std.proofs.lemmas.List.Folds.{list_any-append}
-use Rattle.closure.specs.Least.{AreAll, IsLeast, lesser}
+use Rattle.closure.specs.Least.{AreAll, IsLeast, lesser_name}
 use Rattle.closure.proofs.Places.{front_at}
 
 module _ (Bad Good : ℕ → Type 0) where
@@ -35,7 +35,7 @@ module _ (Bad Good : ℕ → Type 0) where
       least = λ w m l. elim (either w m) [ inl k ↦ h.least w k l | inr q ↦ subst Good q e ];
     }
 
-    pub least_moves : (least : Option ℕ) → IsLeastSoFar (take n list) least → Bad x → IsLeastSoFar (take (n + 1) list) (lesser least x)
+    pub least_moves : (least : Option ℕ) → IsLeastSoFar (take n list) least → Bad x → IsLeastSoFar (take (n + 1) list) (lesser_name least x)
     least_moves None h e = record { member = new; bad = e; least = λ w m l. elim (either w m) [ inl k ↦ h w k | inr q ↦ absurd (omega (arith, q, l)) ] }
     least_moves (Some u) h e = go (nat_lt u x) refl
       where

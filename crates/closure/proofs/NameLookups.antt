@@ -16,7 +16,7 @@ use Rattle.types.specs.contracts.node_id.NodeIdOrd.TheImpl.{ghosts as ord}
 use Rattle.types.specs.contracts.node_id.NodeIdPartialEq.TheImpl.{ghosts as equal}
 use Rattle.types.proofs.NameOrder.{name_cmp_is, name_eq_is}
 use Rattle.protocol.specs.Sets.{among}
-use Rattle.closure.specs.Announcing.{names_of}
+use Rattle.closure.specs.Announcing.{member_names}
 use Rattle.closure.specs.Turns.{PartyIndex, IsIndexedTo, found_by, with_member}
 
 -- two lists as one
@@ -50,16 +50,16 @@ order_is k = fun_ext (λ y. ap is_eq (name_cmp_is k y) ∙ same y)
 pub found_in_order : (k : ℕ) (es : List (ℕ × ℕ)) → lookup (is_at (ord.cmp k)) es ≡ found_by es k
 found_in_order k es = ap (λ (t : ℕ → Bool). lookup t es) (order_is k) ∙ found_plain k es
 
-has_plain : (k : ℕ) (es : List (ℕ × ℕ)) → is_some (found_by es k) ≡ among (names_of es) k
+has_plain : (k : ℕ) (es : List (ℕ × ℕ)) → is_some (found_by es k) ≡ among (member_names es) k
 has_plain k [] = refl
 has_plain k (e ∷ es) = go (e.0 == k) (has_plain k es)
   where
-    go : (b : Bool) → is_some (found_by es k) ≡ among (names_of es) k → is_some (if b then Some e.1 else found_by es k) ≡ (b || among (names_of es) k)
+    go : (b : Bool) → is_some (found_by es k) ≡ among (member_names es) k → is_some (if b then Some e.1 else found_by es k) ≡ (b || among (member_names es) k)
     go true h = refl
     go false h = h
 
 -- a name is found exactly where it is among the names
-pub has_is : (k : ℕ) (es : List (ℕ × ℕ)) → is_some (lookup (equal.eq k) es) ≡ among (names_of es) k
+pub has_is : (k : ℕ) (es : List (ℕ × ℕ)) → is_some (lookup (equal.eq k) es) ≡ among (member_names es) k
 has_is k es = ap is_some (found_is k es) ∙ has_plain k es
 
 -- ---- places
@@ -72,31 +72,31 @@ key_is k (e ∷ es) x h = go (e.0 == k) refl h (key_is k es x)
     go false q p f = f p
 
 module _ (k : ℕ) (es : List (ℕ × ℕ)) where
-  found_there : (i : ℕ) → position (λ y. y == k) (keys_of es) ≡ Some i → slice_get (names_of es) i ≡ Some k
+  found_there : (i : ℕ) → position (λ y. y == k) (keys_of es) ≡ Some i → slice_get (member_names es) i ≡ Some k
   found_there i p =
       let f = Found-position (λ y. y == k) es i p in
-      let within : i < length (names_of es) = omega (arith, f.within, length-map es (λ e. e.0)) in
-      let there : slice_get (names_of es) i ≡ Some (get_or (names_of es) i 0) = slice_get-get_or (names_of es) i 0 within in
-      there ∙ ap Some (key_is k es (get_or (names_of es) i 0) (f.key ∙ there))
+      let within : i < length (member_names es) = omega (arith, f.within, length-map es (λ e. e.0)) in
+      let there : slice_get (member_names es) i ≡ Some (get_or (member_names es) i 0) = slice_get-get_or (member_names es) i 0 within in
+      there ∙ ap Some (key_is k es (get_or (member_names es) i 0) (f.key ∙ there))
 
-  not_there : position (λ y. y == k) (keys_of es) ≡ None → among (names_of es) k ≡ false
+  not_there : position (λ y. y == k) (keys_of es) ≡ None → among (member_names es) k ≡ false
   not_there p = sym (has_plain k es) ∙ ap is_some (sym (found_plain k es) ∙ (Missing-position (λ y. y == k) es p).value)
 
-  pub place_is : (r : Option ℕ) → r ≡ position (equal.eq k) (keys_of es) → MatchOption r (IsFalse (among (names_of es) k)) (λ i. slice_get (names_of es) i ≡ Some k)
+  pub place_is : (r : Option ℕ) → r ≡ position (equal.eq k) (keys_of es) → MatchOption r (IsFalse (among (member_names es) k)) (λ i. slice_get (member_names es) i ≡ Some k)
   place_is None e = not_there (ap (λ (t : ℕ → Bool). position t (keys_of es)) (sym (test_is k)) ∙ sym e)
   place_is (Some i) e = found_there i (ap (λ (t : ℕ → Bool). position t (keys_of es)) (sym (test_is k)) ∙ sym e)
 
 -- ---- one more member
-added_last : (k p : ℕ) (xs : List (ℕ × ℕ)) → among (names_of xs) k ≡ false → insert_entry equal.eq xs k p ≡ xs ++ (k, p) ∷ []
+added_last : (k p : ℕ) (xs : List (ℕ × ℕ)) → among (member_names xs) k ≡ false → insert_entry equal.eq xs k p ≡ xs ++ (k, p) ∷ []
 added_last k p [] n = refl
 added_last k p (x ∷ xs) n = step (x.0 == k) n (ap (λ (t : ℕ → Bool). t x.0) (test_is k)) (added_last k p xs)
   where
-    step : (b : Bool) → (b || among (names_of xs) k) ≡ false → equal.eq k x.0 ≡ b → (among (names_of xs) k ≡ false → insert_entry equal.eq xs k p ≡ xs ++ (k, p) ∷ []) → insert_entry equal.eq (x ∷ xs) k p ≡ x ∷ (xs ++ (k, p) ∷ [])
+    step : (b : Bool) → (b || among (member_names xs) k) ≡ false → equal.eq k x.0 ≡ b → (among (member_names xs) k ≡ false → insert_entry equal.eq xs k p ≡ xs ++ (k, p) ∷ []) → insert_entry equal.eq (x ∷ xs) k p ≡ x ∷ (xs ++ (k, p) ∷ [])
     step true o q f = absurd (true≢false o)
     step false o q f = rw q (ap (λ (ys : List (ℕ × ℕ)). x ∷ ys) (f o))
 
-pub added_is : (es : List (ℕ × ℕ)) (k p : ℕ) → among (names_of es) k ≡ false → insert_entry equal.eq es k p ≡ with_member es k p
-added_is es k p h = go (among (names_of es) k) h
+pub added_is : (es : List (ℕ × ℕ)) (k p : ℕ) → among (member_names es) k ≡ false → insert_entry equal.eq es k p ≡ with_member es k p
+added_is es k p h = go (among (member_names es) k) h
   where
     go : (b : Bool) → b ≡ false → insert_entry equal.eq es k p ≡ (if b then es else es ++ (k, p) ∷ [])
     go true e = absurd (true≢false e)
@@ -109,8 +109,8 @@ put_is k w es fs x h = sym (found_in_order k fs) ∙ (h ∙ both (ap (λ (t : �
     both : {a b : Bool} {o q : Option ℕ} → a ≡ b → o ≡ q → cond a (Some x) o ≡ (if b then Some x else q)
     both e f = λ j. cond (e j) (Some x) (f j)
 
-pub there_is : (es : List (ℕ × ℕ)) (k p : ℕ) → among (names_of es) k ≡ true → es ≡ with_member es k p
-there_is es k p h = go (among (names_of es) k) h
+pub there_is : (es : List (ℕ × ℕ)) (k p : ℕ) → among (member_names es) k ≡ true → es ≡ with_member es k p
+there_is es k p h = go (among (member_names es) k) h
   where
     go : (b : Bool) → b ≡ true → es ≡ (if b then es else es ++ (k, p) ∷ [])
     go true e = refl

@@ -10,7 +10,7 @@ use Rattle.protocol.specs.Sets.{among}
 use Rattle.protocol.specs.Networks.{HostedNode}
 use Rattle.protocol.specs.Hosts.{Entry}
 use Rattle.protocol.proofs.Verdicts.OneList.{one_list}
-use Rattle.closure.specs.Announcing.{AreMembersAt, ClosureListsAreOne, IsClosureList, IsTurn, MemberList, names_of}
+use Rattle.closure.specs.Announcing.{AreMembersAt, ClosureListsAreOne, IsClosureList, IsTurn, MemberList, member_names}
 use Rattle.closure.specs.Announcing.AreMembersAt.{first, turn, again}
 use Rattle.closure.proofs.NameLookups.{member_is}
 use Rattle.closure.proofs.ClosureSteps.{among_at, place_among}
@@ -31,9 +31,9 @@ module _ (nodes : List HostedNode) (i v : ℕ) (run : List Entry) where
       (λ u c. let h = is_among b.joined u c in contained a.joined u (a.all u (b.named u h) (b.missing u h))) in
       a.is ∙ (ap (λ (us : List ℕ). old ++ map (λ u. (u, place)) us) joined ∙ sym b.is)
 
-  same_turn : (w x p q : ℕ) (l k new other : MemberList) → p ≡ q → l ≡ k → slice_get (names_of l) p ≡ Some w → slice_get (names_of k) q ≡ Some x → IsTurn nodes i run w p l new → IsTurn nodes i run x q k other → new ≡ other
+  same_turn : (w x p q : ℕ) (l k new other : MemberList) → p ≡ q → l ≡ k → slice_get (member_names l) p ≡ Some w → slice_get (member_names k) q ≡ Some x → IsTurn nodes i run w p l new → IsTurn nodes i run x q k other → new ≡ other
   same_turn w x p q l k new other here list a b s t =
-      let same : w ≡ x = one_name (names_of k) q w x (sym (ap₂ (λ (m : MemberList) (n : ℕ). slice_get (names_of m) n) list here) ∙ a) b in
+      let same : w ≡ x = one_name (member_names k) q w x (sym (ap₂ (λ (m : MemberList) (n : ℕ). slice_get (member_names m) n) list here) ∙ a) b in
       one_turn x q k new other
       (subst (λ y. IsTurn nodes i run y q k new) same (subst (λ (m : MemberList). IsTurn nodes i run w q m new) list (subst (λ n. IsTurn nodes i run w n l new) here s)))
       t
@@ -56,13 +56,13 @@ module _ (nodes : List HostedNode) (i v : ℕ) (run : List Entry) where
       (ap (λ r. suc r) same.0, same_turn w x m n y z l k same.0 same.1 a b s t)
   as_many p q l k (turn {place = m} {w = w} {old = y} c a s) (again {place = n} {list = z} d b) e =
       let same = as_many m n y z c d (omega (arith, e)) in
-      absurd (never (sym a ∙ (ap₂ (λ (r : MemberList) (h : ℕ). slice_get (names_of r) h) same.1 same.0 ∙ b)))
+      absurd (never (sym a ∙ (ap₂ (λ (r : MemberList) (h : ℕ). slice_get (member_names r) h) same.1 same.0 ∙ b)))
     where
       never : {o : ℕ} → Some o ≡ None → ⊥
       never h = cc
   as_many p q l k (again {place = m} {list = y} c a) (turn {place = n} {w = x} {old = z} d b t) e =
       let same = as_many m n y z c d (omega (arith, e)) in
-      absurd (never (sym b ∙ (sym (ap₂ (λ (r : MemberList) (h : ℕ). slice_get (names_of r) h) same.1 same.0) ∙ a)))
+      absurd (never (sym b ∙ (sym (ap₂ (λ (r : MemberList) (h : ℕ). slice_get (member_names r) h) same.1 same.0) ∙ a)))
     where
       never : {o : ℕ} → Some o ≡ None → ⊥
       never h = cc
@@ -109,8 +109,8 @@ module _ (nodes : List HostedNode) (i v : ℕ) (run : List Entry) where
 
   as_long : (one other : MemberList) → IsClosureList nodes i v run one → IsClosureList nodes i v run other → length other ≤ length one
   as_long one other a b =
-      let few : length (names_of other) ≤ length (names_of one) = length-le_from_is_member nat_eq_equiv (names_of other) (names_of one) b.once
-      (λ u h. member_is (names_of one) u ∙ (a.exactly u ∙ (sym (b.exactly u) ∙ (sym (member_is (names_of other) u) ∙ h)))) in
+      let few : length (member_names other) ≤ length (member_names one) = length-le_from_is_member nat_eq_equiv (member_names other) (member_names one) b.once
+      (λ u h. member_is (member_names one) u ∙ (a.exactly u ∙ (sym (b.exactly u) ∙ (sym (member_is (member_names other) u) ∙ h)))) in
       omega (arith, few, names_length one, names_length other)
 
   by_count : (one other : MemberList) → (a : IsClosureList nodes i v run one) → (b : IsClosureList nodes i v run other) → count 0 one a.in_turn ≤ count 0 other b.in_turn → one ≡ other

@@ -13,7 +13,7 @@ use Rattle.protocol.specs.Sets.{among, AreApart, AreWithin, IsAscending}
 use Rattle.protocol.specs.Networks.{HostedNode}
 use Rattle.protocol.specs.Hosts.{Entry}
 use Rattle.protocol.proofs.Sets.Finite.{among_head}
-use Rattle.closure.specs.Announcing.{IsTurn, MemberList, names_of}
+use Rattle.closure.specs.Announcing.{IsTurn, MemberList, member_names}
 use Rattle.closure.specs.Turns.{AreInOrder, IsGiven, with_member}
 use Rattle.closure.proofs.NameLookups.{among_append}
 use Rattle.closure.proofs.ClosureSteps.{among_at, place_taken}
@@ -28,7 +28,7 @@ pub sorted_same : (xs ys : List ℕ) (u : ℕ) → IsPermutation xs ys → among
 sorted_same xs ys u moved = sym (list_any-IsPermutation (λ x. x == u) xs ys moved)
 
 -- names that join stand behind those that were there
-names_with : (list : MemberList) (place : ℕ) (joined : List ℕ) → names_of (list ++ map (λ u. (u, place)) joined) ≡ names_of list ++ joined
+names_with : (list : MemberList) (place : ℕ) (joined : List ℕ) → member_names (list ++ map (λ u. (u, place)) joined) ≡ member_names list ++ joined
 names_with [] place [] = refl
 names_with [] place (u ∷ us) = ap (λ (xs : List ℕ). u ∷ xs) (names_with [] place us)
 names_with (m ∷ list) place us = ap (λ (xs : List ℕ). m.0 ∷ xs) (names_with list place us)
@@ -38,8 +38,8 @@ pub record IsTurning (place : ℕ) (initial now : MemberList) (given : List ℕ)
   pub joined : List ℕ
   pub ascending : IsAscending joined
   pub of_given : AreWithin (among joined) (among given)
-  pub missing : AreApart (among joined) (among (names_of initial))
-  pub held : AreWithin (among given) (among (names_of now))
+  pub missing : AreApart (among joined) (among (member_names initial))
+  pub held : AreWithin (among given) (among (member_names now))
   pub is : now ≡ initial ++ map (λ u. (u, place)) joined
 
 pub turning_begins : (place : ℕ) (list : MemberList) → IsTurning place list list []
@@ -52,9 +52,9 @@ turning_begins place list = record {
   is = sym (append-nil list);
 }
 
-names_now : (place : ℕ) (initial now : MemberList) (given : List ℕ) (way : IsTurning place initial now given) (u : ℕ) → among (names_of now) u ≡ (among (names_of initial) u || among way.joined u)
+names_now : (place : ℕ) (initial now : MemberList) (given : List ℕ) (way : IsTurning place initial now given) (u : ℕ) → among (member_names now) u ≡ (among (member_names initial) u || among way.joined u)
 names_now place initial now given way u =
-    ap (λ (list : MemberList). among (names_of list) u) way.is ∙ (ap (λ (xs : List ℕ). among xs u) (names_with initial place way.joined) ∙ among_append (names_of initial) way.joined u)
+    ap (λ (list : MemberList). among (member_names list) u) way.is ∙ (ap (λ (xs : List ℕ). among xs u) (names_with initial place way.joined) ∙ among_append (member_names initial) way.joined u)
 
 -- with one more
 module _ (place x : ℕ) (initial now : MemberList) (given : List ℕ) (way : IsTurning place initial now given)
@@ -66,23 +66,23 @@ module _ (place x : ℕ) (initial now : MemberList) (given : List ℕ) (way : Is
   this = among_append given (x ∷ []) x ∙ or_right (among given x) (among (x ∷ []) x) (among_head x [])
 
   -- each is held that was, and the one more
-  both : (new : MemberList) → AreWithin (among (names_of now)) (among (names_of new)) → among (names_of new) x ≡ true → AreWithin (among (given ++ x ∷ [])) (among (names_of new))
+  both : (new : MemberList) → AreWithin (among (member_names now)) (among (member_names new)) → among (member_names new) x ≡ true → AreWithin (among (given ++ x ∷ [])) (among (member_names new))
   both new f h u m = elim (or_cases (among given u) (among (x ∷ []) u) (sym (among_append given (x ∷ []) u) ∙ m)) [
     | inl k ↦ f u (way.held u k)
-    | inr k ↦ elim (or_cases (x == u) false k) [ inl e ↦ subst (λ y. among (names_of new) y ≡ true) (eqb-true x u e) h | inr e ↦ absurd (false≢true e) ]
+    | inr k ↦ elim (or_cases (x == u) false k) [ inl e ↦ subst (λ y. among (member_names new) y ≡ true) (eqb-true x u e) h | inr e ↦ absurd (false≢true e) ]
   ]
 
   -- a name that joined is less than one that is missing still
-  less : among (names_of now) x ≡ false → (k d : ℕ) → k < length way.joined → get_or way.joined k d < x
+  less : among (member_names now) x ≡ false → (k d : ℕ) → k < length way.joined → get_or way.joined k d < x
   less none k d l =
       let at = slice_get-get_or way.joined k d l in
       let there : among way.joined (get_or way.joined k d) ≡ true = among_at way.joined k (get_or way.joined k d) at in
       let most : get_or way.joined k d ≤ x = last (get_or way.joined k d) (way.of_given (get_or way.joined k d) there) in
-      let held : among (names_of now) (get_or way.joined k d) ≡ true = way.held (get_or way.joined k d) (way.of_given (get_or way.joined k d) there) in
-      let other : get_or way.joined k d ≢ x = λ e. true≢false (sym (subst (λ y. among (names_of now) y ≡ true) e held) ∙ none) in
+      let held : among (member_names now) (get_or way.joined k d) ≡ true = way.held (get_or way.joined k d) (way.of_given (get_or way.joined k d) there) in
+      let other : get_or way.joined k d ≢ x = λ e. true≢false (sym (subst (λ y. among (member_names now) y ≡ true) e held) ∙ none) in
       omega (arith, most, other)
 
-  goes_on : (b : Bool) → among (names_of now) x ≡ b → IsTurning place initial (if b then now else now ++ (x, place) ∷ []) (given ++ x ∷ [])
+  goes_on : (b : Bool) → among (member_names now) x ≡ b → IsTurning place initial (if b then now else now ++ (x, place) ∷ []) (given ++ x ∷ [])
   goes_on true e = record { joined = way.joined; ascending = way.ascending; of_given = λ u h. more u (way.of_given u h); missing = way.missing; held = both now (λ u h. h) e; is = way.is }
   goes_on false e = record {
     joined = way.joined ++ x ∷ [];
@@ -93,23 +93,23 @@ module _ (place x : ℕ) (initial now : MemberList) (given : List ℕ) (way : Is
     ];
     missing = λ u h. elim (or_cases (among way.joined u) (among (x ∷ []) u) (sym (among_append way.joined (x ∷ []) u) ∙ h)) [
       | inl k ↦ way.missing u k
-      | inr k ↦ elim (or_cases (x == u) false k) [ inl f ↦ subst (λ y. among (names_of initial) y ≡ false) (eqb-true x u f) missing_then | inr f ↦ absurd (false≢true f) ]
+      | inr k ↦ elim (or_cases (x == u) false k) [ inl f ↦ subst (λ y. among (member_names initial) y ≡ false) (eqb-true x u f) missing_then | inr f ↦ absurd (false≢true f) ]
     ];
-    held = both (now ++ (x, place) ∷ []) (λ u h. ap (λ (xs : List ℕ). among xs u) names_more ∙ (among_append (names_of now) (x ∷ []) u ∙ or_left (among (names_of now) u) (among (x ∷ []) u) h))
-        (ap (λ (xs : List ℕ). among xs x) names_more ∙ (among_append (names_of now) (x ∷ []) x ∙ or_right (among (names_of now) x) (among (x ∷ []) x) (among_head x [])));
+    held = both (now ++ (x, place) ∷ []) (λ u h. ap (λ (xs : List ℕ). among xs u) names_more ∙ (among_append (member_names now) (x ∷ []) u ∙ or_left (among (member_names now) u) (among (x ∷ []) u) h))
+        (ap (λ (xs : List ℕ). among xs x) names_more ∙ (among_append (member_names now) (x ∷ []) x ∙ or_right (among (member_names now) x) (among (x ∷ []) x) (among_head x [])));
     is = ap (λ (list : MemberList). list ++ (x, place) ∷ []) way.is
         ∙ (append_assoc initial (map (λ u. (u, place)) way.joined) ((x, place) ∷ []) ∙ ap (λ (list : MemberList). initial ++ list) (sym (map_push (λ u. (u, place)) way.joined x)));
   }
     where
-      names_more : names_of (now ++ (x, place) ∷ []) ≡ names_of now ++ x ∷ []
+      names_more : member_names (now ++ (x, place) ∷ []) ≡ member_names now ++ x ∷ []
       names_more = map_push (λ m. m.0) now (x, place)
 
-      missing_then : among (names_of initial) x ≡ false
-      missing_then = go (among (names_of initial) x) refl
+      missing_then : among (member_names initial) x ≡ false
+      missing_then = go (among (member_names initial) x) refl
         where
-          go : (b : Bool) → among (names_of initial) x ≡ b → b ≡ false
+          go : (b : Bool) → among (member_names initial) x ≡ b → b ≡ false
           go false q = refl
-          go true q = absurd (true≢false (sym (names_now place initial now given way x ∙ or_left (among (names_of initial) x) (among way.joined x) q) ∙ e))
+          go true q = absurd (true≢false (sym (names_now place initial now given way x ∙ or_left (among (member_names initial) x) (among way.joined x) q) ∙ e))
 
 -- the name at an index joins
 pub turning_goes_on : (place n x : ℕ) (initial now : MemberList) (given : List ℕ) → AreInOrder given → slice_get given n ≡ Some x → IsTurning place initial now (take n given)
@@ -125,10 +125,10 @@ turning_goes_on place n x initial now given up at way =
     let this : get_or given before.0 x ≡ y = get_or_from_slice_get given before.0 y x before.2 in
     let that : get_or given n x ≡ x = get_or_from_slice_get given n x x at in
     omega (arith, rises, this, that))
-    (among (names_of now) x) refl)
+    (among (member_names now) x) refl)
 
 -- where all that was given has joined, that was the turn
-pub turn_is_made : (nodes : List HostedNode) (i : ℕ) (run : List Entry) (w place : ℕ) (old new : MemberList) (given : List ℕ) → IsTurning place old new given → IsGiven nodes i run (names_of old) w given
+pub turn_is_made : (nodes : List HostedNode) (i : ℕ) (run : List Entry) (w place : ℕ) (old new : MemberList) (given : List ℕ) → IsTurning place old new given → IsGiven nodes i run (member_names old) w given
     → IsTurn nodes i run w place old new
 turn_is_made nodes i run w place old new given way sound = record {
   joined = way.joined;
@@ -137,7 +137,7 @@ turn_is_made nodes i run w place old new given way sound = record {
   missing = way.missing;
   all = λ u named missing. elim (sound.complete u named) [
     | inl m ↦ absurd (true≢false (sym m ∙ missing))
-    | inr g ↦ elim (or_cases (among (names_of old) u) (among way.joined u) (sym (names_now place old new given way u) ∙ way.held u g)) [
+    | inr g ↦ elim (or_cases (among (member_names old) u) (among way.joined u) (sym (names_now place old new given way u) ∙ way.held u g)) [
       | inl m ↦ absurd (true≢false (sym m ∙ missing))
       | inr k ↦ k
     ]

@@ -8,7 +8,7 @@ use Rattle.std.proofs.lemmas.Option.{slice_get_within, get_or_from_slice_get}
 use Rattle.protocol.specs.Sets.{among, AreWithin}
 use Rattle.protocol.specs.Networks.{HostedNode}
 use Rattle.protocol.specs.Hosts.{Entry}
-use Rattle.closure.specs.Announcing.{AnnouncedSlices, announced_at, IsNamedBy, MemberList, names_of}
+use Rattle.closure.specs.Announcing.{AnnouncedSlices, announced_at, IsNamedBy, MemberList, member_names}
 use Rattle.closure.specs.Announcing.IsNamedBy.{configured, learnt}
 use Rattle.closure.specs.Turns.{PartyIndex, AreMore, AreWoken, IsDue, IsFor, IsGiven, IsIndex, IsJoined, AreCovered, IsReady, last_below, ready_at, receiver_at, lists_after_turn, with_member, with_ready}
 use Rattle.closure.proofs.NameLookups.{among_append}
@@ -98,12 +98,12 @@ longer_push xs x none = record {
   ];
 }
 
-longer_member : (old : MemberList) (x place : ℕ) → IsLonger (names_of old) (names_of (with_member old x place)) x
-longer_member old x place = go (among (names_of old) x) refl
+longer_member : (old : MemberList) (x place : ℕ) → IsLonger (member_names old) (member_names (with_member old x place)) x
+longer_member old x place = go (among (member_names old) x) refl
   where
-    go : (b : Bool) → among (names_of old) x ≡ b → IsLonger (names_of old) (names_of (if b then old else old ++ (x, place) ∷ [])) x
-    go true e = longer_same (names_of old) x
-    go false e = subst (λ (xs : List ℕ). IsLonger (names_of old) xs x) (sym (map_push (λ m. m.0) old (x, place))) (longer_push (names_of old) x e)
+    go : (b : Bool) → among (member_names old) x ≡ b → IsLonger (member_names old) (member_names (if b then old else old ++ (x, place) ∷ [])) x
+    go true e = longer_same (member_names old) x
+    go false e = subst (λ (xs : List ℕ). IsLonger (member_names old) xs x) (sym (map_push (λ m. m.0) old (x, place))) (longer_push (member_names old) x e)
 
 -- ---- what is kept
 module _ (nodes : List HostedNode) (i : ℕ) (run : List Entry) where
@@ -130,12 +130,12 @@ module _ (nodes : List HostedNode) (i : ℕ) (run : List Entry) where
   }
 
   -- and goes on with each name that joins
-  module _ (old new : MemberList) (before after : List (List ℕ)) (place : ℕ) (given : List ℕ) (x namer : ℕ) (kept : AreCovered nodes i run (names_of old) before place given) (joined : IsJoined i run old new before after x namer) where
-    longer : IsLonger (names_of old) (names_of new) x
-    longer = subst (λ (list : MemberList). IsLonger (names_of old) (names_of list) x) (sym joined.members) (longer_member old x namer)
+  module _ (old new : MemberList) (before after : List (List ℕ)) (place : ℕ) (given : List ℕ) (x namer : ℕ) (kept : AreCovered nodes i run (member_names old) before place given) (joined : IsJoined i run old new before after x namer) where
+    longer : IsLonger (member_names old) (member_names new) x
+    longer = subst (λ (list : MemberList). IsLonger (member_names old) (member_names list) x) (sym joined.members) (longer_member old x namer)
 
-    older : (j w u : ℕ) → j < length after → slice_get (names_of new) j ≡ Some w → IsNamedBy nodes i run (among (names_of new)) w u
-        → IsNamedBy nodes i run (among (names_of old)) w u ⊎ IsDue i run (among (names_of new)) (ready_at after j) w u
+    older : (j w u : ℕ) → j < length after → slice_get (member_names new) j ≡ Some w → IsNamedBy nodes i run (among (member_names new)) w u
+        → IsNamedBy nodes i run (among (member_names old)) w u ⊎ IsDue i run (among (member_names new)) (ready_at after j) w u
     unfolding longer
     older j w u l at (configured q e g) = inl (configured q e g)
     older j w u l at (learnt n a e s t r g) = elim (longer.either a.receiver r) [
@@ -152,7 +152,7 @@ module _ (nodes : List HostedNode) (i : ℕ) (run : List Entry) where
       })
     ]
 
-    pub kept_goes_on : AreCovered nodes i run (names_of new) after place given
+    pub kept_goes_on : AreCovered nodes i run (member_names new) after place given
     unfolding longer
     kept_goes_on = record {
       within = omega (arith, kept.within, joined.more.counted, longer.longer);

@@ -54,16 +54,16 @@ abbrev pub MemberList : Type 0
 MemberList = List (ℕ × ℕ)
 
 -- the names of a list of members, in order
-abbrev pub names_of : MemberList → List ℕ
-names_of list = map (λ m. m.0) list
+abbrev pub member_names : MemberList → List ℕ
+member_names list = map (λ m. m.0) list
 
 -- the member at a place is named by one before it, announcements counting to members before it
 pub record IsNamedBefore (nodes : List HostedNode) (i : ℕ) (run : List Entry) (list : MemberList) (place : ℕ)
     (m : ℕ × ℕ) : Type 0 where
   pub namer : ℕ
-  pub there : slice_get (names_of list) m.1 ≡ Some namer
+  pub there : slice_get (member_names list) m.1 ≡ Some namer
   pub before : m.1 < place
-  pub named : IsNamedBy nodes i run (among (take place (names_of list))) namer m.0
+  pub named : IsNamedBy nodes i run (among (take place (member_names list))) namer m.0
 
 -- the first member is v, and each later one is named by an earlier one
 pub record IsChained (nodes : List HostedNode) (i v : ℕ) (run : List Entry) (list : MemberList) : Type 0 where
@@ -74,9 +74,9 @@ pub record IsChained (nodes : List HostedNode) (i v : ℕ) (run : List Entry) (l
 pub record IsTurn (nodes : List HostedNode) (i : ℕ) (run : List Entry) (w place : ℕ) (old new : MemberList) : Type 0 where
   pub joined : List ℕ
   pub ascending : IsAscending joined
-  pub named : (u : ℕ) → IsTrue (among joined u) → IsNamedBy nodes i run (among (names_of old)) w u
-  pub missing : (u : ℕ) → IsTrue (among joined u) → IsFalse (among (names_of old) u)
-  pub all : (u : ℕ) → IsNamedBy nodes i run (among (names_of old)) w u → IsFalse (among (names_of old) u) → IsTrue (among joined u)
+  pub named : (u : ℕ) → IsTrue (among joined u) → IsNamedBy nodes i run (among (member_names old)) w u
+  pub missing : (u : ℕ) → IsTrue (among joined u) → IsFalse (among (member_names old) u)
+  pub all : (u : ℕ) → IsNamedBy nodes i run (among (member_names old)) w u → IsFalse (among (member_names old) u) → IsTrue (among joined u)
   pub is : new ≡ old ++ map (λ u. (u, place)) joined
 
 -- The members that there are when the turn of a place comes: at first v, and from then on what each turn makes of them.
@@ -84,18 +84,18 @@ pub record IsTurn (nodes : List HostedNode) (i : ℕ) (run : List Entry) (w plac
 pub data AreMembersAt (nodes : List HostedNode) (i v : ℕ) (run : List Entry) : ℕ → MemberList → Type 0 where
   first : AreMembersAt nodes i v run 0 ((v, 0) ∷ [])
   turn : {place w : ℕ} {old new : MemberList} → AreMembersAt nodes i v run place old
-      → slice_get (names_of old) place ≡ Some w → IsTurn nodes i run w place old new
+      → slice_get (member_names old) place ≡ Some w → IsTurn nodes i run w place old new
       → AreMembersAt nodes i v run (suc place) new
   again : {place : ℕ} {list : MemberList} → AreMembersAt nodes i v run place list
-      → slice_get (names_of list) place ≡ None → AreMembersAt nodes i v run 0 list
+      → slice_get (member_names list) place ≡ None → AreMembersAt nodes i v run 0 list
 
 -- The closure of v as a list: v first, each member once, each later one with an earlier one that names it, in the order
 -- of their turns, and exactly its members.
 pub record IsClosureList (nodes : List HostedNode) (i v : ℕ) (run : List Entry) (list : MemberList) : Type 0 where
   pub chained : IsChained nodes i v run list
-  pub once : IsDistinct (λ x y. x == y) (names_of list)
+  pub once : IsDistinct (λ x y. x == y) (member_names list)
   pub in_turn : AreMembersAt nodes i v run 0 list
-  pub exactly : (u : ℕ) → among (names_of list) u ≡ closure nodes i v run u
+  pub exactly : (u : ℕ) → among (member_names list) u ≡ closure nodes i v run u
 
 -- a closure has only one list
 abbrev pub ClosureListsAreOne : Type 0

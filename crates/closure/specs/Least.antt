@@ -13,6 +13,6 @@ pub record IsLeast (Bad Good : ℕ → Type 0) (list : List ℕ) (u : ℕ) : Typ
   pub least : (w : ℕ) → IsTrue (among list w) → w < u → Good w
 
 -- the lesser of a name and the best one so far
-abbrev pub lesser : Option ℕ → ℕ → Option ℕ
-lesser None x = Some x
-lesser (Some u) x = if nat_lt u x then Some u else Some x
+abbrev pub lesser_name : Option ℕ → ℕ → Option ℕ
+lesser_name None x = Some x
+lesser_name (Some u) x = if nat_lt u x then Some u else Some x

@@ -6,7 +6,7 @@ use Rattle.protocol.specs.Sets.{Names, among}
 use Rattle.protocol.specs.Satisfaction.{names}
 use Rattle.protocol.specs.Networks.{HostedNode}
 use Rattle.protocol.specs.Hosts.{Entry}
-use Rattle.closure.specs.Announcing.{AnnouncedSlices, announced_at, IsNamedBy, MemberList, names_of, IsChained}
+use Rattle.closure.specs.Announcing.{AnnouncedSlices, announced_at, IsNamedBy, MemberList, member_names, IsChained}
 
 -- ---- announcements by one of their parties
 -- the sender of an announcement at the slot
@@ -146,7 +146,7 @@ AreInOrder xs = AllPairs (λ x y. x ≤ y) xs
 -- ---- members that join
 -- the list with a name at its end, with the place of the member that names it, unless it is there
 abbrev pub with_member : MemberList → ℕ → ℕ → MemberList
-with_member list u place = if among (names_of list) u then list else list ++ (u, place) ∷ []
+with_member list u place = if among (member_names list) u then list else list ++ (u, place) ∷ []
 
 -- numbers became ready, and all that were ready stay so
 pub record AreMore (old new : List (List ℕ)) : Type 0 where
@@ -170,7 +170,7 @@ pub record IsJoined (i : ℕ) (run : List Entry) (old new : MemberList) (before 
     : Type 0 where
   pub members : new ≡ with_member old u place
   pub more : AreMore before after
-  pub woken : IsFalse (among (names_of old) u) → AreWoken i run (names_of new) after u
+  pub woken : IsFalse (among (member_names old) u) → AreWoken i run (member_names new) after u
 
 -- members that a turn or a sweep adds: the old ones stay in front, and the list is still chained
 pub record IsGrown (nodes : List HostedNode) (i v : ℕ) (run : List Entry) (old new : MemberList) : Type 0 where

@@ -3,7 +3,7 @@
 ghost use Rattle.std.specs.Prelude.{◌≡◌, ◌<◌, ◌^◌, ◌==◌, [], ◌∷◌, Some, length, map, slice_get, IfOk, OnOk, MatchOption, IsFalse};
 ghost use Rattle.std.specs.List.{IsDistinct};
 ghost use Rattle.protocol.specs.Sets.{among};
-ghost use Rattle.closure.specs.Announcing.{names_of};
+ghost use Rattle.closure.specs.Announcing.{member_names};
 ghost use Rattle.closure.specs.Turns.{with_member};
 
 use indexmap::IndexMap;
@@ -55,7 +55,7 @@ impl ClosureList {
     pub fn len(&self) -> usize
         ensures value { result ≡ length self.now }
         ensures fits { result < 2 ^ 63 }
-        ensures once { IsDistinct (λ x y. x == y) (names_of self.now) }
+        ensures once { IsDistinct (λ x y. x == y) (member_names self.now) }
     {
         self.members.len()
     }
@@ -69,14 +69,14 @@ impl ClosureList {
 
     /// The place of a node, if it is a member.
     pub fn place(&self, node: &NodeId) -> Option<usize>
-        ensures { MatchOption result (IsFalse (among (names_of self.now) node.now)) (λ k. slice_get (names_of self.now) k ≡ Some node.now) }
+        ensures { MatchOption result (IsFalse (among (member_names self.now) node.now)) (λ k. slice_get (member_names self.now) k ≡ Some node.now) }
     {
         self.members.get_index_of(node)
     }
 
     /// Whether a node is a member.
     pub fn has(&self, node: &NodeId) -> bool
-        ensures { result ≡ among (names_of self.now) node.now }
+        ensures { result ≡ among (member_names self.now) node.now }
     {
         self.members.contains_key(node)
     }
@@ -94,7 +94,7 @@ impl ClosureList {
 
     /// The name of the member at a place. There is one exactly below the number of members.
     pub fn name(&self, place: usize) -> Option<NodeId>
-        ensures { result ≡ slice_get (names_of self.now) place }
+        ensures { result ≡ slice_get (member_names self.now) place }
     {
         match self.members.get_index(place) {
             None => None,

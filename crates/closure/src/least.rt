@@ -2,8 +2,8 @@
 
 ghost use Rattle.std.specs.Prelude.{◌≡◌, MatchOption, false, true};
 ghost use Rattle.std.specs.Fn.{FnReturnsAt};
-ghost use Rattle.closure.specs.Announcing.{names_of};
-ghost use Rattle.closure.specs.Least.{AreAll, IsLeast, lesser};
+ghost use Rattle.closure.specs.Announcing.{member_names};
+ghost use Rattle.closure.specs.Least.{AreAll, IsLeast, lesser_name};
 
 use crate::closure_list::ClosureList;
 use types::NodeId;
@@ -11,7 +11,7 @@ use types::NodeId;
 /// The least member that fails a test; none if all pass it. Each member is tested once.
 pub fn least_failing<F: Fn(&NodeId) -> bool>(members: &ClosureList, test: F) -> Option<NodeId>
     requires { F.IsAlwaysCallable test }
-    ensures { MatchOption result (AreAll (λ u. FnReturnsAt F.Fn test u true) (names_of members.now)) (IsLeast (λ u. FnReturnsAt F.Fn test u false) (λ u. FnReturnsAt F.Fn test u true) (names_of members.now)) }
+    ensures { MatchOption result (AreAll (λ u. FnReturnsAt F.Fn test u true) (member_names members.now)) (IsLeast (λ u. FnReturnsAt F.Fn test u false) (λ u. FnReturnsAt F.Fn test u true) (member_names members.now)) }
 {
     let mut least = None;
     for place in 0..members.len() {
@@ -25,7 +25,7 @@ pub fn least_failing<F: Fn(&NodeId) -> bool>(members: &ClosureList, test: F) -> 
 }
 
 fn lesser(best: Option<NodeId>, name: NodeId) -> Option<NodeId>
-    ensures { result ≡ lesser best name }
+    ensures { result ≡ lesser_name best name }
 {
     match best {
         Some(best) if best < name => Some(best),

@@ -3,7 +3,7 @@
 ghost use Rattle.std.specs.Prelude.{◌≡◌, ◌++◌, ◌≤◌, ℕ, Some, length, slice_get, IfOk, OnOk, map, option_map};
 ghost use Rattle.protocol.specs.Networks.{slices_of};
 ghost use Rattle.protocol.specs.Sets.{among, IsAscending};
-ghost use Rattle.closure.specs.Announcing.{AreMembersAt, IsChained, IsClosureList, IsTurn, announced_at, names_of};
+ghost use Rattle.closure.specs.Announcing.{AreMembersAt, IsChained, IsClosureList, IsTurn, announced_at, member_names};
 ghost use Rattle.closure.specs.Turns.{AreInOrder, AreIndexed, AreMore, AllNamesAreMembers, AreWoken, IsFor, IsGiven, IsGrown, IsJoined, IsReady, NamesAreMembers, added_names, all_added, known_names, lists_after_turn};
 
 use crate::announcing::Announcements;
@@ -55,10 +55,10 @@ impl<'a, J: Announcements> Turns<'a, J> {
     ) -> Result<(), AllocError>
         requires index { AreIndexed self.now.slot (J.entries self.now.journal.now) (length (J.entries self.now.journal.now)) self.now.deliveries.now }
         requires chained { (v : ℕ) × IsChained (J.nodes self.now.journal.now) self.now.slot v (J.entries self.now.journal.now) members.old }
-        requires ready { IsReady (J.nodes self.now.journal.now) self.now.slot (J.entries self.now.journal.now) (names_of members.old) ready.old }
+        requires ready { IsReady (J.nodes self.now.journal.now) self.now.slot (J.entries self.now.journal.now) (member_names members.old) ready.old }
         ensures grown { OnOk result ((v : ℕ) → IsChained (J.nodes self.now.journal.now) self.now.slot v (J.entries self.now.journal.now) members.old → IsGrown (J.nodes self.now.journal.now) self.now.slot v (J.entries self.now.journal.now) members.old members.new) }
-        ensures settled { OnOk result (AllNamesAreMembers (J.nodes self.now.journal.now) self.now.slot (J.entries self.now.journal.now) (names_of members.new) (names_of members.old)) }
-        ensures ready { OnOk result (IsReady (J.nodes self.now.journal.now) self.now.slot (J.entries self.now.journal.now) (names_of members.new) ready.new) }
+        ensures settled { OnOk result (AllNamesAreMembers (J.nodes self.now.journal.now) self.now.slot (J.entries self.now.journal.now) (member_names members.new) (member_names members.old)) }
+        ensures ready { OnOk result (IsReady (J.nodes self.now.journal.now) self.now.slot (J.entries self.now.journal.now) (member_names members.new) ready.new) }
         ensures in_turn { OnOk result ((v : ℕ) → AreMembersAt (J.nodes self.now.journal.now) self.now.slot v (J.entries self.now.journal.now) 0 members.old → AreMembersAt (J.nodes self.now.journal.now) self.now.slot v (J.entries self.now.journal.now) 0 members.new) }
     {
         let mut place = 0;
@@ -80,13 +80,13 @@ impl<'a, J: Announcements> Turns<'a, J> {
         place: usize,
     ) -> Result<(), AllocError>
         requires index { AreIndexed self.now.slot (J.entries self.now.journal.now) (length (J.entries self.now.journal.now)) self.now.deliveries.now }
-        requires ready { IsReady (J.nodes self.now.journal.now) self.now.slot (J.entries self.now.journal.now) (names_of members.old) ready.old }
+        requires ready { IsReady (J.nodes self.now.journal.now) self.now.slot (J.entries self.now.journal.now) (member_names members.old) ready.old }
         requires next { place ≤ length ready.old }
         ensures grown { OnOk result ((v : ℕ) → IsChained (J.nodes self.now.journal.now) self.now.slot v (J.entries self.now.journal.now) members.old → IsGrown (J.nodes self.now.journal.now) self.now.slot v (J.entries self.now.journal.now) members.old members.new) }
-        ensures settled { OnOk result ((w : ℕ) → slice_get (names_of members.old) place ≡ Some w → NamesAreMembers (J.nodes self.now.journal.now) self.now.slot (J.entries self.now.journal.now) (names_of members.new) (names_of members.old) w) }
-        ensures ready { OnOk result (IsReady (J.nodes self.now.journal.now) self.now.slot (J.entries self.now.journal.now) (names_of members.new) ready.new) }
-        ensures counted { OnOk result ((w : ℕ) → slice_get (names_of members.old) place ≡ Some w → length ready.new ≡ length (lists_after_turn ready.old place)) }
-        ensures turn { OnOk result ((w : ℕ) → slice_get (names_of members.old) place ≡ Some w → IsTurn (J.nodes self.now.journal.now) self.now.slot (J.entries self.now.journal.now) w place members.old members.new) }
+        ensures settled { OnOk result ((w : ℕ) → slice_get (member_names members.old) place ≡ Some w → NamesAreMembers (J.nodes self.now.journal.now) self.now.slot (J.entries self.now.journal.now) (member_names members.new) (member_names members.old) w) }
+        ensures ready { OnOk result (IsReady (J.nodes self.now.journal.now) self.now.slot (J.entries self.now.journal.now) (member_names members.new) ready.new) }
+        ensures counted { OnOk result ((w : ℕ) → slice_get (member_names members.old) place ≡ Some w → length ready.new ≡ length (lists_after_turn ready.old place)) }
+        ensures turn { OnOk result ((w : ℕ) → slice_get (member_names members.old) place ≡ Some w → IsTurn (J.nodes self.now.journal.now) self.now.slot (J.entries self.now.journal.now) w place members.old members.new) }
     {
         if let Some(node) = members.name(place) {
             let turn = Turn { place, node };
@@ -109,9 +109,9 @@ impl<'a, J: Announcements> Turns<'a, J> {
         turn: &Turn,
     ) -> Result<Vec<NodeId>, AllocError>
         requires index { AreIndexed self.now.slot (J.entries self.now.journal.now) (length (J.entries self.now.journal.now)) self.now.deliveries.now }
-        requires there { slice_get (names_of members.now) turn.now.place ≡ Some turn.now.node }
-        requires ready { IsReady (J.nodes self.now.journal.now) self.now.slot (J.entries self.now.journal.now) (names_of members.now) ready.old }
-        ensures given { IfOk result (λ v. IsGiven (J.nodes self.now.journal.now) self.now.slot (J.entries self.now.journal.now) (names_of members.now) turn.now.node v.items) }
+        requires there { slice_get (member_names members.now) turn.now.place ≡ Some turn.now.node }
+        requires ready { IsReady (J.nodes self.now.journal.now) self.now.slot (J.entries self.now.journal.now) (member_names members.now) ready.old }
+        ensures given { IfOk result (λ v. IsGiven (J.nodes self.now.journal.now) self.now.slot (J.entries self.now.journal.now) (member_names members.now) turn.now.node v.items) }
         ensures ascending { IfOk result (λ v. AreInOrder v.items) }
         ensures turned { OnOk result (ready.new ≡ lists_after_turn ready.old turn.now.place) }
     {
@@ -132,7 +132,7 @@ impl<'a, J: Announcements> Turns<'a, J> {
         node: &NodeId,
     ) -> Result<Vec<NodeId>, AllocError>
         requires { AreIndexed self.now.slot (J.entries self.now.journal.now) (length (J.entries self.now.journal.now)) self.now.deliveries.now }
-        ensures { IfOk result (λ v. IsGiven (J.nodes self.now.journal.now) self.now.slot (J.entries self.now.journal.now) (names_of members.now) node.now v.items) }
+        ensures { IfOk result (λ v. IsGiven (J.nodes self.now.journal.now) self.now.slot (J.entries self.now.journal.now) (member_names members.now) node.now v.items) }
     {
         let deliveries = self.deliveries;
         let mut names = self.configured_names(alloc, node)?;
@@ -163,7 +163,7 @@ impl<'a, J: Announcements> Turns<'a, J> {
         node: &NodeId,
         numbers: &[usize],
     ) -> Result<Vec<NodeId>, AllocError>
-        ensures { IfOk result (λ v. v.items ≡ all_added self.now.slot (J.entries self.now.journal.now) (names_of members.now) node.now numbers.now) }
+        ensures { IfOk result (λ v. v.items ≡ all_added self.now.slot (J.entries self.now.journal.now) (member_names members.now) node.now numbers.now) }
     {
         let mut names = Vec::new(alloc);
         for number in numbers {
@@ -181,7 +181,7 @@ impl<'a, J: Announcements> Turns<'a, J> {
         node: &NodeId,
         names: &mut Vec<NodeId>,
     ) -> Result<(), AllocError>
-        ensures { OnOk result (names.new.items ≡ names.old.items ++ added_names self.now.slot (names_of members.now) node.now (announced_at (J.entries self.now.journal.now) number)) }
+        ensures { OnOk result (names.new.items ≡ names.old.items ++ added_names self.now.slot (member_names members.now) node.now (announced_at (J.entries self.now.journal.now) number)) }
     {
         let Some(announcement) = self.journal.announcement(number) else {
             return Ok(());
@@ -223,7 +223,7 @@ impl<'a, J: Announcements> Turns<'a, J> {
     ) -> Result<(), AllocError>
         requires { AreIndexed self.now.slot (J.entries self.now.journal.now) (length (J.entries self.now.journal.now)) self.now.deliveries.now }
         ensures more { OnOk result (AreMore ready.old ready.new) }
-        ensures woken { OnOk result (AreWoken self.now.slot (J.entries self.now.journal.now) (names_of members.now) ready.new receiver.now) }
+        ensures woken { OnOk result (AreWoken self.now.slot (J.entries self.now.journal.now) (member_names members.now) ready.new receiver.now) }
     {
         let deliveries = self.deliveries;
         let mut next = deliveries.heard.latest(receiver);
@@ -237,7 +237,7 @@ impl<'a, J: Announcements> Turns<'a, J> {
     /// Makes the entry with this number ready for its sender, if that is a member that had a turn.
     fn put(&self, members: &ClosureList, ready: &mut Ready, number: usize) -> Result<(), AllocError>
         ensures more { OnOk result (AreMore ready.old ready.new) }
-        ensures ready { OnOk result (IsFor (names_of members.now) ready.new number (announced_at (J.entries self.now.journal.now) number)) }
+        ensures ready { OnOk result (IsFor (member_names members.now) ready.new number (announced_at (J.entries self.now.journal.now) number)) }
     {
         let Some(announcement) = self.journal.announcement(number) else {
             return Ok(());

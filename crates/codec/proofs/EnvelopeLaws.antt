@@ -15,7 +15,7 @@ use Rattle.codec.specs.Formats.{ValidThen, ValidJudged}
 use Rattle.codec.specs.Faults.{version_fault, kind_fault, statement_fault, HasOtherVersion, HasOtherKind}
 use Rattle.codec.specs.Steps.{◌>>=◌}
 use Rattle.codec.specs.Spelling.{byte, name, slices, body, kind, first_levels, version_of, spelling, Spells, HasOneSpelling}
-use Rattle.codec.specs.Reading.{Fields, sent_of, version_at, kind_at, parts_at, envelope_at, decoding}
+use Rattle.codec.specs.Reading.{Fields, envelope_of, version_at, kind_at, parts_at, envelope_at, decoding}
 use Rattle.codec.specs.Grammar.{HasFields, HasKind, IsLong, IsInVersion, levels_in, IsVersion, ShowsVersion, IsKind, ShowsKind, ShowsFault, BreaksOff, IsFault, HasOneAnswer}
 use Rattle.codec.proofs.FieldLaws.{IsBytes, ok_is, bind_ok, done, passed, passed_true, chosen}
 use Rattle.codec.proofs.FormatLaws.{ValidAs, bind_err, err_is, Laws, Laws-then, Laws-judged, Laws-as, Laws-when, Laws-byte}
@@ -60,7 +60,7 @@ version_is v q h = one (eqb v (version_of q)) refl h.1
     one true e h = eqb-true v (version_of q) e
     one false e h = absurd cc
 
-spelled : (x : Fields) → IsFields x → spelling (sent_of x) ≡ (x.0 ∷ []) ++ ((x.1.0 ∷ []) ++ (name x.1.1.0 ++ (to_be_bytes w64 x.1.1.1.0 ++ (slices x.1.1.1.1.0 ++ body x.1.1.1.1.1))))
+spelled : (x : Fields) → IsFields x → spelling (envelope_of x) ≡ (x.0 ∷ []) ++ ((x.1.0 ∷ []) ++ (name x.1.1.0 ++ (to_be_bytes w64 x.1.1.1.0 ++ (slices x.1.1.1.1.0 ++ body x.1.1.1.1.1))))
 spelled x v =
     let rest = name x.1.1.0 ++ (to_be_bytes w64 x.1.1.1.0 ++ (slices x.1.1.1.1.0 ++ body x.1.1.1.1.1)) in
     ap (λ (t : List ℕ). version_of x.1.1.1.1.0 ∷ kind x.1.1.1.1.1 ∷ t) (three (name x.1.1.0) (to_be_bytes w64 x.1.1.1.0) (slices x.1.1.1.1.0) (body x.1.1.1.1.1))
@@ -70,10 +70,10 @@ spelled x v =
     three : (a b c d : List ℕ) → a ++ b ++ c ++ d ≡ a ++ (b ++ (c ++ d))
     three a b c d = simp append_assoc
 
-pub Laws-fields : Laws envelope_at spelling (ValidAs IsFields sent_of) ShowsFault
+pub Laws-fields : Laws envelope_at spelling (ValidAs IsFields envelope_of) ShowsFault
 unfolding envelope_at parts_at
 Laws-fields =
-    Laws-as (Laws-then Laws-version (λ v h. Laws-then Laws-kind (λ k g. Laws-then Laws-name (λ u p. Laws-then Laws-long (λ n q. Laws-then (Laws-slices v) (λ s r. Laws-statement k g)))))) sent_of spelling spelled
+    Laws-as (Laws-then Laws-version (λ v h. Laws-then Laws-kind (λ k g. Laws-then Laws-name (λ u p. Laws-then Laws-long (λ n q. Laws-then (Laws-slices v) (λ s r. Laws-statement k g)))))) envelope_of spelling spelled
 
 has_widths : (s : Statement) → HasFields s → HasWidths s
 has_widths (Nominate v a) h = (h.0.1, h.1.1)
@@ -87,7 +87,7 @@ has_fields (Prepare b p x y z) h r = h
 has_fields (Commit b x y z) h r = h
 has_fields (Externalize b x) h r = h
 
-is_envelope : (e : Sent) → ValidAs IsFields sent_of e → IsEnvelope e
+is_envelope : (e : Sent) → ValidAs IsFields envelope_of e → IsEnvelope e
 is_envelope e v =
     let s = v.0.1.1.1.1.1 in
     let f = v.1.1.1.1 in
@@ -122,7 +122,7 @@ in_version q h = ((h, go (nat_le (depth_of q.members) first_levels) refl), rw (e
     go true e = few (depth_of q.members) e
     go false e = h.levels
 
-from_envelope : (e : Sent) → IsEnvelope e → ValidAs IsFields sent_of e
+from_envelope : (e : Sent) → IsEnvelope e → ValidAs IsFields envelope_of e
 from_envelope e h =
     ((version_of e.slices, (kind e.body, (e.sender, (e.slot, (e.slices, e.body))))), (version_stands e.slices, (kind_of e.body, (h.sender, (h.slot, (in_version e.slices h.slices, ((refl, has_fields e.body h.widths h.rules), well_formed_stands e.body h.rules)))))), refl)
 

@@ -10,8 +10,8 @@ use Rattle.types.specs.declared.nested.Member.{Member}
 use Rattle.types.specs.declared.nested.Member.TheVariants.{Node, Set}
 use Rattle.codec.specs.Steps.{◌>>=◌, Fails, Reads}
 use Rattle.codec.specs.Spelling.{members, slices}
-use Rattle.codec.specs.Parts.{Part, part_names, part_before, part_of}
-use Rattle.codec.specs.Reading.{member_at, members_at}
+use Rattle.codec.specs.Parts.{Part, part_names, part_before, part_of_member}
+use Rattle.codec.specs.Reading.{member_at, member_list_at}
 
 abbrev pub join : Members → Members → Members
 join none others = others
@@ -44,11 +44,11 @@ join_single : (m : Part) (ms : Members) → join (single m) ms ≡ part_before m
 join_single (inl u) ms = refl
 join_single (inr q) ms = refl
 
-members_of-single : (m : Member) → members_of (m ∷ []) ≡ single (part_of m)
+members_of-single : (m : Member) → members_of (m ∷ []) ≡ single (part_of_member m)
 members_of-single (Node u) = refl
 members_of-single (Set s) = refl
 
-pub members_of-push : (ms : List Member) (m : Member) → members_of (ms ++ m ∷ []) ≡ join (members_of ms) (single (part_of m))
+pub members_of-push : (ms : List Member) (m : Member) → members_of (ms ++ m ∷ []) ≡ join (members_of ms) (single (part_of_member m))
 members_of-push ms m = members_of-append ms (m ∷ []) ∙ ap (join (members_of ms)) (members_of-single m)
 
 pub names-join : (a b : Members) → names_in (join a b) ≡ names_in a ++ names_in b
@@ -60,13 +60,13 @@ names-single : (m : Part) → names_in (single m) ≡ part_names m
 names-single (inl u) = refl
 names-single (inr q) = append-nil (names_in q.members)
 
-pub names-push : (ms : List Member) (m : Member) → names_in (members_of (ms ++ m ∷ [])) ≡ names_in (members_of ms) ++ part_names (part_of m)
-names-push ms m = ap names_in (members_of-push ms m) ∙ names-join (members_of ms) (single (part_of m)) ∙ ap (λ (t : List ℕ). names_in (members_of ms) ++ t) (names-single (part_of m))
+pub names-push : (ms : List Member) (m : Member) → names_in (members_of (ms ++ m ∷ [])) ≡ names_in (members_of ms) ++ part_names (part_of_member m)
+names-push ms m = ap names_in (members_of-push ms m) ∙ names-join (members_of ms) (single (part_of_member m)) ∙ ap (λ (t : List ℕ). names_in (members_of ms) ++ t) (names-single (part_of_member m))
 
 -- the names of one more member are noted behind those before
-pub names_noted : (first seen next : List ℕ) (ms : List Member) (m : Member) → seen ≡ first ++ names_in (members_of ms) → next ≡ seen ++ part_names (part_of m) → next ≡ first ++ names_in (members_of (ms ++ m ∷ []))
+pub names_noted : (first seen next : List ℕ) (ms : List Member) (m : Member) → seen ≡ first ++ names_in (members_of ms) → next ≡ seen ++ part_names (part_of_member m) → next ≡ first ++ names_in (members_of (ms ++ m ∷ []))
 names_noted first seen next ms m e f =
-    f ∙ ap (λ (s : List ℕ). s ++ part_names (part_of m)) e ∙ append_assoc first (names_in (members_of ms)) (part_names (part_of m)) ∙ ap (λ (s : List ℕ). first ++ s) (sym (names-push ms m))
+    f ∙ ap (λ (s : List ℕ). s ++ part_names (part_of_member m)) e ∙ append_assoc first (names_in (members_of ms)) (part_names (part_of_member m)) ∙ ap (λ (s : List ℕ). first ++ s) (sym (names-push ms m))
 
 abbrev behind : Part → Members × List ℕ → Result ((Part × Members) × List ℕ) Fault
 behind m x = Ok ((m, x.0), x.1)
@@ -79,27 +79,27 @@ regroup front m (Ok x) = ap (λ (ms : Members). Ok (ms, x.1)) (ap (join front) (
 regroup front m (Err f) = refl
 
 pub goes_on : (set_of : List ℕ → Reads Slices) (front : Members) (count i : ℕ) (seen names : List ℕ) (bytes : List ℕ) (m : Part) (after : List ℕ) (total : Result (Members × List ℕ) Fault) → i < count → member_at set_of seen bytes ≡ Ok (m, after) → names ≡ seen ++ part_names m
-    → with_front front (members_at set_of (count - i) seen bytes) ≡ total → with_front (join front (single m)) (members_at set_of (count - (i + 1)) names after) ≡ total
-unfolding members_at
+    → with_front front (member_list_at set_of (count - i) seen bytes) ≡ total → with_front (join front (single m)) (member_list_at set_of (count - (i + 1)) names after) ≡ total
+unfolding member_list_at
 goes_on set_of front count i seen names bytes m after total lt h n so_far =
     let k : count - i ≡ suc (count - (i + 1)) = omega arith in
-    let e : with_front front (members_at set_of (count - i) seen bytes) ≡ with_front (join front (single m)) (members_at set_of (count - (i + 1)) (seen ++ part_names m) after) = rw (k, h) (regroup front m (members_at set_of (count - (i + 1)) (seen ++ part_names m) after)) in
+    let e : with_front front (member_list_at set_of (count - i) seen bytes) ≡ with_front (join front (single m)) (member_list_at set_of (count - (i + 1)) (seen ++ part_names m) after) = rw (k, h) (regroup front m (member_list_at set_of (count - (i + 1)) (seen ++ part_names m) after)) in
     rw n (sym e ∙ so_far)
 
 pub ends : (set_of : List ℕ → Reads Slices) (e : CodecError) (front : Members) (count i : ℕ) (seen : List ℕ) (bytes : List ℕ) (total : Result (Members × List ℕ) Fault) → i < count → Fails e (member_at set_of seen bytes)
-    → with_front front (members_at set_of (count - i) seen bytes) ≡ total → Fails e total
-unfolding members_at
+    → with_front front (member_list_at set_of (count - i) seen bytes) ≡ total → Fails e total
+unfolding member_list_at
 ends set_of errors.NoMemory front count i seen bytes total lt h so_far = tt
 ends set_of (errors.Fault f) front count i seen bytes total lt h so_far =
     let k : count - i ≡ suc (count - (i + 1)) = omega arith in
-    let one : with_front front (members_at set_of (count - i) seen bytes) ≡ Err f = rw (k, h) refl in
+    let one : with_front front (member_list_at set_of (count - i) seen bytes) ≡ Err f = rw (k, h) refl in
     sym so_far ∙ one
 
-pub is_done : (set_of : List ℕ → Reads Slices) (front : Members) (count i : ℕ) (seen : List ℕ) (bytes : List ℕ) (total : Result (Members × List ℕ) Fault) → count ≤ i → with_front front (members_at set_of (count - i) seen bytes) ≡ total → total ≡ Ok (front, bytes)
-unfolding members_at
+pub is_done : (set_of : List ℕ → Reads Slices) (front : Members) (count i : ℕ) (seen : List ℕ) (bytes : List ℕ) (total : Result (Members × List ℕ) Fault) → count ≤ i → with_front front (member_list_at set_of (count - i) seen bytes) ≡ total → total ≡ Ok (front, bytes)
+unfolding member_list_at
 is_done set_of front count i seen bytes total le so_far =
     let k : count - i ≡ 0 = omega arith in
-    let one : with_front front (members_at set_of (count - i) seen bytes) ≡ Ok (front, bytes) = rw k (ap (λ (ms : Members). Ok (ms, bytes)) (join_none front)) in
+    let one : with_front front (member_list_at set_of (count - i) seen bytes) ≡ Ok (front, bytes) = rw k (ap (λ (ms : Members). Ok (ms, bytes)) (join_none front)) in
     sym so_far ∙ one
 
 -- the inner sets among members that keep their thresholds keep them

@@ -14,7 +14,7 @@ use Rattle.codec.specs.Formats.{ValidThen, ValidJudged}
 use Rattle.codec.specs.Faults.{header_fault, is_among, name_fault, spare_fault}
 use Rattle.codec.specs.Spelling.{name, members, slices, first_levels, version_of}
 use Rattle.codec.specs.Parts.{Part, part_names, part_before}
-use Rattle.codec.specs.Reading.{new_name_at, member_at, members_at, header_at, set_with, inner_at, nested_at, slices_at}
+use Rattle.codec.specs.Reading.{new_name_at, member_at, member_list_at, header_at, set_with, inner_at, nested_at, slices_at}
 use Rattle.codec.specs.Grammar.{header, IsHeader, ShowsHeader, AreNames, IsTree, IsPart, part, ShowsName, ShowsPart, ShowsParts, ShowsSet, ShowsInner, ShowsSlices, levels_in, HasLevels, IsInVersion}
 use Rattle.codec.proofs.FieldLaws.{Takes, ok_is}
 use Rattle.codec.proofs.FormatLaws.{ValidAs, ValidEither, Laws, Laws-then, Laws-quiet, Laws-judged, Laws-as, Laws-when, Laws-either, Laws-fail, Laws-byte}
@@ -209,8 +209,8 @@ joined levels n seen ms v =
 abbrev no_members : List ℕ → Result (Members × List ℕ) Fault
 no_members bytes = Ok (none, bytes)
 
-Laws-parts : (levels : ℕ) → LawsInside levels → (n : ℕ) (seen : List ℕ) → AreNames seen → Laws (members_at (inner_at levels) n seen) members (AreParts levels n seen) (ShowsParts levels (ShowsInner levels) n seen)
-unfolding members_at ShowsParts
+Laws-parts : (levels : ℕ) → LawsInside levels → (n : ℕ) (seen : List ℕ) → AreNames seen → Laws (member_list_at (inner_at levels) n seen) members (AreParts levels n seen) (ShowsParts levels (ShowsInner levels) n seen)
+unfolding member_list_at ShowsParts
 Laws-parts levels inside zero seen known = record {
   takes = λ bytes x fits e. subst (λ (y : Members × List ℕ). Takes bytes (members y.0) y.1 × AreParts levels 0 seen y.0) (ok_is (none, bytes) x e) (record { parts = refl; rest_fits = fits }, (refl, empty));
   again = λ ms rest v. subst (λ (w : Members). no_members (members w ++ rest) ≡ Ok (w, rest)) (no_member ms v.0) refl;

@@ -10,9 +10,9 @@ abbrev pub Part : Type 0
 Part = ℕ ⊎ Slices
 
 -- a member in memory, as a name or an inner set of the definitions
-abbrev pub part_of : Member → Part
-part_of (Node u) = inl u
-part_of (Set s) = inr s
+abbrev pub part_of_member : Member → Part
+part_of_member (Node u) = inl u
+part_of_member (Set s) = inr s
 
 -- the names in a member
 abbrev pub part_names : Part → List ℕ

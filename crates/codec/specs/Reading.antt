@@ -57,10 +57,10 @@ unfoldable pub member_at : (List ℕ → Reads Slices) → List ℕ → Reads Pa
 member_at set_of seen = read_either 0 (new_name_at seen) 1 (set_of seen) BadSlices
 
 -- reads so many members, one after another
-unfoldable pub members_at : (List ℕ → Reads Slices) → ℕ → List ℕ → Reads Members
-members_at set_of zero seen bytes = Ok (none, bytes)
-members_at set_of (suc n) seen bytes =
-    read_as (read_then (member_at set_of seen) (λ m. members_at set_of n (seen ++ part_names m))) (λ x. part_before x.0 x.1) bytes
+unfoldable pub member_list_at : (List ℕ → Reads Slices) → ℕ → List ℕ → Reads Members
+member_list_at set_of zero seen bytes = Ok (none, bytes)
+member_list_at set_of (suc n) seen bytes =
+    read_as (read_then (member_at set_of seen) (λ m. member_list_at set_of n (seen ++ part_names m))) (λ x. part_before x.0 x.1) bytes
 
 -- reads a threshold and a count
 unfoldable pub header_at : Reads (ℕ × ℕ)
@@ -69,7 +69,7 @@ header_at = read_judged (read_then byte_at (λ k. byte_at)) header_fault
 -- reads a set: a threshold, a count and the members, where set_of reads inner sets
 unfoldable pub set_with : (List ℕ → Reads Slices) → List ℕ → Reads Slices
 set_with set_of seen =
-    read_as (read_then header_at (λ h. members_at set_of h.1 seen)) (λ x. record { threshold = x.0.0; members = x.1 })
+    read_as (read_then header_at (λ h. member_list_at set_of h.1 seen)) (λ x. record { threshold = x.0.0; members = x.1 })
 
 -- reads what stands behind a 1: an inner set, with so many levels left
 unfoldable pub inner_at : ℕ → List ℕ → Reads Slices
@@ -136,8 +136,8 @@ abbrev pub Fields : Type 0
 Fields = ℕ × (ℕ × (ℕ × (ℕ × (Slices × Statement))))
 
 -- the envelope of these parts
-abbrev pub sent_of : Fields → Sent
-sent_of x = record { sender = x.1.1.0; slot = x.1.1.1.0; slices = x.1.1.1.1.0; body = x.1.1.1.1.1 }
+abbrev pub envelope_of : Fields → Sent
+envelope_of x = record { sender = x.1.1.0; slot = x.1.1.1.0; slices = x.1.1.1.1.0; body = x.1.1.1.1.1 }
 
 -- reads what stands behind the version and the kind: sender, slot, slices and statement
 unfoldable pub parts_at : ℕ → ℕ → Reads (ℕ × (ℕ × (Slices × Statement)))
@@ -146,7 +146,7 @@ parts_at v k =
 
 -- reads an envelope from the front of bytes
 unfoldable pub envelope_at : Reads Sent
-envelope_at = read_as (read_then version_at (λ v. read_then kind_at (λ k. parts_at v k))) sent_of
+envelope_at = read_as (read_then version_at (λ v. read_then kind_at (λ k. parts_at v k))) envelope_of
 
 -- reads an envelope that all of the bytes spell
 unfoldable pub decoding : List ℕ → Result Sent Fault

@@ -1,8 +1,8 @@
 //! Slices that are read from the front, with the names so far.
 
 ghost use Rattle.std.specs.Prelude.{◌≡◌, ◌≤◌, [], ◌∷◌, ◌++◌, IfOk};
-ghost use Rattle.codec.specs.Reading.{Gives, Says, IsBytes, header_at, new_name_at, member_at, members_at, set_with, inner_at, nested_at, slices_at};
-ghost use Rattle.codec.specs.Parts.{part_of, part_names};
+ghost use Rattle.codec.specs.Reading.{Gives, Says, IsBytes, header_at, new_name_at, member_at, member_list_at, set_with, inner_at, nested_at, slices_at};
+ghost use Rattle.codec.specs.Parts.{part_of_member, part_names};
 ghost use Rattle.types.specs.Shape.{members_of};
 ghost use Rattle.types.specs.Trees.{most_levels, names_in};
 
@@ -80,7 +80,7 @@ fn read_members(
     count: u8,
     seen: &mut SeenNames,
 ) -> Result<Vec<Member>, CodecError>
-    ensures read { Gives (λ x. (members_of x.items, reader.new)) result (members_at (inner_at levels) count seen.old reader.old) }
+    ensures read { Gives (λ x. (members_of x.items, reader.new)) result (member_list_at (inner_at levels) count seen.old reader.old) }
     ensures names { IfOk result (λ x. seen.new ≡ seen.old ++ names_in (members_of x.items)) }
 {
     let mut members = Vec::with_capacity(alloc, count as usize)?;
@@ -100,8 +100,8 @@ fn read_member(
     levels: usize,
     seen: &mut SeenNames,
 ) -> Result<Member, CodecError>
-    ensures read { Gives (λ x. (part_of x, reader.new)) result (member_at (inner_at levels) seen.old reader.old) }
-    ensures names { IfOk result (λ x. seen.new ≡ seen.old ++ part_names (part_of x)) }
+    ensures read { Gives (λ x. (part_of_member x, reader.new)) result (member_at (inner_at levels) seen.old reader.old) }
+    ensures names { IfOk result (λ x. seen.new ≡ seen.old ++ part_names (part_of_member x)) }
 {
     match reader.byte()? {
         0 => Ok(Member::Node(read_new_name(reader, seen)?)),

@@ -9,7 +9,7 @@ use Rattle.std.proofs.Math.Seq.{take-append_seam}
 use Rattle.std.proofs.lemmas.List.{take-append-drop}
 use Rattle.std.proofs.lemmas.Slice.Eq.{bytes_eq-Decides}
 use Rattle.command_line.specs.Words.{Text}
-use Rattle.command_line.specs.Options.{behind}
+use Rattle.command_line.specs.Options.{behind_front}
 
 no_front : (front word : Text) (b : Bool) → bytes_eq (take (length front) word) front ≡ b → ((rest : Text) → word ≡ front ++ rest → ⊥) → b ≡ false
 no_front front word false e none = refl
@@ -20,7 +20,7 @@ no_front front word true e none =
 -- what `strip_prefix` answers
 pub stripped : (front word : Text) (r : Option (Bor Text))
     → MatchOption r (FindsTextPrefix front word None) (λ x. StripsPrefix (FindsTextPrefix front) word x.now)
-    → option_map (λ w. w.now) r ≡ behind front word
+    → option_map (λ w. w.now) r ≡ behind_front front word
 stripped front word None none = rw (no_front front word (bytes_eq (take (length front) word) front) refl none) refl
 stripped front word (Some x) (n, found, is, all) =
     let front_is : take (length front) word ≡ front = ap (take (length front)) found.1 ∙ take-append_seam front (drop n word) in

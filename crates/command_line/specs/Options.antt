@@ -5,7 +5,7 @@ use Rattle.std.specs.List.{list_all}
 use Rattle.std.specs.Option.{option_or}
 use Rattle.std.specs.Str.{bytes_eq}
 use Rattle.scripts.specs.Words.{word_number}
-use Rattle.command_line.specs.Words.{Text, AreOperands, is_plain}
+use Rattle.command_line.specs.Words.{Text, AreOperands, is_no_option}
 use Rattle.command_line.specs.Subjects.{format_in}
 use Rattle.command_line.specs.Replays.{replay_in}
 use Rattle.command_line.specs.declared.command.Command.{Command}
@@ -19,8 +19,8 @@ no_options = record { workers = None; format = None; journal = None; from = None
 -- ---- one option
 
 -- what stands behind these bytes at the beginning of a word
-abbrev pub behind : Text → Text → Option Text
-behind front word = if bytes_eq (take (length front) word) front then Some (drop (length front) word) else None
+abbrev pub behind_front : Text → Text → Option Text
+behind_front front word = if bytes_eq (take (length front) word) front then Some (drop (length front) word) else None
 
 -- the first word, and the words behind it
 abbrev pub next_in : List Text → Option (Text × List Text)
@@ -35,9 +35,9 @@ value_behind (Some []) rest = next_in rest
 value_behind (Some (x ∷ value)) rest = if x == 61 then Some (value, rest) else None
 
 -- the value that the first words give to the option of this name, and the words behind it
-abbrev pub value_in : Text → List Text → Option (Text × List Text)
-value_in name [] = None
-value_in name (word ∷ rest) = value_behind (behind name word) rest
+abbrev pub option_value_in : Text → List Text → Option (Text × List Text)
+option_value_in name [] = None
+option_value_in name (word ∷ rest) = value_behind (behind_front name word) rest
 
 -- the number of workers, where it is from 1 to 64
 abbrev pub worker_count : ℕ → Option ℕ
@@ -81,16 +81,16 @@ with_explanation asked (word ∷ rest) = if bytes_eq word (codes "--explain") &&
 
 -- the options with a number of workers, as its option is spelled
 abbrev pub workers_option : Options → List Text → Option (Options × List Text)
-workers_option asked words = option_and_then (with_workers asked) (value_in (codes "--workers") words)
+workers_option asked words = option_and_then (with_workers asked) (option_value_in (codes "--workers") words)
 
 -- the options with a form of report, as its option is spelled
 abbrev pub format_option : Options → List Text → Option (Options × List Text)
-format_option asked words = option_and_then (with_format asked) (value_in (codes "--format") words)
+format_option asked words = option_and_then (with_format asked) (option_value_in (codes "--format") words)
 
 -- the options with a journal, as its options are spelled: its name, or the line from which it is replayed
 abbrev pub journal_option : Options → List Text → Option (Options × List Text)
-journal_option asked words = option_or (option_and_then (with_journal asked) (value_in (codes "--journal") words))
-    (option_and_then (with_from asked) (value_in (codes "--from") words))
+journal_option asked words = option_or (option_and_then (with_journal asked) (option_value_in (codes "--journal") words))
+    (option_and_then (with_from asked) (option_value_in (codes "--from") words))
 
 -- the options with one of `serve` beside them: a number of workers, a journal, envelopes as bytes or an explanation
 abbrev pub serving_in : Options → List Text → Option (Options × List Text)
@@ -125,5 +125,5 @@ pub data AreOptions (c : Command) : Options → List Text → Options → List T
 abbrev pub HasForm : Command → List Text → Options → List Text → Type 0
 HasForm c words asked operands =
     ((rest : List Text) × AreOptions c no_options words asked rest × AreOperands rest operands)
-    ⊎ ((rest : List Text) × (words ≡ operands ++ rest) × (list_all is_plain operands ≡ true)
+    ⊎ ((rest : List Text) × (words ≡ operands ++ rest) × (list_all is_no_option operands ≡ true)
     × AreOptions c no_options rest asked [])

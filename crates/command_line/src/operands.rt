@@ -2,7 +2,7 @@
 
 ghost use Rattle.std.specs.Prelude.{◌≡◌, ◌≤◌, length, map, option_map};
 ghost use Rattle.std.specs.List.{list_all};
-ghost use Rattle.command_line.specs.Words.{is_plain as plain_word, operands_in, plain_count};
+ghost use Rattle.command_line.specs.Words.{is_no_option as plain_word, operand_count, operands_in};
 
 use std::convert::AsStr;
 
@@ -20,7 +20,7 @@ pub fn operands_of<S: AsStr>(words: &[S]) -> Option<&[S]>
 
 /// How many words stand in front of the first option.
 pub fn plain_count<S: AsStr>(words: &[S]) -> usize
-    ensures count { result ≡ plain_count (map S.text words.now) }
+    ensures count { result ≡ operand_count (map S.text words.now) }
     ensures within { result ≤ length words.now }
 {
     match words {

@@ -1,7 +1,7 @@
 //! The words behind a command: its operands, with options before or behind them.
 
 ghost use Rattle.std.specs.Prelude.{◌≡◌, ◌<◌, IfOk, IfSome, IsOkAnd, List, None, length, map, option_map};
-ghost use Rattle.command_line.specs.Options.{AreOptions, HasForm, behind, format_option, journal_option, lack_journal, next_in, no_options, option_in, serving_in, value_in, with_bytes, with_explanation, with_format, with_from, with_journal, with_workers, workers_in, workers_option};
+ghost use Rattle.command_line.specs.Options.{AreOptions, HasForm, behind_front, format_option, journal_option, lack_journal, next_in, no_options, option_in, option_value_in, serving_in, with_bytes, with_explanation, with_format, with_from, with_journal, with_workers, workers_in, workers_option};
 ghost use Rattle.command_line.specs.Subjects.{format_or_text};
 ghost use Rattle.command_line.specs.Words.{Text};
 
@@ -353,7 +353,7 @@ fn with_explanation<'a, S: AsStr>(
 /// The value that the first words give to the option of this name, and the words behind it: it is the next word, or
 /// stands behind `=` in the same one.
 fn value_before<'a, S: AsStr>(name: &str, words: &'a [S]) -> Option<(&'a str, &'a [S])>
-    ensures value { option_map (λ p. (p.0.now, map S.text p.1.now)) result ≡ value_in name.now (map S.text words.entry.now) }
+    ensures value { option_map (λ p. (p.0.now, map S.text p.1.now)) result ≡ option_value_in name.now (map S.text words.entry.now) }
     ensures shorter { IfSome result (λ p. length p.1.now < length words.entry.now) }
 {
     let [word, rest @ ..] = words else {
@@ -382,7 +382,7 @@ fn next_word<S: AsStr>(words: &[S]) -> Option<(&str, &[S])>
 
 /// What stands behind this text at the beginning of a word.
 fn behind<'a>(front: &str, word: &'a str) -> Option<&'a str>
-    ensures { option_map (λ w. w.now) result ≡ behind front.now word.entry.now }
+    ensures { option_map (λ w. w.now) result ≡ behind_front front.now word.entry.now }
 {
     word.strip_prefix(front)
 }

@@ -60,57 +60,57 @@ weight_of_sets none = 1
 weight_of_sets (set k ms own rest) = 1 + weight_of_sets own + weight_of_sets rest
 
 -- a law: each compiled set of a list weighs less inside than the list does, so a walk into sets ends
-pub most_le : (cs : List Compiled) → most (λ c. weight_of_sets c.inner + 1) cs ≤ weight_of_sets (sets_of cs)
-most_le [] = omega arith
-most_le (c ∷ cs) = omega (arith, most_le cs)
+pub most_sets_le : (cs : List Compiled) → most (λ c. weight_of_sets c.inner + 1) cs ≤ weight_of_sets (sets_of cs)
+most_sets_le [] = omega arith
+most_sets_le (c ∷ cs) = omega (arith, most_sets_le cs)
 
 -- ---- a code: the sets as a list of tokens, each a number and masks
 abbrev pub mask_code : Coded Mask
 mask_code =
     code_by (ℕ × ℕ) (coded× coded_ℕ coded_ℕ) (λ m. (m.index, m.bits)) (λ p. record { index = p.0; bits = p.1 }) (λ _. refl)
 
-abbrev pub Token : Type 0
-Token = ℕ × List Mask
+abbrev pub SetToken : Type 0
+SetToken = ℕ × List Mask
 
-abbrev pub tokens : Sets → List Token → List Token
-tokens none after = (0, []) ∷ after
-tokens (set k ms own rest) after = (suc k, ms) ∷ tokens own (tokens rest after)
+abbrev pub set_tokens : Sets → List SetToken → List SetToken
+set_tokens none after = (0, []) ∷ after
+set_tokens (set k ms own rest) after = (suc k, ms) ∷ set_tokens own (set_tokens rest after)
 
 -- the sets at the front, and the tokens after them
-abbrev pub sets_at : ℕ → List Token → Sets × List Token
+abbrev pub sets_at : ℕ → List SetToken → Sets × List SetToken
 sets_at zero ts = (none, ts)
 sets_at (suc fuel) [] = (none, [])
 sets_at (suc fuel) ((zero, ms) ∷ ts) = (none, ts)
 sets_at (suc fuel) ((suc k, ms) ∷ ts) =
     (set k ms (sets_at fuel ts).0 (sets_at fuel (sets_at fuel ts).1).0, (sets_at fuel (sets_at fuel ts).1).1)
 
-length-tokens : (s : Sets) (after : List Token) → length (tokens s after) ≡ weight_of_sets s + length after
+length-tokens : (s : Sets) (after : List SetToken) → length (set_tokens s after) ≡ weight_of_sets s + length after
 length-tokens none after = omega arith
-length-tokens (set k ms own rest) after = omega (arith, length-tokens own (tokens rest after), length-tokens rest after)
+length-tokens (set k ms own rest) after = omega (arith, length-tokens own (set_tokens rest after), length-tokens rest after)
 
-sets-again : (s : Sets) (fuel : ℕ) (after : List Token) → weight_of_sets s ≤ fuel
-    → sets_at fuel (tokens s after) ≡ (s, after)
+sets-again : (s : Sets) (fuel : ℕ) (after : List SetToken) → weight_of_sets s ≤ fuel
+    → sets_at fuel (set_tokens s after) ≡ (s, after)
 sets-again none zero after h = absurd (omega arith)
 sets-again none (suc fuel) after h = refl
 sets-again (set k ms own rest) zero after h = absurd (omega arith)
 sets-again (set k ms own rest) (suc fuel) after h =
-    let e = sets-again own fuel (tokens rest after) (omega arith) in
+    let e = sets-again own fuel (set_tokens rest after) (omega arith) in
     let f = sets-again rest fuel after (omega arith) in
-    ap (λ (p : Sets × List Token). (set k ms p.0 (sets_at fuel p.1).0, (sets_at fuel p.1).1)) e ∙ ap (λ (p : Sets × List Token). (set k ms own p.0, p.1)) f
+    ap (λ (p : Sets × List SetToken). (set k ms p.0 (sets_at fuel p.1).0, (sets_at fuel p.1).1)) e ∙ ap (λ (p : Sets × List SetToken). (set k ms own p.0, p.1)) f
 
-abbrev pub tokens_of : Sets → List Token
-tokens_of s = tokens s []
+abbrev pub tokens_of_sets : Sets → List SetToken
+tokens_of_sets s = set_tokens s []
 
-abbrev pub sets_from : List Token → Sets
-sets_from ts = (sets_at (length ts) ts).0
+abbrev pub sets_of_tokens : List SetToken → Sets
+sets_of_tokens ts = (sets_at (length ts) ts).0
 
-pub sets_from-tokens_of : (s : Sets) → sets_from (tokens_of s) ≡ s
+pub sets_from-tokens_of : (s : Sets) → sets_of_tokens (tokens_of_sets s) ≡ s
 sets_from-tokens_of s =
-    ap (λ (p : Sets × List Token). p.0) (sets-again s (length (tokens_of s)) [] (omega (arith, length-tokens s [])))
+    ap (λ (p : Sets × List SetToken). p.0) (sets-again s (length (tokens_of_sets s)) [] (omega (arith, length-tokens s [])))
 
 abbrev pub sets_code : Coded Sets
 sets_code =
-    code_by (List Token) (coded_list (coded× coded_ℕ (coded_list mask_code))) tokens_of sets_from sets_from-tokens_of
+    code_by (List SetToken) (coded_list (coded× coded_ℕ (coded_list mask_code))) tokens_of_sets sets_of_tokens sets_from-tokens_of
 
 -- compiled sets are told apart by their parts, so it is decided whether two are equal
 abbrev pub compiled_code : Coded Compiled

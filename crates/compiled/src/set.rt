@@ -21,7 +21,7 @@ pub struct CompiledSet {
 
 impl Model for CompiledSet {
     ghost use Rattle.std.specs.Prelude.{◌+◌, ◌≤◌, length};
-    ghost use Rattle.compiled.specs.Places.{Compiled, compiled_code, count_in, sets_of, weight_of_sets, most_le};
+    ghost use Rattle.compiled.specs.Places.{Compiled, compiled_code, count_in, sets_of, weight_of_sets, most_sets_le};
     ghost use Rattle.std.proofs.Common.{arith};
 
     ghost Value = { Compiled };
@@ -34,7 +34,7 @@ impl Model for CompiledSet {
 
     ghost size = { λ c. weight_of_sets c.inner };
 
-    ghost size_decreases = { λ a h. omega (arith, most_le a.inner.items) };
+    ghost size_decreases = { λ a h. omega (arith, most_sets_le a.inner.items) };
 }
 
 impl CompiledSet {

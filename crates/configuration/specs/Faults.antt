@@ -8,14 +8,14 @@ use Rattle.configuration.specs.declared.error.ConfigError.{ConfigError}
 use Rattle.configuration.specs.declared.error.ConfigError.TheVariants.{NodeTwice, NoNodes, TooManyNodes, NoMemory, RosterTwice, RosterTooLong, ShareTooLarge}
 
 -- the numbers of the errors of a configuration
-abbrev pub error_number : ConfigError → ℕ
-error_number NodeTwice = 1
-error_number NoNodes = 2
-error_number TooManyNodes = 3
-error_number NoMemory = 4
-error_number RosterTwice = 5
-error_number RosterTooLong = 6
-error_number ShareTooLarge = 7
+abbrev pub config_error_number : ConfigError → ℕ
+config_error_number NodeTwice = 1
+config_error_number NoNodes = 2
+config_error_number TooManyNodes = 3
+config_error_number NoMemory = 4
+config_error_number RosterTwice = 5
+config_error_number RosterTooLong = 6
+config_error_number ShareTooLarge = 7
 
 -- the error of the first test that holds, if one does
 abbrev pub first_fault : List (Bool × ConfigError) → Option ConfigError

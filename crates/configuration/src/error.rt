@@ -1,7 +1,7 @@
 //! Why nodes and a roster make no network.
 
 ghost use Rattle.std.specs.Prelude.{◌≡◌};
-ghost use Rattle.configuration.specs.Faults.{error_number};
+ghost use Rattle.configuration.specs.Faults.{config_error_number};
 ghost use Rattle.configuration.specs.declared.error.ConfigError.TheVariants.{NoMemory};
 
 use std::alloc::AllocError;
@@ -37,7 +37,7 @@ pub enum ConfigError {
 impl ConfigError {
     /// The number by which the error is known, 1 to 7.
     pub fn number(&self) -> u8
-        ensures { result ≡ error_number self.now }
+        ensures { result ≡ config_error_number self.now }
     {
         match self {
             ConfigError::NodeTwice => 1,

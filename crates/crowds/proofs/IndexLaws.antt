@@ -6,7 +6,7 @@ use Rattle.std.proofs.lemmas.Bool.{eqb-true, eq-eqb}
 use Rattle.std.proofs.lemmas.Bool.Decides.{nat_tests}
 use Rattle.protocol.specs.Hosts.{Config, nodes_of}
 use Rattle.protocol.specs.Submissions.{config_of}
-use Rattle.crowds.specs.Indexed.{IsIndexed, config_place}
+use Rattle.crowds.specs.Indexed.{AreConfigsIndexed, config_place}
 
 -- what stands at the place
 stands : (cs : List Config) (g i : ℕ) → config_place cs g ≡ Some i → (i < length cs) × ((d : Config) → Some (get_or cs i d) ≡ config_of cs g)
@@ -34,10 +34,10 @@ unplaced (c ∷ cs) g h = go (c.number == g) (config_place cs g) refl h (unplace
     go false (Some j) e f ih = absurd (cc)
 
 -- what the code reads
-pub found : (cs now : List Config) (places : BTreeMap ℕ ℕ) (g i : ℕ) → cs ≡ now → IsIndexed cs places → Some i ≡ get nat_cmp places g → (i < length cs) × ((d : Config) → Some (get_or cs i d) ≡ config_of now g)
+pub found : (cs now : List Config) (places : BTreeMap ℕ ℕ) (g i : ℕ) → cs ≡ now → AreConfigsIndexed cs places → Some i ≡ get nat_cmp places g → (i < length cs) × ((d : Config) → Some (get_or cs i d) ≡ config_of now g)
 found cs now places g i view is h = let r = stands cs g i (sym (is.at g) ∙ sym h) in (r.0, λ d. r.1 d ∙ ap (λ ds. config_of ds g) view)
 
-pub absent : (cs now : List Config) (places : BTreeMap ℕ ℕ) (g : ℕ) → cs ≡ now → IsIndexed cs places → None ≡ get nat_cmp places g → None ≡ config_of now g
+pub absent : (cs now : List Config) (places : BTreeMap ℕ ℕ) (g : ℕ) → cs ≡ now → AreConfigsIndexed cs places → None ≡ get nat_cmp places g → None ≡ config_of now g
 absent cs now places g view is h = sym (unplaced cs g (sym (is.at g) ∙ sym h)) ∙ ap (λ ds. config_of ds g) view
 
 -- one configuration more, the first of its number
@@ -58,17 +58,17 @@ place-more (d ∷ cs) c q h = go (d.number == c.number) (d.number == q) (c.numbe
 at-is : (e u : ℕ) → is_at (nat_cmp u) e ≡ (u == e)
 at-is e u = grind (arith, nat_tests)
 
-pub indexed_more : (cs : List Config) (c : Config) (old new : BTreeMap ℕ ℕ) → IsIndexed cs old → config_of cs c.number ≡ None
-    → ((q : ℕ) → get nat_cmp new q ≡ cond (is_at (nat_cmp c.number) q) (Some (length cs)) (get nat_cmp old q)) → IsIndexed (cs ++ c ∷ []) new
+pub indexed_more : (cs : List Config) (c : Config) (old new : BTreeMap ℕ ℕ) → AreConfigsIndexed cs old → config_of cs c.number ≡ None
+    → ((q : ℕ) → get nat_cmp new q ≡ cond (is_at (nat_cmp c.number) q) (Some (length cs)) (get nat_cmp old q)) → AreConfigsIndexed (cs ++ c ∷ []) new
 indexed_more cs c old new is fresh put = record {
   at = λ q.
       put q ∙ (λ i. cond (at-is q c.number i) (Some (length cs)) (is.at q i)) ∙ sym (place-more cs c q fresh);
 }
 
-pub indexed_read : (cs room now : List Config) (c : Config) (old new : BTreeMap ℕ ℕ) (g place : ℕ) → IsIndexed cs old → room ≡ cs → now ≡ room ++ c ∷ [] → place ≡ length room → g ≡ c.number → config_of cs g ≡ None
-    → Updates nat_cmp old new g (Some place) → IsIndexed now new
+pub indexed_read : (cs room now : List Config) (c : Config) (old new : BTreeMap ℕ ℕ) (g place : ℕ) → AreConfigsIndexed cs old → room ≡ cs → now ≡ room ++ c ∷ [] → place ≡ length room → g ≡ c.number → config_of cs g ≡ None
+    → Updates nat_cmp old new g (Some place) → AreConfigsIndexed now new
 indexed_read cs room now c old new g place is kept more last number fresh put =
-    subst (λ ds. IsIndexed ds new) (sym (more ∙ ap (λ ds. ds ++ c ∷ []) kept))
+    subst (λ ds. AreConfigsIndexed ds new) (sym (more ∙ ap (λ ds. ds ++ c ∷ []) kept))
     (indexed_more cs c old new is (ap (config_of cs) (sym number) ∙ fresh) (λ q. put.0 q ∙ (λ i. cond (is_at (nat_cmp (number i)) q) (Some ((last ∙ ap (λ ds. length ds) kept) i)) (get nat_cmp old q))))
 
 -- a network without a configuration has no hosted nodes

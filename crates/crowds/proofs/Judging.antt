@@ -8,10 +8,10 @@ use Rattle.protocol.specs.Rosters.{Roster}
 use Rattle.protocol.specs.Hosts.{Config, History, entries, nodes_of}
 use Rattle.protocol.specs.Isolation.{closure, SameCast}
 use Rattle.protocol.specs.Submissions.{answers, concerning_steps, config_of, names_on, roster_names, SameReserves}
-use Rattle.closure.specs.Hosting.{AreAlike}
+use Rattle.closure.specs.Hosting.{AreHostedAlike}
 use Rattle.closure.specs.Least.{AreAll}
 use Rattle.network.specs.Decoding.{reading}
-use Rattle.crowds.specs.Listing.{IsOn}
+use Rattle.crowds.specs.Listing.{IsOnRoster}
 use Rattle.crowds.specs.Submitted.{concerns_members, marked_steps}
 use Rattle.crowds.proofs.MarkedSteps.{marked_asked}
 use Rattle.crowds.proofs.RunsOf.{concerned_asked}
@@ -38,8 +38,8 @@ module _ (one other : History) (g i v : ℕ) (members : List ℕ) where
     pub reserves : SameReserves (config_of one.configs g) (config_of other.configs g)
     pub inside : AreWithin inner (among (roster_names (config_of one.configs g)))
 
-  pub are_reserved : ((u : ℕ) → among members u ≡ inner u) → IsTrue (is_some (slices_of (nodes_of one.configs g) v)) → (nodes others : List HostedNode) → nodes ≡ nodes_of one.configs g → others ≡ nodes_of other.configs g → AreAlike nodes others members
-      → (c d : Config) → Some c ≡ config_of one.configs g → Some d ≡ config_of other.configs g → SameReserves (Some c) (Some d) → (r : Roster) → Some r ≡ c.roster → AreAll (IsOn r.names) members → AreReserved
+  pub are_reserved : ((u : ℕ) → among members u ≡ inner u) → IsTrue (is_some (slices_of (nodes_of one.configs g) v)) → (nodes others : List HostedNode) → nodes ≡ nodes_of one.configs g → others ≡ nodes_of other.configs g → AreHostedAlike nodes others members
+      → (c d : Config) → Some c ≡ config_of one.configs g → Some d ≡ config_of other.configs g → SameReserves (Some c) (Some d) → (r : Roster) → Some r ≡ c.roster → AreAll (IsOnRoster r.names) members → AreReserved
   are_reserved exactly hosted nodes others p q alike c d first second same r roster on = record {
     cast = record { hosted = hosted; same = λ u m. ap (λ (hs : List HostedNode). slices_of hs u) (sym p) ∙ (alike u (exactly u ∙ m) ∙ ap (λ (hs : List HostedNode). slices_of hs u) q) };
     reserves = subst (λ (z : Option Config × Option Config). SameReserves z.0 z.1) (λ j. (first j, second j)) same;

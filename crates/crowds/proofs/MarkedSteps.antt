@@ -12,7 +12,8 @@ use Rattle.protocol.specs.Verdicts.{IsFirstDifference}
 use Rattle.network.specs.Decoding.{step_of}
 use Rattle.closure.proofs.Places.{rest_at, there_is}
 use Rattle.closure.proofs.SideBySide.{IsAgreed, agreed_at_first, agreed_more, agreed_whole, parts_at_end, parts_at_other_end, parts_unlike}
-use Rattle.crowds.specs.Submitted.{AreReadable, AreUnmarked, IsNextMarked, IsReadable, concerning_steps_in, concerns_members, marked_steps}
+use Rattle.crowds.specs.Submitted.{AreReadable, AreUnmarked, IsNextMarked, concerning_steps_in, concerns_members, marked_steps}
+use Rattle.hoststep.specs.Keeping.{IsReadable}
 
 abbrev Calls : Type 0
 Calls = List (ℕ × Event)

@@ -17,7 +17,7 @@ use Rattle.closure.proofs.Places.{front_at}
 use Rattle.network.specs.Decoding.{reading, step_of}
 use Rattle.hoststep.specs.Logs.{IsEntered, IsRefused, Log, with_entry}
 use Rattle.world.proofs.Histories.{journal-snoc, steps-snoc}
-use Rattle.crowds.specs.Replies.{IsAnswer}
+use Rattle.crowds.specs.Replies.{IsReplied}
 use Rattle.crowds.specs.Submitted.{concerning_steps_in, concerns_members}
 
 -- ---- the network
@@ -46,7 +46,7 @@ run-snoc (x ∷ xs) net e = go (first_that (tests net x)) refl (λ n. run-snoc x
         (ih next ∙ ap {B = List Answer} (λ (p : Option Refusal). net_run next xs ++ record { step = e; reply = (net_step (net_after (state_and_reply net x p).0 (journal next xs)) e).1 } ∷ []) (sym q))
 
 -- ---- what a journal answers
-pub is_done : (old new : Log) (e : Step) (os : List _) → IsEntered old e os → new ≡ with_entry old e os → IsAnswer old e (Done os) new
+pub is_done : (old new : Log) (e : Step) (os : List _) → IsEntered old e os → new ≡ with_entry old e os → IsReplied old e (Done os) new
 unfolding net_step
 is_done old new e os h n = record {
   config = ap (λ (l : Log). l.config) n;
@@ -54,7 +54,7 @@ is_done old new e os h n = record {
   entries = ap (λ (l : Log). l.entries) n;
 }
 
-pub is_refused : (old new : Log) (e : Step) (r : Refusal) → refusal_of old.config old.entries e ≡ Some r → new ≡ old → IsAnswer old e (Refused r) new
+pub is_refused : (old new : Log) (e : Step) (r : Refusal) → refusal_of old.config old.entries e ≡ Some r → new ≡ old → IsReplied old e (Refused r) new
 unfolding net_step
 is_refused old new e r h n = record {
   config = ap (λ (l : Log). l.config) n;
@@ -62,10 +62,10 @@ is_refused old new e r h n = record {
   entries = ap (λ (l : Log). l.entries) n ∙ sym (append-nil old.entries);
 }
 
-pub refused_is : {A E : Type 0} (view : A → Reply) (old new : Log) (e : Step) (r : Refusal) (result : Result A E) → IfOk result (λ x. view x ≡ Refused r) → IfOk result (λ _. r ≢ NoMemory) → IsRefused old e r → new ≡ old → IfOk result (λ x. IsAnswer old e (view x) new)
+pub refused_is : {A E : Type 0} (view : A → Reply) (old new : Log) (e : Step) (r : Refusal) (result : Result A E) → IfOk result (λ x. view x ≡ Refused r) → IfOk result (λ _. r ≢ NoMemory) → IsRefused old e r → new ≡ old → IfOk result (λ x. IsReplied old e (view x) new)
 refused_is view old new e r (Ok x) a b h n = elim h [
   | inl m ↦ absurd (b m.0)
-  | inr q ↦ subst (λ (y : Reply). IsAnswer old e y new) (sym a) (is_refused old new e r q n)
+  | inr q ↦ subst (λ (y : Reply). IsReplied old e y new) (sym a) (is_refused old new e r q n)
 ]
 refused_is view old new e r (Err x) a b h n = tt
 
@@ -113,7 +113,7 @@ module _ (h : History) (c : Config) (g : ℕ) (is : config_of h.configs g ≡ So
     new_step : (call.0 == g) ≡ true → steps (take (k + 1) h.calls) ≡ steps (take k h.calls) ++ step_of call.1 ∷ []
     new_step o = steps_more ∙ ap (λ b. steps (take k h.calls) ++ (if b then step_of call.1 ∷ [] else [])) o
 
-    log_grows : (call.0 == g) ≡ true → (r : Reply) (new : Log) → IsAnswer (log_so_far h c g k) (step_of call.1) r new → new ≡ log_so_far h c g (k + 1)
+    log_grows : (call.0 == g) ≡ true → (r : Reply) (new : Log) → IsReplied (log_so_far h c g k) (step_of call.1) r new → new ≡ log_so_far h c g (k + 1)
     log_grows o r new a = λ j. record { config = a.config j; entries = grown j }
       where
         grown : new.entries ≡ entries reading (so_far h (k + 1)) g
@@ -123,10 +123,10 @@ module _ (h : History) (c : Config) (g : ℕ) (is : config_of h.configs g ≡ So
             ∙ sym (journal-snoc (steps (take k h.calls)) (new_net c) (step_of call.1))
             ∙ ap (journal (new_net c)) (sym (new_step o)) ∙ sym (entries_are (k + 1))
 
-    pub log_next : (call.0 == g) ≡ true → (old : Log) {r : Reply} {new : Log} → old ≡ log_so_far h c g k → IsAnswer old (step_of call.1) r new → new ≡ log_so_far h c g (k + 1)
-    log_next o old {r} {new} e a = log_grows o r new (subst (λ (l : Log). IsAnswer l (step_of call.1) r new) e a)
+    pub log_next : (call.0 == g) ≡ true → (old : Log) {r : Reply} {new : Log} → old ≡ log_so_far h c g k → IsReplied old (step_of call.1) r new → new ≡ log_so_far h c g (k + 1)
+    log_next o old {r} {new} e a = log_grows o r new (subst (λ (l : Log). IsReplied l (step_of call.1) r new) e a)
 
-    answers_grow : (call.0 == g) ≡ true → (r : Reply) (new : Log) → IsAnswer (log_so_far h c g k) (step_of call.1) r new
+    answers_grow : (call.0 == g) ≡ true → (r : Reply) (new : Log) → IsReplied (log_so_far h c g k) (step_of call.1) r new
         → answers reading (so_far h (k + 1)) g ≡ answers reading (so_far h k) g ++ record { step = step_of call.1; reply = r } ∷ []
     answers_grow o r new a =
         answers_are (k + 1) ∙ ap (net_run (new_net c)) (new_step o) ∙ run-snoc (steps (take k h.calls)) (new_net c) (step_of call.1)
@@ -145,13 +145,13 @@ module _ (h : History) (c : Config) (g : ℕ) (is : config_of h.configs g ≡ So
         last false = refl
 
     -- the replies that are kept
-    pub replies_next : (call.0 == g) ≡ true → (before : Log) {r : Reply} {new : Log} → before ≡ log_so_far h c g k → IsAnswer before (step_of call.1) r new → (R : Names) (i : ℕ) (b : Bool) → b ≡ concerns_members R i g call → (old now : List Reply)
+    pub replies_next : (call.0 == g) ≡ true → (before : Log) {r : Reply} {new : Log} → before ≡ log_so_far h c g k → IsReplied before (step_of call.1) r new → (R : Names) (i : ℕ) (b : Bool) → b ≡ concerns_members R i g call → (old now : List Reply)
         → old ≡ replied_to R i (answers reading (so_far h k) g) → now ≡ old ++ (if b then r ∷ [] else []) → now ≡ replied_to R i (answers reading (so_far h (k + 1)) g)
     replies_next o before {r} {new} start a R i b m old now e f =
         f ∙ ap (λ (x : Bool). old ++ (if x then r ∷ [] else [])) (m ∙ ap (λ (x : Bool). x && concerns R i (step_of call.1)) o)
         ∙ ap (λ (xs : List Reply). xs ++ (if concerns R i (step_of call.1) then r ∷ [] else [])) e
         ∙ sym (replied-snoc R i (answers reading (so_far h k) g) (record { step = step_of call.1; reply = r }))
-        ∙ sym (ap (replied_to R i) (answers_grow o r new (subst (λ (l : Log). IsAnswer l (step_of call.1) r new) start a)))
+        ∙ sym (ap (replied_to R i) (answers_grow o r new (subst (λ (l : Log). IsReplied l (step_of call.1) r new) start a)))
 
 -- ---- before all events, and after them
 pub log_at_first : (h : History) (c : Config) (g : ℕ) → log_so_far h c g 0 ≡ record { config = c; entries = [] }

@@ -9,7 +9,8 @@ use Rattle.protocol.specs.Networks.Reading.{Read, Fault}
 use Rattle.protocol.specs.Networks.Step.{Opens, Closes, Proposes, Delivers, Hears, NominationTimerFires, BallotTimerFires, Reslices}
 use Rattle.network.specs.Decoding.{reading, step_of}
 use Rattle.network.proofs.Readings.{readings_are_exact}
-use Rattle.crowds.specs.Submitted.{HasBytes, IsReadable}
+use Rattle.crowds.specs.Submitted.{DeliversBytes}
+use Rattle.hoststep.specs.Keeping.{IsReadable}
 
 -- the bytes of a reading
 bytes_of : Reading → List ℕ
@@ -32,7 +33,7 @@ unfolding bytes_of
 read_back bytes (Read e) u size fits h readable = sym (((readings_are_exact bytes fits).envelope e).0 h).text
 read_back bytes (Fault n) u size fits h readable = absurd readable
 
-had_back : (e : Event) → HasBytes e → IsReadable (step_of e) → back (step_of e) ≡ e
+had_back : (e : Event) → DeliversBytes e → IsReadable (step_of e) → back (step_of e) ≡ e
 unfolding back
 had_back (OpenSlot j) fits h = refl
 had_back (CloseSlot j) fits h = refl
@@ -47,5 +48,5 @@ had_back (NominationTimer j u r) fits h = refl
 had_back (BallotTimer j u n) fits h = refl
 had_back (Reslice j u q) fits h = refl
 
-pub same_events : (a b : Event) → HasBytes a → HasBytes b → IsReadable (step_of a) → step_of a ≡ step_of b → a ≡ b
+pub same_events : (a b : Event) → DeliversBytes a → DeliversBytes b → IsReadable (step_of a) → step_of a ≡ step_of b → a ≡ b
 same_events a b f g h e = sym (had_back a f h) ∙ ap back e ∙ had_back b g (subst IsReadable e h)

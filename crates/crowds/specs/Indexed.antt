@@ -10,5 +10,5 @@ config_place [] g = None
 config_place (c ∷ cs) g = if c.number == g then Some 0 else option_map suc (config_place cs g)
 
 -- the map has the place of each configuration by its number, and none for other numbers
-pub record IsIndexed (configs : List Config) (places : BTreeMap ℕ ℕ) : Type 0 where
+pub record AreConfigsIndexed (configs : List Config) (places : BTreeMap ℕ ℕ) : Type 0 where
   pub at : (g : ℕ) → get nat_cmp places g ≡ config_place configs g

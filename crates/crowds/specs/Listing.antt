@@ -3,8 +3,8 @@ use Rattle.std.specs.Prelude.{ℕ, List, IsTrue, IsFalse}
 use Rattle.protocol.specs.Sets.{among}
 
 -- a name is on a roster
-abbrev pub IsOn : List ℕ → ℕ → Type 0
-IsOn names u = IsTrue (among names u)
+abbrev pub IsOnRoster : List ℕ → ℕ → Type 0
+IsOnRoster names u = IsTrue (among names u)
 
 -- a name is not on a roster
 abbrev pub IsOff : List ℕ → ℕ → Type 0

@@ -7,20 +7,16 @@ use Rattle.codec.specs.Steps.{IsBytes}
 use Rattle.protocol.specs.Sets.{Names}
 use Rattle.protocol.specs.Networks.{Reading, Step}
 use Rattle.protocol.specs.Networks.Reading.{Read, Fault}
-use Rattle.protocol.specs.Networks.Step.{Delivers}
 use Rattle.protocol.specs.Hosts.{Config, History}
 use Rattle.protocol.specs.Submissions.{concerns, config_of}
 use Rattle.network.specs.Decoding.{step_of}
+use Rattle.hoststep.specs.Keeping.{IsReadable}
 use Rattle.crowds.specs.declared.submission.SubmissionError.{SubmissionError}
 use Rattle.crowds.specs.declared.submission.SubmissionError.TheVariants.{NetTwice, NoMemory}
 
 -- a submission with one more configuration
 abbrev pub with_config : History → Config → History
 with_config h c = record h { configs = h.configs ++ c ∷ [] }
-
--- a submission with one more event
-abbrev pub and_then : History → ℕ → Event → History
-and_then h g e = record h { calls = h.calls ++ (g, e) ∷ [] }
 
 -- why a network of this number is not declared
 abbrev pub IsNotDeclared : List Config → ℕ → SubmissionError → Type 0
@@ -35,15 +31,10 @@ concerns_members R i g c = (c.0 == g) && concerns R i (step_of c.1)
 unfoldable pub concerning_steps_in : Names → ℕ → ℕ → List (ℕ × Event) → List Step
 concerning_steps_in R i g calls = map (λ c. step_of c.1) (filter (concerns_members R i g) calls)
 
--- what a step delivers, if it delivers bytes, is an envelope
-abbrev pub IsReadable : Step → Type 0
-IsReadable (Delivers u size (Fault n)) = ⊥
-IsReadable _ = ⊤
-
 -- what an event delivers are bytes
-abbrev pub HasBytes : Event → Type 0
-HasBytes (Deliver u bytes) = IsBytes bytes
-HasBytes _ = ⊤
+abbrev pub DeliversBytes : Event → Type 0
+DeliversBytes (Deliver u bytes) = IsBytes bytes
+DeliversBytes _ = ⊤
 
 -- bytes are read as this envelope, where they are one
 abbrev pub IsReadAs : Reading → Option Sent → Type 0

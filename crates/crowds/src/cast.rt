@@ -1,9 +1,9 @@
 //! Whether two networks host the same members.
 
 ghost use Rattle.std.specs.Prelude.{◌≡◌, MatchOption, option_map};
-ghost use Rattle.closure.specs.Announcing.{names_of};
+ghost use Rattle.closure.specs.Announcing.{member_names};
 ghost use Rattle.protocol.specs.Networks.{slices_of};
-ghost use Rattle.closure.specs.Hosting.{AreAlike, IsLeastUnlike};
+ghost use Rattle.closure.specs.Hosting.{AreHostedAlike, IsLeastUnlike};
 
 use closure::{ClosureList, is_hosted_alike, least_failing};
 use configuration::HostedNode;
@@ -15,7 +15,7 @@ pub(crate) fn least_unlike(
     other: &[HostedNode],
     members: &ClosureList,
 ) -> Option<NodeId>
-    ensures { MatchOption result (AreAlike one.now other.now (names_of members.now)) (IsLeastUnlike one.now other.now (names_of members.now)) }
+    ensures { MatchOption result (AreHostedAlike one.now other.now (member_names members.now)) (IsLeastUnlike one.now other.now (member_names members.now)) }
 {
     least_failing(members, |name| {
         is_hosted_alike(slices_among(one, name), slices_among(other, name))

@@ -5,7 +5,7 @@ ghost use Rattle.protocol.specs.Hosts.{entries, nodes_of};
 ghost use Rattle.protocol.specs.Isolation.{closure};
 ghost use Rattle.protocol.specs.Networks.{slices_of};
 ghost use Rattle.protocol.specs.Sets.{among};
-ghost use Rattle.closure.specs.Announcing.{names_of};
+ghost use Rattle.closure.specs.Announcing.{member_names};
 ghost use Rattle.network.specs.Decoding.{reading};
 ghost use Rattle.crowds.specs.Crowding.{AreNeverCrowdedOut, IsCrowdHere};
 
@@ -65,7 +65,7 @@ fn crowd_among(
     members: &ClosureList,
 ) -> Result<Crowd, AllocError>
     requires hosted { IsTrue (is_some (slices_of (nodes_of one.now.configs subject.now.net) subject.now.node)) }
-    requires members { (u : ℕ) → among (names_of members.now) u ≡ closure (nodes_of one.now.configs subject.now.net) subject.now.slot subject.now.node (entries reading one.now subject.now.net) u }
+    requires members { (u : ℕ) → among (member_names members.now) u ≡ closure (nodes_of one.now.configs subject.now.net) subject.now.slot subject.now.node (entries reading one.now subject.now.net) u }
     ensures { IfOk result (IsCrowdHere one.now other.now subject.now.net subject.now.slot subject.now.node) }
 {
     are_never_crowded_out(one, other, subject);

@@ -6,7 +6,7 @@ ghost use Rattle.std.specs.Prelude.{◌≡◌, ℕ, IfOk};
 ghost use Rattle.protocol.specs.Networks.Step.{Delivers};
 ghost use Rattle.protocol.specs.Sets.{among};
 ghost use Rattle.protocol.specs.Submissions.{concerns};
-ghost use Rattle.closure.specs.Announcing.{names_of};
+ghost use Rattle.closure.specs.Announcing.{member_names};
 ghost use Rattle.network.specs.Decoding.{reading, step_of};
 ghost use Rattle.crowds.specs.Submitted.{IsReadAs};
 
@@ -23,7 +23,7 @@ pub(crate) fn concerns(
     members: &ClosureList,
     slot: u64,
 ) -> Result<bool, AllocError>
-    ensures { IfOk result (λ b. b ≡ concerns (among (names_of members.now)) slot (step_of event.now)) }
+    ensures { IfOk result (λ b. b ≡ concerns (among (member_names members.now)) slot (step_of event.now)) }
 {
     match event {
         Event::OpenSlot { .. } | Event::CloseSlot { .. } => Ok(true),
@@ -49,7 +49,7 @@ fn is_between_members(
     members: &ClosureList,
     slot: u64,
 ) -> Result<bool, AllocError>
-    ensures { (size : ℕ) → IfOk result (λ b. b ≡ concerns (among (names_of members.now)) slot (Delivers node.now size (reading bytes.now))) }
+    ensures { (size : ℕ) → IfOk result (λ b. b ≡ concerns (among (member_names members.now)) slot (Delivers node.now size (reading bytes.now))) }
 {
     if !members.has(node) {
         return Ok(false);

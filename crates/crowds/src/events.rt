@@ -3,7 +3,8 @@
 ghost use Rattle.std.specs.Prelude.{◌≡◌, ◌↔◌, IsTrue};
 ghost use Rattle.codec.specs.Steps.{IsBytes};
 ghost use Rattle.network.specs.Decoding.{step_of};
-ghost use Rattle.crowds.specs.Submitted.{HasBytes, IsReadable};
+ghost use Rattle.crowds.specs.Submitted.{DeliversBytes};
+ghost use Rattle.hoststep.specs.Keeping.{IsReadable};
 
 use types::Event;
 
@@ -20,7 +21,7 @@ pub(crate) fn is_same_step(one: &Event, other: &Event) -> bool
 
 /// A law: what is delivered are bytes.
 fn has_bytes(event: &Event)
-    ensures { HasBytes event.now }
+    ensures { DeliversBytes event.now }
 {
     match event {
         Event::Deliver { bytes, .. } => are_bytes(bytes.as_slice()),

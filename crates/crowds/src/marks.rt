@@ -2,7 +2,7 @@
 
 ghost use Rattle.std.specs.Prelude.{◌≡◌, ◌≤◌, IfOk, MatchOption, length, map};
 ghost use Rattle.protocol.specs.Sets.{among};
-ghost use Rattle.closure.specs.Announcing.{names_of};
+ghost use Rattle.closure.specs.Announcing.{member_names};
 ghost use Rattle.crowds.specs.Submitted.{AreUnmarked, IsNextMarked, concerns_members};
 
 use crate::concerning::concerns;
@@ -19,7 +19,7 @@ pub(crate) fn marks(
     members: &ClosureList,
     slot: u64,
 ) -> Result<Vec<bool>, AllocError>
-    ensures { IfOk result (λ v. v.items ≡ map (concerns_members (among (names_of members.now)) slot net) calls.now) }
+    ensures { IfOk result (λ v. v.items ≡ map (concerns_members (among (member_names members.now)) slot net) calls.now) }
 {
     let mut marks = Vec::with_capacity(alloc, calls.len())?;
     for call in calls {
@@ -35,7 +35,7 @@ fn concerns_members(
     members: &ClosureList,
     slot: u64,
 ) -> Result<bool, AllocError>
-    ensures { IfOk result (λ b. b ≡ concerns_members (among (names_of members.now)) slot net call.now) }
+    ensures { IfOk result (λ b. b ≡ concerns_members (among (member_names members.now)) slot net call.now) }
 {
     let (number, event) = call;
     if *number != net {

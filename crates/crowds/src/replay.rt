@@ -7,7 +7,7 @@ ghost use Rattle.protocol.specs.Sets.{Names};
 ghost use Rattle.types.specs.declared.event.Refusal.TheVariants.{NoMemory};
 ghost use Rattle.protocol.specs.Submissions.{answers, config_of, replied_to};
 ghost use Rattle.network.specs.Decoding.{reading, step_of};
-ghost use Rattle.crowds.specs.Replies.{IsAnswer, reply_of};
+ghost use Rattle.crowds.specs.Replies.{IsReplied, reply_of_answer};
 ghost use Rattle.crowds.specs.Submitted.{concerns_members};
 
 use crate::reply::Reply;
@@ -49,7 +49,7 @@ pub(crate) fn replies_to(
 ) -> Result<Vec<Reply>, AllocError>
     requires declared { config_of submission.now.configs net ≡ Some config.now }
     requires marked { length marks.now ≡ length submission.now.calls }
-    ensures { (R : Names) (i : ℕ) → marks.now ≡ map (concerns_members R i net) submission.now.calls → IfOk result (λ v. map reply_of v.items ≡ replied_to R i (answers reading submission.now net)) }
+    ensures { (R : Names) (i : ℕ) → marks.now ≡ map (concerns_members R i net) submission.now.calls → IfOk result (λ v. map reply_of_answer v.items ≡ replied_to R i (answers reading submission.now net)) }
 {
     let mut journal = Journal::new(alloc, config.try_copy(alloc)?, BoxShelf::new(alloc));
     let mut replies = Vec::new(alloc);
@@ -71,7 +71,7 @@ fn answer(
     journal: &mut Journal<BoxShelf>,
     event: &Event,
 ) -> Result<Reply, AllocError>
-    ensures { IfOk result (λ r. IsAnswer journal.old (step_of event.now) (reply_of r) journal.new) }
+    ensures { IfOk result (λ r. IsReplied journal.old (step_of event.now) (reply_of_answer r) journal.new) }
 {
     match journal.apply(event.try_copy(alloc)?) {
         Ok(outs) => Ok(Reply::Done(outs)),
@@ -81,7 +81,7 @@ fn answer(
 
 /// A refusal as a reply; an error if it says that it is out of memory.
 fn reply_of_refusal(refusal: Refusal) -> Result<Reply, AllocError>
-    ensures reply { IfOk result (λ r. reply_of r ≡ Refused refusal) }
+    ensures reply { IfOk result (λ r. reply_of_answer r ≡ Refused refusal) }
     ensures other { IfOk result (λ _. refusal ≢ NoMemory) }
 {
     if is_want_of_memory(&refusal) {
@@ -107,7 +107,7 @@ fn is_marked(marks: &[bool], place: usize) -> bool
 
 /// Keeps a reply, if it is asked for.
 fn keep(replies: &mut Vec<Reply>, reply: Reply, concerns_members: bool) -> Result<(), AllocError>
-    ensures { OnOk result (map reply_of replies.new.items ≡ map reply_of replies.old.items ++ (if concerns_members then reply_of reply ∷ [] else [])) }
+    ensures { OnOk result (map reply_of_answer replies.new.items ≡ map reply_of_answer replies.old.items ++ (if concerns_members then reply_of_answer reply ∷ [] else [])) }
 {
     if concerns_members {
         return match replies.push(reply) {

@@ -1,7 +1,7 @@
 //! What a network answers to what is submitted to it.
 
 ghost use Rattle.std.specs.Prelude.{◌≡◌, map};
-ghost use Rattle.crowds.specs.Replies.{reply_of};
+ghost use Rattle.crowds.specs.Replies.{reply_of_answer};
 
 use std::marker::Model;
 use types::{Out, Refusal};
@@ -28,25 +28,25 @@ impl Model for Replies {
     ghost use Rattle.std.specs.Prelude.{List, map};
     ghost use Rattle.types.specs.Trees.{members_code};
     ghost use Rattle.protocol.specs.Networks.{Reply};
-    ghost use Rattle.crowds.specs.Replies.{reply_of};
+    ghost use Rattle.crowds.specs.Replies.{reply_of_answer};
 
     ghost Value = { List Reply };
 
     ghost coded = { Prim.hlevel (codes, members_code) };
 
-    ghost view = { λ r. map reply_of r.replies.items };
+    ghost view = { λ r. map reply_of_answer r.replies.items };
 }
 
 impl Replies {
     pub(crate) fn of(replies: Vec<Reply>) -> Replies
-        ensures { result ≡ map reply_of replies.items }
+        ensures { result ≡ map reply_of_answer replies.items }
     {
         Replies { replies }
     }
 
     /// The replies, in order.
     pub fn as_slice(&self) -> &[Reply]
-        ensures { map reply_of result.now ≡ self.now }
+        ensures { map reply_of_answer result.now ≡ self.now }
     {
         &self.replies
     }

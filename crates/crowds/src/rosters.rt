@@ -1,11 +1,11 @@
 //! Whether two networks reserve the same, and for whom.
 
 ghost use Rattle.std.specs.Prelude.{◌≡◌, ◌↔◌, ℕ, IsTrue, MatchOption, Some};
-ghost use Rattle.closure.specs.Announcing.{names_of};
+ghost use Rattle.closure.specs.Announcing.{member_names};
 ghost use Rattle.protocol.specs.Sets.{among, within};
 ghost use Rattle.protocol.specs.Submissions.{SameReserves, SameRoster};
 ghost use Rattle.closure.specs.Least.{AreAll, IsLeast};
-ghost use Rattle.crowds.specs.Listing.{IsOff, IsOn};
+ghost use Rattle.crowds.specs.Listing.{IsOff, IsOnRoster};
 
 use closure::{ClosureList, least_failing};
 use configuration::{NetConfig, Roster, Shares};
@@ -61,7 +61,7 @@ fn is_same_share(one: &Shares, other: &Shares) -> bool
 
 /// The least member that is not on the roster.
 pub(crate) fn least_outside(members: &ClosureList, roster: &Roster) -> Option<NodeId>
-    ensures { MatchOption result (AreAll (IsOn roster.now.names) (names_of members.now)) (IsLeast (IsOff roster.now.names) (IsOn roster.now.names) (names_of members.now)) }
+    ensures { MatchOption result (AreAll (IsOnRoster roster.now.names) (member_names members.now)) (IsLeast (IsOff roster.now.names) (IsOnRoster roster.now.names) (member_names members.now)) }
 {
     least_failing(members, |name| roster.has(name))
 }

@@ -3,7 +3,8 @@
 ghost use Rattle.std.specs.Prelude.{◌≡◌, ◌++◌, ◌∷◌, [], IfErr, None, OnErr, OnOk, option_map};
 ghost use Rattle.protocol.specs.Hosts.{nodes_of};
 ghost use Rattle.protocol.specs.Submissions.{config_of};
-ghost use Rattle.crowds.specs.Submitted.{IsNotDeclared, and_then, with_config};
+ghost use Rattle.crowds.specs.Submitted.{IsNotDeclared, with_config};
+ghost use Rattle.world.specs.Worlds.{and_then};
 
 use configuration::{HostedNode, NetConfig};
 use std::alloc::{AllocError, Global};
@@ -40,7 +41,7 @@ impl Model for Submission {
     ghost use Rattle.std.specs.Coded.{codes};
     ghost use Rattle.types.specs.Trees.{members_code};
     ghost use Rattle.protocol.specs.Hosts.{History};
-    ghost use Rattle.crowds.specs.Indexed.{IsIndexed};
+    ghost use Rattle.crowds.specs.Indexed.{AreConfigsIndexed};
 
     ghost Value = { History };
 
@@ -48,7 +49,7 @@ impl Model for Submission {
 
     ghost view = { λ s. record { configs = s.configs.items; calls = s.calls.items } };
 
-    ghost invariant = { λ s. IsIndexed s.configs.items s.places };
+    ghost invariant = { λ s. AreConfigsIndexed s.configs.items s.places };
 }
 
 impl Submission {

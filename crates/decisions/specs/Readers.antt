@@ -8,6 +8,6 @@ use Rattle.decisions.specs.declared.board.Board.{Board}
 use Rattle.decisions.specs.declared.board.Published.{Published}
 
 -- the decisions that a reader was lent last; none without a reader
-abbrev pub seen_by : Option (Reader Board (List Decision) Published Global) → List Decision
-seen_by None = []
-seen_by (Some r) = view r.place
+abbrev pub decisions_seen : Option (Reader Board (List Decision) Published Global) → List Decision
+decisions_seen None = []
+decisions_seen (Some r) = view r.place

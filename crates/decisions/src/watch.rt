@@ -29,9 +29,9 @@ impl Model for Watch {
     ghost Value = { List Decision };
 
     ghost use Rattle.std.specs.Prelude.{IsSome};
-    ghost use Rattle.decisions.specs.Readers.{seen_by};
+    ghost use Rattle.decisions.specs.Readers.{decisions_seen};
 
-    ghost view = { λ w. seen_by w.reader };
+    ghost view = { λ w. decisions_seen w.reader };
 
     ghost invariant = { λ w. IsSome w.reader };
 }

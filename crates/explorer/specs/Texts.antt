@@ -13,17 +13,17 @@ abbrev pub text_of_namer : ℕ → ℕ → Bytes
 text_of_namer place namer = if place == 0 then codes " -\n" else codes " " ++ (decimal namer ++ 10 ∷ [])
 
 -- the line of a member: its place, its name, and who named it
-abbrev pub line_of_member : ℕ × (ℕ × ℕ) → Bytes
-line_of_member m = decimal m.0 ++ (32 ∷ text_of_name m.1.0 ++ text_of_namer m.0 m.1.1)
+abbrev pub line_of_named_member : ℕ × (ℕ × ℕ) → Bytes
+line_of_named_member m = decimal m.0 ++ (32 ∷ text_of_name m.1.0 ++ text_of_namer m.0 m.1.1)
 
 -- the line of the member at a place, where there is one
 abbrev pub line_at : ℕ → Option (ℕ × ℕ) → Bytes
 line_at place None = []
-line_at place (Some m) = line_of_member (place, m)
+line_at place (Some m) = line_of_named_member (place, m)
 
 -- the lines of the members from a place on
 abbrev pub lines_from : ℕ → MemberList → Bytes
-lines_from place members = flat_map line_of_member (enumerate_from place members)
+lines_from place members = flat_map line_of_named_member (enumerate_from place members)
 
 -- a name behind a space
 abbrev pub name_behind_space : ℕ → Bytes

@@ -2,7 +2,7 @@
 
 ghost use Rattle.std.specs.Prelude.{◌≡◌, ℕ, IfOk};
 ghost use Rattle.protocol.specs.Sets.{IsAscending, among};
-ghost use Rattle.closure.specs.Announcing.{names_of};
+ghost use Rattle.closure.specs.Announcing.{member_names};
 
 use closure::ClosureList;
 use std::alloc::{AllocError, Global};
@@ -11,7 +11,7 @@ use types::NodeId;
 /// The members of a closure, ascending. An error says that it is out of memory.
 pub fn ascending_members(alloc: Global, members: &ClosureList) -> Result<Vec<NodeId>, AllocError>
     ensures ascending { IfOk result (λ v. IsAscending v.items) }
-    ensures all { IfOk result (λ v. (u : ℕ) → among v.items u ≡ among (names_of members.now) u) }
+    ensures all { IfOk result (λ v. (u : ℕ) → among v.items u ≡ among (member_names members.now) u) }
 {
     let mut names = Vec::new(alloc);
     for place in 0..members.len() {

@@ -2,7 +2,7 @@
 
 ghost use Rattle.std.specs.Prelude.{◌≡◌, IfOk};
 ghost use Rattle.protocol.specs.Sets.{among};
-ghost use Rattle.closure.specs.Announcing.{IsClosureList, names_of, slices_then};
+ghost use Rattle.closure.specs.Announcing.{IsClosureList, member_names, slices_then};
 ghost use Rattle.explorer.specs.Reports.{AreHosted};
 
 use crate::hosted::hosted_members;
@@ -89,7 +89,7 @@ pub fn report_of<J: Announcements>(
     node: &NodeId,
 ) -> Result<ClosureReport, AllocError>
     ensures members { IfOk result (λ r. IsClosureList (J.nodes journal.now) slot node.now (J.entries journal.now) r.members) }
-    ensures hosted { IfOk result (λ r. AreHosted (slices_then (J.nodes journal.now) slot (J.entries journal.now)) (among (names_of r.members)) r.hosted) }
+    ensures hosted { IfOk result (λ r. AreHosted (slices_then (J.nodes journal.now) slot (J.entries journal.now)) (among (member_names r.members)) r.hosted) }
 {
     let members = closure(alloc, journal, slot, node)?;
     let names = ascending_members(alloc, &members)?;

@@ -2,7 +2,7 @@
 
 ghost use Rattle.std.specs.Prelude.{◌≡◌, ◌++◌, OnOk, slice_get, string_bytes};
 ghost use Rattle.std.specs.List.{flat_map};
-ghost use Rattle.explorer.specs.Texts.{line_at, line_of_blockers, line_of_member, lines_from, name_behind_space, text_of_namer, text_of_report};
+ghost use Rattle.explorer.specs.Texts.{line_at, line_of_blockers, line_of_named_member, lines_from, name_behind_space, text_of_namer, text_of_report};
 
 use crate::report::{Blockers, ClosureReport};
 use closure::ClosureList;
@@ -48,7 +48,7 @@ fn push_member(
     name: &NodeId,
     namer: usize,
 ) -> Result<(), AllocError>
-    ensures { OnOk result (string_bytes text.new ≡ string_bytes text.old ++ line_of_member (place, (name.now, namer))) }
+    ensures { OnOk result (string_bytes text.new ≡ string_bytes text.old ++ line_of_named_member (place, (name.now, namer))) }
 {
     write!(text, "{place} ")?;
     push_name(text, name)?;

@@ -7,7 +7,7 @@ use Rattle.std.proofs.lemmas.List.{append-nil}
 use Rattle.std.proofs.lemmas.List.Folds.{list_all-append, list_any-append}
 use Rattle.scripts.specs.Script.{Bytes, lines_with_feeds, has_no_feed}
 use Rattle.feed.specs.WholeLines.{given, has_hole}
-use Rattle.feed.specs.Reading.{Held, held, longer, longer_given, Grows}
+use Rattle.feed.specs.Reading.{HeldLine, held, longer, longer_given, Grows}
 
 -- ---- the first line feed
 
@@ -102,15 +102,15 @@ over_by longest line more false e = refl
 hole_both : (xs ys : Bytes) → has_hole (xs ++ ys) ≡ (has_hole xs || has_hole ys)
 hole_both xs ys = list_any-append (λ b. b == 0) xs ys
 
-abbrev held_as : Option Bytes → Bool → Held
+abbrev held_as : Option Bytes → Bool → HeldLine
 held_as g s = record { given = g; hole = s }
 
-pub grows : (longest : ℕ) (before after : Held) (more : Bytes) → after ≡ longer longest before more → Grows longest before after more
+pub grows : (longest : ℕ) (before after : HeldLine) (more : Bytes) → after ≡ longer longest before more → Grows longest before after more
 grows longest before after more e line was =
     e ∙ ap (λ kept. longer longest kept more) was
     ∙ ap₂ held_as (over_by longest line more (nat_lt longest (length line)) refl) (sym (hole_both line more))
 
-pub grows_nothing : (longest : ℕ) (kept : Held) → Grows longest kept kept []
+pub grows_nothing : (longest : ℕ) (kept : HeldLine) → Grows longest kept kept []
 grows_nothing longest kept line was = was ∙ ap (held longest) (sym (append-nil line))
 
 -- what came last is taken back

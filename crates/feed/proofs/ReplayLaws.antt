@@ -10,12 +10,12 @@ use Rattle.scripts.specs.Script.{Bytes, lines_with_feeds, has_no_feed}
 use Rattle.scripts.specs.declared.input.ReadError.{ReadError}
 use Rattle.scripts.specs.declared.run.Stop.{Stop}
 use Rattle.scripts.specs.declared.run.Stop.TheVariants as stop
-use Rattle.feed.specs.WholeLines.{BeginsWithLines, given, has_hole, has_no_hole, is_plain}
-use Rattle.feed.specs.Reading.{AreNextLines, Held, IsNextLine, IsReadTo, given_of, nothing_held, whole_of}
-use Rattle.feed.specs.Served.{AreAnswered, Reply, Serves, Serving, journal_line}
-use Rattle.feed.specs.Served.Serves.{none}
+use Rattle.feed.specs.WholeLines.{BeginsWithLines, given, has_hole, has_no_hole, is_whole_line}
+use Rattle.feed.specs.Reading.{AreNextLines, HeldLine, IsNextLine, IsReadTo, given_of, nothing_held, whole_of}
+use Rattle.feed.specs.Served.{AreAnswered, LineReply, ServesAll, Serving, journal_line}
+use Rattle.feed.specs.Served.ServesAll.{none}
 use Rattle.feed.specs.Acts.{lines_run}
-use Rattle.feed.specs.Replayed.{AreRun, AreRunBefore, HasReplayed, HasReplayedLine, HasReplayedLines, IsNoLine, IsTaken, Replaying, is_told, told_if}
+use Rattle.feed.specs.Replayed.{AreRun, AreRunBefore, HasReplayed, HasReplayedLine, HasReplayedLines, IsJournalReply, IsNoLine, Replaying, is_told, told_if}
 use Rattle.feed.specs.declared.replaying.JournalEnd.{JournalEnd}
 use Rattle.feed.proofs.LineLaws.{one_line_more, plain_more}
 use Rattle.feed.proofs.RunLaws.{no_line_whole, runs_front, stops_at_hole}
@@ -43,10 +43,10 @@ pub record Replays {S : Type 0} (serves : Serving S) (longest : ℕ) (from : Opt
   pub lines : List Bytes
   pub journal : List Bytes
   pub text : Bytes
-  pub plain : list_all is_plain lines ≡ true
+  pub plain : list_all is_whole_line lines ≡ true
   pub unfed : list_all has_no_feed lines ≡ true
   pub consumed : Consumes file now (lines_with_feeds lines)
-  pub served : Serves (Replaying from serves) longest s 1 lines journal text t
+  pub served : ServesAll (Replaying from serves) longest s 1 lines journal text t
   pub told : Appends old new text
   pub counted : end.lines ≡ length lines
   pub measured : end.bytes ≡ length (lines_with_feeds lines)
@@ -66,25 +66,25 @@ begins serves longest from s file old end e f = record {
 }
 
 -- one line more
-pub one_more : {S : Type 0} (serves : Serving S) (longest : ℕ) (from : Option ℕ) (s : S) (file mid now old kept new : Option Bytes) (before end : JournalEnd) (t u : S) (h : Held) (more : Bool)
+pub one_more : {S : Type 0} (serves : Serving S) (longest : ℕ) (from : Option ℕ) (s : S) (file mid now old kept new : Option Bytes) (before end : JournalEnd) (t u : S) (h : HeldLine) (more : Bool)
     → h.hole ≡ false → Replays serves longest from s file mid old kept before t → IsNextLine longest mid now h (Some more)
     → HasReplayedLine serves from t before h.given kept new (Ok end) u → Replays serves longest from s file now old new end u
 one_more {S} serves longest from s file mid now old kept new before end t u h more whole r next served =
     let line = next.0 in
     let told = served.1 in
-    let is_given : Some served.0 ≡ given longest line = sym served.2 ∙ ap (λ (h : Held). h.given) next.3 in
+    let is_given : Some served.0 ≡ given longest line = sym served.2 ∙ ap (λ (h : HeldLine). h.given) next.3 in
     let same : served.0 ≡ line = given_is longest line served.0 (sym is_given) in
     let place : before.lines + 1 ≡ 1 + length r.lines = omega (arith, r.counted) in
     let one : Replaying from serves t (1 + length r.lines) (given longest line) told u =
     subst (λ (k : ℕ). Replaying from serves t k (given longest line) told u) place
     (subst (λ g. Replaying from serves t (before.lines + 1) g told u) is_given served.3) in
-    let hole : has_no_hole line ≡ true = no_hole line (sym (ap (λ (h : Held). h.hole) next.3) ∙ whole) in
-    let plain : is_plain line ≡ true = ap₂ (λ (x y : Bool). x && y) next.1 hole in
+    let hole : has_no_hole line ≡ true = no_hole line (sym (ap (λ (h : HeldLine). h.hole) next.3) ∙ whole) in
+    let plain : is_whole_line line ≡ true = ap₂ (λ (x y : Bool). x && y) next.1 hole in
     record {
       lines = r.lines ++ line ∷ [];
       journal = r.journal ++ journal_line (given longest line) told ∷ [];
       text = r.text ++ told.text;
-      plain = list_all-append is_plain r.lines (line ∷ []) ∙ ap₂ (λ (x y : Bool). x && (y && true)) r.plain plain;
+      plain = list_all-append is_whole_line r.lines (line ∷ []) ∙ ap₂ (λ (x y : Bool). x && (y && true)) r.plain plain;
       unfed = plain_more r.lines line r.unfed next.1;
       consumed = subst (Consumes file now) (sym (one_line_more r.lines line)) (Consumes-trans file mid now (lines_with_feeds r.lines) (line ++ 10 ∷ []) r.consumed next.2);
       served = serves_more (Replaying from serves) longest s t u 1 r.lines r.journal r.text line told r.served one;
@@ -102,7 +102,7 @@ one_more {S} serves longest from s file mid now old kept new before end t u h mo
 front_of : (text rest : Bytes) (lines : List Bytes) → text ≡ lines_with_feeds lines ++ rest → list_all has_no_feed lines ≡ true → BeginsWithLines text lines
 front_of text rest lines e plain = record { rest = rest; parts = e; plain = plain }
 
-are_run : (file mid : Option Bytes) (lines : List Bytes) → list_all is_plain lines ≡ true → list_all has_no_feed lines ≡ true → Consumes file mid (lines_with_feeds lines)
+are_run : (file mid : Option Bytes) (lines : List Bytes) → list_all is_whole_line lines ≡ true → list_all has_no_feed lines ≡ true → Consumes file mid (lines_with_feeds lines)
     → IfSome mid (λ rest. lines_run rest ≡ []) → AreRun file lines
 are_run None mid lines plain unfed c ends = tt
 are_run (Some text) None lines plain unfed c ends = absurd c
@@ -110,7 +110,7 @@ are_run (Some text) (Some rest) lines plain unfed c ends =
     (front_of text rest lines c unfed, ap lines_run c ∙ runs_front lines rest plain ∙ ap (λ ls. lines ++ ls) ends ∙ append-nil lines)
 
 -- the input has ended, or the next line has a byte 0
-pub ends_here : (longest : ℕ) (mid now : Option Bytes) (h : Held) (read : Option Bool) → IsNextLine longest mid now h read → (is_none read || h.hole) ≡ true → IfSome mid (λ rest. lines_run rest ≡ [])
+pub ends_here : (longest : ℕ) (mid now : Option Bytes) (h : HeldLine) (read : Option Bool) → IsNextLine longest mid now h read → (is_none read || h.hole) ≡ true → IfSome mid (λ rest. lines_run rest ≡ [])
 ends_here longest None now h read next e = tt
 ends_here longest (Some rest) now h None next e = at_end now next.2 next.3
   where
@@ -119,16 +119,16 @@ ends_here longest (Some rest) now h None next e = at_end now next.2 next.3
     at_end (Some left) c f = ap lines_run (c ∙ ap (λ l. next.0 ++ l) f ∙ append-nil next.0) ∙ no_line_whole [] next.0 next.1
 ends_here longest (Some rest) None h (Some more) next e = absurd next.2
 ends_here longest (Some rest) (Some left) h (Some more) next e =
-    ap lines_run (next.2 ∙ append_assoc next.0 (10 ∷ []) left) ∙ stops_at_hole [] next.0 (10 ∷ left) next.1 (sym (ap (λ (h : Held). h.hole) next.3) ∙ e)
+    ap lines_run (next.2 ∙ append_assoc next.0 (10 ∷ []) left) ∙ stops_at_hole [] next.0 (10 ∷ left) next.1 (sym (ap (λ (h : HeldLine). h.hole) next.3) ∙ e)
 
-pub replayed : {S : Type 0} (serves : Serving S) (longest : ℕ) (from : Option ℕ) (s : S) (file mid now old new : Option Bytes) (end : JournalEnd) (t : S) (h : Held) (read : Option Bool)
+pub replayed : {S : Type 0} (serves : Serving S) (longest : ℕ) (from : Option ℕ) (s : S) (file mid now old new : Option Bytes) (end : JournalEnd) (t : S) (h : HeldLine) (read : Option Bool)
     → Replays serves longest from s file mid old new end t → IsNextLine longest mid now h read → (is_none read || h.hole) ≡ true
     → HasReplayed serves longest from s file old new (Ok end) t
 replayed serves longest from s file mid now old new end t h read r next e =
     (r.lines, r.journal, r.text, are_run file mid r.lines r.plain r.unfed r.consumed (ends_here longest mid now h read next e), r.served, r.told, r.counted, r.measured)
 
 -- a line is none of a journal, or something else went wrong
-pub not_replayed : {S : Type 0} (serves : Serving S) (longest : ℕ) (from : Option ℕ) (s : S) (file mid now old kept new last : Option Bytes) (end : JournalEnd) (t u v : S) (h : Held) (more : Bool) (why : Stop)
+pub not_replayed : {S : Type 0} (serves : Serving S) (longest : ℕ) (from : Option ℕ) (s : S) (file mid now old kept new last : Option Bytes) (end : JournalEnd) (t u v : S) (h : HeldLine) (more : Bool) (why : Stop)
     → h.hole ≡ false → Replays serves longest from s file mid old kept end t → IsNextLine longest mid now h (Some more)
     → HasReplayedLine serves from t end h.given kept new (Err why) u → HasReplayed serves longest from s file old last (Err why) v
 not_replayed serves longest from s file mid now old kept new last end t u v h more (stop.BadLine n) whole r next bad = (
@@ -140,13 +140,13 @@ not_replayed serves longest from s file mid now old kept new last end t u v h mo
   before file mid now r.consumed next.2,
   r.served,
   omega (arith, bad.0, r.counted),
-  subst (λ g. IsNoLine serves t n g) (ap (λ (h : Held). h.given) next.3) bad.1,
+  subst (λ g. IsNoLine serves t n g) (ap (λ (h : HeldLine). h.given) next.3) bad.1,
 )
   where
     hole : has_no_hole next.0 ≡ true
-    hole = no_hole next.0 (sym (ap (λ (h : Held). h.hole) next.3) ∙ whole)
+    hole = no_hole next.0 (sym (ap (λ (h : HeldLine). h.hole) next.3) ∙ whole)
 
-    plain : list_all is_plain (next.0 ∷ []) ≡ true
+    plain : list_all is_whole_line (next.0 ∷ []) ≡ true
     plain = ap₂ (λ (x y : Bool). (x && y) && true) next.1 hole
 
     before : (file mid now : Option Bytes) → Consumes file mid (lines_with_feeds r.lines) → Consumes mid now (next.0 ++ 10 ∷ []) → AreRunBefore file r.lines next.0
@@ -163,8 +163,8 @@ not_replayed serves longest from s file mid now old kept new last end t u v h mo
 -- ---- one line
 
 -- a line was answered again
-pub line_replayed : {S : Type 0} (serves : Serving S) (from : Option ℕ) (s t : S) (end : JournalEnd) (g old new : Option Bytes) (line : Bytes) (a : Reply) (n : ℕ) (result : Result JournalEnd Stop)
-    → g ≡ Some line → n ≡ end.lines + 1 → serves s n (Some line) a t → IsTaken a → Appends old new (told_if (is_told from n) a.text)
+pub line_replayed : {S : Type 0} (serves : Serving S) (from : Option ℕ) (s t : S) (end : JournalEnd) (g old new : Option Bytes) (line : Bytes) (a : LineReply) (n : ℕ) (result : Result JournalEnd Stop)
+    → g ≡ Some line → n ≡ end.lines + 1 → serves s n (Some line) a t → IsJournalReply a → Appends old new (told_if (is_told from n) a.text)
     → IfOk result (λ now. (now.lines ≡ n) × (now.bytes ≡ end.bytes + length line + 1)) → IfErr result (λ why. why ≡ stop.TooLong)
     → HasReplayedLine serves from s end g old new result t
 line_replayed serves from s t end g old new line a n (Ok now) is place one taken told ends other = (
@@ -182,29 +182,29 @@ line_replayed serves from s t end g old new line a n (Err why) is place one take
 -- ---- lines that came together
 
 -- what is answered again behind so many of these lines is answered behind all
-abbrev pub FollowsAgain : {S : Type 0} → Serving S → Option ℕ → S → JournalEnd → List Held → Option Bytes → ℕ → JournalEnd → Option Bytes → S → Type 0
+abbrev pub FollowsAgain : {S : Type 0} → Serving S → Option ℕ → S → JournalEnd → List HeldLine → Option Bytes → ℕ → JournalEnd → Option Bytes → S → Type 0
 FollowsAgain {S} serves from s first all old k end now state =
     (new : Option Bytes) (result : Result JournalEnd Stop) (t : S)
     → HasReplayedLines serves from state end (map given_of (drop k all)) now new result t → HasReplayedLines serves from s first (map given_of all) old new result t
 
 -- so many of these lines were answered again, with these answers left for others
-abbrev pub Again : {S : Type 0} → Serving S → Option ℕ → S → S → JournalEnd → List Held → Option Bytes → ℕ → ℕ → List Reply → JournalEnd → Option Bytes → Type 0
+abbrev pub Again : {S : Type 0} → Serving S → Option ℕ → S → S → JournalEnd → List HeldLine → Option Bytes → ℕ → ℕ → List LineReply → JournalEnd → Option Bytes → Type 0
 Again serves from s final first all old m k answers end now = Left serves final first.lines all m k answers end.lines (FollowsAgain serves from s first all old k end now)
 
-module _ {S : Type 0} (serves : Serving S) (from : Option ℕ) (s final : S) (first : JournalEnd) (all : List Held) (old : Option Bytes) (m : ℕ) where
-  pub again_at_first : (t : S) (answers : List Reply) → AreAnswered serves s (first.lines + 1) (map given_of (take m all)) answers t → m ≤ length all → (length answers ≡ m → t ≡ final)
+module _ {S : Type 0} (serves : Serving S) (from : Option ℕ) (s final : S) (first : JournalEnd) (all : List HeldLine) (old : Option Bytes) (m : ℕ) where
+  pub again_at_first : (t : S) (answers : List LineReply) → AreAnswered serves s (first.lines + 1) (map given_of (take m all)) answers t → m ≤ length all → (length answers ≡ m → t ≡ final)
       → Again serves from s final first all old m 0 answers first old
   again_at_first t answers are l same = left_at_first serves s t final first.lines all m answers (FollowsAgain serves from s first all old 0 first old) are l same (λ new result t h. h)
 
   -- all lines were answered again
-  pub again_all : (k : ℕ) (end : JournalEnd) (now : Option Bytes) (answers : List Reply) → k ≡ m → Again serves from s final first all old m k answers end now → length all ≤ k
+  pub again_all : (k : ℕ) (end : JournalEnd) (now : Option Bytes) (answers : List LineReply) → k ≡ m → Again serves from s final first all old m k answers end now → length all ≤ k
       → HasReplayedLines serves from s first (map given_of all) old now (Ok end) final
   again_all k end now answers q r l =
       left_end serves final first.lines all m k answers end.lines (FollowsAgain serves from s first all old k end now) q r now (Ok end) final
       (subst (λ hs. HasReplayedLines serves from final end (map given_of hs) now now (Ok end) final) (sym (drop_all k all l)) (refl, refl, refl))
 
   -- there is no number for the next line
-  pub again_unnumbered : (k : ℕ) (end : JournalEnd) (now : Option Bytes) (answers : List Reply) → k ≡ m → Again serves from s final first all old m k answers end now → k < length all
+  pub again_unnumbered : (k : ℕ) (end : JournalEnd) (now : Option Bytes) (answers : List LineReply) → k ≡ m → Again serves from s final first all old m k answers end now → k < length all
       → HasReplayedLines serves from s first (map given_of all) old now (Err stop.TooLong) final
   again_unnumbered k end now answers q r l =
       let is = dropped k all (get_or all k nothing_held) l (at_self all k nothing_held l) in
@@ -212,7 +212,7 @@ module _ {S : Type 0} (serves : Serving S) (from : Option ℕ) (s final : S) (fi
       (subst (λ hs. HasReplayedLines serves from final end (map given_of hs) now now (Err stop.TooLong) final) (sym is) (inr (stop.TooLong, refl, final, tt)))
 
   -- the next line was answered again
-  pub again_next : (k : ℕ) (end e : JournalEnd) (now mid : Option Bytes) (h : Held) (a : Reply) (answers : List Reply) → get_or all k h ≡ h → k < length all
+  pub again_next : (k : ℕ) (end e : JournalEnd) (now mid : Option Bytes) (h : HeldLine) (a : LineReply) (answers : List LineReply) → get_or all k h ≡ h → k < length all
       → Again serves from s final first all old m k (a ∷ answers) end now
       → ((p q : S) → serves p (end.lines + 1) (given_of h) a q → HasReplayedLine serves from p end (given_of h) now mid (Ok e) q) → Again serves from s final first all old m (k + 1) answers e mid
   again_next k end e now mid h a answers at l r taken =
@@ -223,7 +223,7 @@ module _ {S : Type 0} (serves : Serving S) (from : Option ℕ) (s final : S) (fi
       ))
 
   -- the next line was not answered again
-  pub again_stops : (k : ℕ) (end : JournalEnd) (now new : Option Bytes) (h : Held) (a : Reply) (answers : List Reply) (why : Stop) (u : S) → get_or all k h ≡ h → k < length all
+  pub again_stops : (k : ℕ) (end : JournalEnd) (now new : Option Bytes) (h : HeldLine) (a : LineReply) (answers : List LineReply) (why : Stop) (u : S) → get_or all k h ≡ h → k < length all
       → Again serves from s final first all old m k (a ∷ answers) end now
       → ((p q : S) → serves p (end.lines + 1) (given_of h) a q → HasReplayedLine serves from p end (given_of h) now new (Err why) q) → HasReplayedLines serves from s first (map given_of all) old new (Err why) u
   again_stops k end now new h a answers why u at l r taken =
@@ -232,22 +232,22 @@ module _ {S : Type 0} (serves : Serving S) (from : Option ℕ) (s final : S) (fi
       r.follows new (Err why) u (subst (λ hs. HasReplayedLines serves from r.state end (map given_of hs) now new (Err why) u) (sym is) (inr (why, refl, are.0, taken r.state are.0 are.1)))
 
   -- there was no memory for its answer
-  pub again_lacks : (k : ℕ) (end : JournalEnd) (now : Option Bytes) (h : Held) (u : S) → get_or all k h ≡ h → k < length all → Again serves from s final first all old m k [] end now
+  pub again_lacks : (k : ℕ) (end : JournalEnd) (now : Option Bytes) (h : HeldLine) (u : S) → get_or all k h ≡ h → k < length all → Again serves from s final first all old m k [] end now
       → HasReplayedLines serves from s first (map given_of all) old now (Err stop.NoMemory) u
   again_lacks k end now h u at l r =
       r.follows now (Err stop.NoMemory) u (subst (λ hs. HasReplayedLines serves from r.state end (map given_of hs) now now (Err stop.NoMemory) u) (sym (dropped k all h l at)) (inr (stop.NoMemory, refl, r.state, tt)))
 
 -- the lines of those that were read before the first with a byte 0 were answered again: that one is next, or all were
-abbrev pub IsNext : ℕ → List Held → Option Bytes → Option Bytes → Type 0
+abbrev pub IsNext : ℕ → List HeldLine → Option Bytes → Option Bytes → Type 0
 IsNext longest hs at now =
     ((length (whole_of hs) ≡ length hs) × (at ≡ now))
-    ⊎ ((h : Held) × (more : Bool) × (left : Option Bytes) × (length (whole_of hs) < length hs) × IsNextLine longest at left h (Some more) × (h.hole ≡ true))
+    ⊎ ((h : HeldLine) × (more : Bool) × (left : Option Bytes) × (length (whole_of hs) < length hs) × IsNextLine longest at left h (Some more) × (h.hole ≡ true))
 
-abbrev pub GoesOnAgain : {S : Type 0} → Serving S → ℕ → Option ℕ → S → List Held → Option Bytes → Option Bytes → Option Bytes → Option Bytes → Result JournalEnd Stop → S → Type 0
+abbrev pub GoesOnAgain : {S : Type 0} → Serving S → ℕ → Option ℕ → S → List HeldLine → Option Bytes → Option Bytes → Option Bytes → Option Bytes → Result JournalEnd Stop → S → Type 0
 GoesOnAgain serves longest from s hs file now old new (Ok end) t = (at : Option Bytes) × Replays serves longest from s file at old new end t × IsNext longest hs at now
 GoesOnAgain {S} serves longest from s hs file now old new (Err why) t = (last : Option Bytes) (v : S) → HasReplayed serves longest from s file old last (Err why) v
 
-pub lines_replayed : {S : Type 0} (serves : Serving S) (longest : ℕ) (from : Option ℕ) (s : S) (file mid now old kept new : Option Bytes) (before : JournalEnd) (t u : S) (hs : List Held) (result : Result JournalEnd Stop)
+pub lines_replayed : {S : Type 0} (serves : Serving S) (longest : ℕ) (from : Option ℕ) (s : S) (file mid now old kept new : Option Bytes) (before : JournalEnd) (t u : S) (hs : List HeldLine) (result : Result JournalEnd Stop)
     → Replays serves longest from s file mid old kept before t → AreNextLines longest mid now hs
     → HasReplayedLines serves from t before (map given_of (whole_of hs)) kept new result u → GoesOnAgain serves longest from s hs file now old new result u
 lines_replayed {S} serves longest from s file mid now old kept new before t u [] result r are served =
@@ -272,8 +272,8 @@ lines_replayed {S} serves longest from s file mid now old kept new before t u (h
         is = ap (λ b. cond b [] (h ∷ whole_of hs)) whole
 
         next : (at : Option Bytes) → IsNext longest hs at now → IsNext longest (h ∷ hs) at now
-        next at (inl all) = inl (ap (λ (xs : List Held). length xs) is ∙ ap suc all.0, all.1)
-        next at (inr one) = let l = one.3 in inr (one.0, one.1, one.2, omega (arith, l, ap (λ (xs : List Held). length xs) is), one.4, one.5)
+        next at (inl all) = inl (ap (λ (xs : List HeldLine). length xs) is ∙ ap suc all.0, all.1)
+        next at (inr one) = let l = one.3 in inr (one.0, one.1, one.2, omega (arith, l, ap (λ (xs : List HeldLine). length xs) is), one.4, one.5)
 
     more : First → h.hole ≡ false → Others → GoesOnAgain serves longest from s (h ∷ hs) file now old new result u
     more (inl one) whole others =
@@ -288,12 +288,12 @@ lines_replayed {S} serves longest from s file mid now old kept new before t u (h
         subst (λ x. GoesOnAgain serves longest from s (h ∷ hs) file now old new x u) (sym served.0) (
           mid,
           subst (λ (v : S). Replays serves longest from s file mid old new before v) (sym served.2) (subst (λ o. Replays serves longest from s file mid old o before t) (sym served.1) r),
-          inr (h, are.1, are.0, omega (arith, ap (λ (xs : List Held). length xs) none), are.2, hole),
+          inr (h, are.1, are.0, omega (arith, ap (λ (xs : List HeldLine). length xs) none), are.2, hole),
         )
     on false whole served others = more served whole others
 
 -- all that were read were answered again, and the input goes on
-pub reads_again : {S : Type 0} (serves : Serving S) (longest : ℕ) (from : Option ℕ) (s : S) (file at now left old new : Option Bytes) (end : JournalEnd) (t : S) (hs : List Held) (read : Result Bool ReadError)
+pub reads_again : {S : Type 0} (serves : Serving S) (longest : ℕ) (from : Option ℕ) (s : S) (file at now left old new : Option Bytes) (end : JournalEnd) (t : S) (hs : List HeldLine) (read : Result Bool ReadError)
     → Replays serves longest from s file at old new end t → IsNext longest hs at now → length hs ≤ length (whole_of hs) → IsReadTo longest now left read → read ≡ Ok true
     → Replays serves longest from s file left old new end t
 reads_again serves longest from s file at now left old new end t hs read r (inl all) l to is =
@@ -301,7 +301,7 @@ reads_again serves longest from s file at now left old new end t hs read r (inl 
 reads_again serves longest from s file at now left old new end t hs read r (inr one) l to is = let m = one.3 in absurd (omega (arith, l, m))
 
 -- one that was read has a byte 0, or the input has ended
-pub ends_again : {S : Type 0} (serves : Serving S) (longest : ℕ) (from : Option ℕ) (s : S) (file at now left old new : Option Bytes) (end : JournalEnd) (t : S) (hs : List Held) (read : Result Bool ReadError)
+pub ends_again : {S : Type 0} (serves : Serving S) (longest : ℕ) (from : Option ℕ) (s : S) (file at now left old new : Option Bytes) (end : JournalEnd) (t : S) (hs : List HeldLine) (read : Result Bool ReadError)
     → Replays serves longest from s file at old new end t → IsNext longest hs at now → IsReadTo longest now left read → (length (whole_of hs) < length hs) ⊎ (read ≡ Ok false)
     → HasReplayed serves longest from s file old new (Ok end) t
 ends_again serves longest from s file at now left old new end t hs read r (inr one) to why = replayed serves longest from s file at one.2 old new end t one.0 (Some one.1) r one.4 one.5
@@ -312,27 +312,27 @@ ends_again serves longest from s file at now left old new end t hs read r (inl a
 
 -- ---- the lines before the first that has a byte 0
 
-whole_is : (hs : List Held) → whole_of hs ≡ take (position_or_len (λ (h : Held). h.hole) hs) hs
+whole_is : (hs : List HeldLine) → whole_of hs ≡ take (position_or_len (λ (h : HeldLine). h.hole) hs) hs
 whole_is [] = refl
 whole_is (h ∷ hs) = on h.hole (whole_is hs)
   where
-    on : (b : Bool) → whole_of hs ≡ take (position_or_len (λ (h : Held). h.hole) hs) hs
-        → cond b [] (h ∷ whole_of hs) ≡ take (cond (not b) (1 + position_or_len (λ (h : Held). h.hole) hs) 0) (h ∷ hs)
+    on : (b : Bool) → whole_of hs ≡ take (position_or_len (λ (h : HeldLine). h.hole) hs) hs
+        → cond b [] (h ∷ whole_of hs) ≡ take (cond (not b) (1 + position_or_len (λ (h : HeldLine). h.hole) hs) 0) (h ∷ hs)
     on true others = refl
     on false others =
-        let same : suc (position_or_len (λ (h : Held). h.hole) hs) ≡ 1 + position_or_len (λ (h : Held). h.hole) hs = omega arith in
+        let same : suc (position_or_len (λ (h : HeldLine). h.hole) hs) ≡ 1 + position_or_len (λ (h : HeldLine). h.hole) hs = omega arith in
         ap (λ xs. h ∷ xs) others ∙ ap (λ (k : ℕ). take k (h ∷ hs)) same
 
-pub whole_before : (hs : List Held) (k : ℕ) → position (λ (h : Held). h.hole) hs ≡ Some k → take k hs ≡ whole_of hs
-whole_before hs k e = on (nat_lt (position_or_len (λ (h : Held). h.hole) hs) (length hs)) e ∙ sym (whole_is hs)
+pub whole_before : (hs : List HeldLine) (k : ℕ) → position (λ (h : HeldLine). h.hole) hs ≡ Some k → take k hs ≡ whole_of hs
+whole_before hs k e = on (nat_lt (position_or_len (λ (h : HeldLine). h.hole) hs) (length hs)) e ∙ sym (whole_is hs)
   where
-    on : (b : Bool) → cond b (Some (position_or_len (λ (h : Held). h.hole) hs)) None ≡ Some k → take k hs ≡ take (position_or_len (λ (h : Held). h.hole) hs) hs
+    on : (b : Bool) → cond b (Some (position_or_len (λ (h : HeldLine). h.hole) hs)) None ≡ Some k → take k hs ≡ take (position_or_len (λ (h : HeldLine). h.hole) hs) hs
     on true e = cc
     on false e = cc
 
-pub all_whole : (hs : List Held) → position (λ (h : Held). h.hole) hs ≡ None → hs ≡ whole_of hs
-all_whole hs e = on (nat_lt (position_or_len (λ (h : Held). h.hole) hs) (length hs)) refl e
+pub all_whole : (hs : List HeldLine) → position (λ (h : HeldLine). h.hole) hs ≡ None → hs ≡ whole_of hs
+all_whole hs e = on (nat_lt (position_or_len (λ (h : HeldLine). h.hole) hs) (length hs)) refl e
   where
-    on : (b : Bool) → nat_lt (position_or_len (λ (h : Held). h.hole) hs) (length hs) ≡ b → cond b (Some (position_or_len (λ (h : Held). h.hole) hs)) None ≡ None → hs ≡ whole_of hs
+    on : (b : Bool) → nat_lt (position_or_len (λ (h : HeldLine). h.hole) hs) (length hs) ≡ b → cond b (Some (position_or_len (λ (h : HeldLine). h.hole) hs)) None ≡ None → hs ≡ whole_of hs
     on true is e = cc
-    on false is e = let l = ltb-false (position_or_len (λ (h : Held). h.hole) hs) (length hs) is in sym (whole_is hs ∙ take_all (position_or_len (λ (h : Held). h.hole) hs) hs (omega (arith, l)))
+    on false is e = let l = ltb-false (position_or_len (λ (h : HeldLine). h.hole) hs) (length hs) is in sym (whole_is hs ∙ take_all (position_or_len (λ (h : HeldLine). h.hole) hs) hs (omega (arith, l)))

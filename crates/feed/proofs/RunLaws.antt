@@ -4,7 +4,7 @@ use Rattle.std.specs.Prelude.{◌==◌, ◌&&◌, ◌||◌, not}
 use Rattle.std.specs.List.{list_all}
 use Rattle.std.proofs.lemmas.List.{append-nil}
 use Rattle.scripts.specs.Script.{Bytes, lines_with_feeds, has_no_feed}
-use Rattle.feed.specs.WholeLines.{has_hole, has_no_hole, is_plain}
+use Rattle.feed.specs.WholeLines.{has_hole, has_no_hole, is_whole_line}
 use Rattle.feed.specs.Acts.{Tears, lines_behind, lines_run}
 use Rattle.feed.specs.Acts.Tears.{ends, stays, hole}
 
@@ -23,9 +23,9 @@ not_true true e = cc
 pub record FirstByte (b : ℕ) (more : Bytes) : Type 0 where
   pub feed : (b == 10) ≡ false
   pub zero : (b == 0) ≡ false
-  pub rest : is_plain more ≡ true
+  pub rest : is_whole_line more ≡ true
 
-pub first_byte : (b : ℕ) (more : Bytes) → is_plain (b ∷ more) ≡ true → FirstByte b more
+pub first_byte : (b : ℕ) (more : Bytes) → is_whole_line (b ∷ more) ≡ true → FirstByte b more
 first_byte b more e =
     let both = split_and (has_no_feed (b ∷ more)) (has_no_hole (b ∷ more)) e in
     let feeds = split_and (not (b == 10)) (has_no_feed more) both.0 in
@@ -42,17 +42,17 @@ go_on : (line : Bytes) (b : ℕ) (more : Bytes) → (b == 10) ≡ false → (b =
     → lines_behind line (b ∷ more) ≡ lines_behind (line ++ b ∷ []) more
 go_on line b more e f = rw (e, f) refl
 
-whole_line : (before line rest : Bytes) → is_plain line ≡ true → lines_behind before (line ++ 10 ∷ rest) ≡ (before ++ line) ∷ lines_behind [] rest
+whole_line : (before line rest : Bytes) → is_whole_line line ≡ true → lines_behind before (line ++ 10 ∷ rest) ≡ (before ++ line) ∷ lines_behind [] rest
 whole_line before [] rest e = ap (λ l. l ∷ lines_behind [] rest) (sym (append-nil before))
 whole_line before (b ∷ more) rest e =
     let is = first_byte b more e in
     go_on before b (more ++ 10 ∷ rest) is.feed is.zero ∙ whole_line (before ++ b ∷ []) more rest is.rest
     ∙ ap (λ l. l ∷ lines_behind [] rest) (append_assoc before (b ∷ []) more)
 
-pub runs_front : (lines : List Bytes) (rest : Bytes) → list_all is_plain lines ≡ true → lines_run (lines_with_feeds lines ++ rest) ≡ lines ++ lines_run rest
+pub runs_front : (lines : List Bytes) (rest : Bytes) → list_all is_whole_line lines ≡ true → lines_run (lines_with_feeds lines ++ rest) ≡ lines ++ lines_run rest
 runs_front [] rest e = refl
 runs_front (line ∷ lines) rest e =
-    let both = split_and (is_plain line) (list_all is_plain lines) e in
+    let both = split_and (is_whole_line line) (list_all is_whole_line lines) e in
     ap (lines_behind []) (append_assoc line (10 ∷ lines_with_feeds lines) rest)
     ∙ whole_line [] line (lines_with_feeds lines ++ rest) both.0
     ∙ ap (λ ls. line ∷ ls) (runs_front lines rest both.1)
@@ -86,7 +86,7 @@ one_byte_more before b more rest left is (torn run) = torn (go_on before b left 
 one_byte_more before b more rest left is (whole behind tears run) =
     whole behind tears (go_on before b left is.feed is.zero ∙ run ∙ ap (λ l. l ∷ lines_run behind) (append_assoc before (b ∷ []) more))
 
-line_left : (before line rest left : Bytes) → is_plain line ≡ true → Tears (line ++ 10 ∷ rest) left → LineLeft before line rest left
+line_left : (before line rest left : Bytes) → is_whole_line line ≡ true → Tears (line ++ 10 ∷ rest) left → LineLeft before line rest left
 line_left before [] rest [] e h = torn refl
 line_left before [] rest (c ∷ left) e (stays h) = whole left h (ap (λ l. l ∷ lines_run left) (sym (append-nil before)))
 line_left before [] rest (c ∷ left) e (hole h) = torn refl
@@ -111,11 +111,11 @@ by_first_line : (line : Bytes) (lines : List Bytes) (part left : Bytes) → Line
 by_first_line line lines part left (torn run) others = record { run = []; lost = line ∷ lines; parts = refl; runs = run }
 by_first_line line lines part left (whole behind tears run) others = one_line_run line lines left behind run (others behind tears)
 
-pub beginning_runs : (lines : List Bytes) (part left : Bytes) → list_all is_plain lines ≡ true → has_no_feed part ≡ true
+pub beginning_runs : (lines : List Bytes) (part left : Bytes) → list_all is_whole_line lines ≡ true → has_no_feed part ≡ true
     → Tears (lines_with_feeds lines ++ part) left → BeginningRuns lines left
 beginning_runs [] part left e f h = record { run = []; lost = []; parts = refl; runs = no_line [] part left f h }
 beginning_runs (line ∷ lines) part left e f h =
-    let both = split_and (is_plain line) (list_all is_plain lines) e in
+    let both = split_and (is_whole_line line) (list_all is_whole_line lines) e in
     by_first_line line lines part left (line_left [] line (lines_with_feeds lines ++ part) left both.0
     (subst (λ bytes. Tears bytes left) (append_assoc line (10 ∷ lines_with_feeds lines) part) h))
     (λ behind tears. beginning_runs lines part behind both.1 f tears)

@@ -4,30 +4,30 @@ use Rattle.std.specs.Prelude.{◌&&◌, nat_lt, Option, Some, None}
 use Rattle.std.proofs.lemmas.Bool.Decides.{nat_tests}
 use Rattle.std.proofs.lemmas.List.{append-nil}
 use Rattle.scripts.specs.Script.{Bytes, has_no_feed}
-use Rattle.feed.specs.WholeLines.{given, has_no_hole, is_plain}
-use Rattle.feed.specs.Served.{EmptyLinesAreSkipped, KeptLinesAreWhole, OnlyKeptLinesCount, Reply, Serves, Serving, is_kept, journal_line, kept_as, unanswered}
-use Rattle.feed.specs.Served.Serves.{none, next}
+use Rattle.feed.specs.WholeLines.{given, has_no_hole, is_whole_line}
+use Rattle.feed.specs.Served.{EmptyLinesAreSkipped, KeptLinesAreWhole, LineReply, OnlyKeptLinesCount, ServesAll, Serving, is_kept, journal_line, kept_as, unanswered}
+use Rattle.feed.specs.Served.ServesAll.{none, next}
 
 -- ---- one behind the other
 
 pub serves_both : {S : Type 0} (serves : Serving S) (longest : ℕ) (s t u : S) (n : ℕ) (xs ys j k : List Bytes) (w v : Bytes)
-    → Serves serves longest s n xs j w t → Serves serves longest t (n + length xs) ys k v u → Serves serves longest s n (xs ++ ys) (j ++ k) (w ++ v) u
+    → ServesAll serves longest s n xs j w t → ServesAll serves longest t (n + length xs) ys k v u → ServesAll serves longest s n (xs ++ ys) (j ++ k) (w ++ v) u
 serves_both serves longest s t u n xs ys j k w v none many =
     let same : n + 0 ≡ n = omega arith in
-    subst (λ (m : ℕ). Serves serves longest s m ys k v u) same many
+    subst (λ (m : ℕ). ServesAll serves longest s m ys k v u) same many
 serves_both serves longest s t u n xs ys j k w v (next {t = m} {line = line} {more = more} {journal = journal} {others = others} a one rest) many =
     let same : n + length (line ∷ more) ≡ n + 1 + length more = omega arith in
-    subst (λ text. Serves serves longest s n (line ∷ (more ++ ys)) (journal_line (given longest line) a ∷ (journal ++ k)) text u) (sym (append_assoc a.text others v))
-    (next a one (serves_both serves longest m t u (n + 1) more ys journal k others v rest (subst (λ (m : ℕ). Serves serves longest t m ys k v u) same many)))
+    subst (λ text. ServesAll serves longest s n (line ∷ (more ++ ys)) (journal_line (given longest line) a ∷ (journal ++ k)) text u) (sym (append_assoc a.text others v))
+    (next a one (serves_both serves longest m t u (n + 1) more ys journal k others v rest (subst (λ (m : ℕ). ServesAll serves longest t m ys k v u) same many)))
 
-pub serves_one : {S : Type 0} (serves : Serving S) (longest : ℕ) (s t : S) (n : ℕ) (line : Bytes) (a : Reply)
-    → serves s n (given longest line) a t → Serves serves longest s n (line ∷ []) (journal_line (given longest line) a ∷ []) a.text t
+pub serves_one : {S : Type 0} (serves : Serving S) (longest : ℕ) (s t : S) (n : ℕ) (line : Bytes) (a : LineReply)
+    → serves s n (given longest line) a t → ServesAll serves longest s n (line ∷ []) (journal_line (given longest line) a ∷ []) a.text t
 serves_one serves longest s t n line a one =
-    subst (λ text. Serves serves longest s n (line ∷ []) (journal_line (given longest line) a ∷ []) text t) (append-nil a.text) (next a one none)
+    subst (λ text. ServesAll serves longest s n (line ∷ []) (journal_line (given longest line) a ∷ []) text t) (append-nil a.text) (next a one none)
 
-pub serves_more : {S : Type 0} (serves : Serving S) (longest : ℕ) (s t u : S) (n : ℕ) (lines journal : List Bytes) (text line : Bytes) (a : Reply)
-    → Serves serves longest s n lines journal text t → serves t (n + length lines) (given longest line) a u
-    → Serves serves longest s n (lines ++ line ∷ []) (journal ++ journal_line (given longest line) a ∷ []) (text ++ a.text) u
+pub serves_more : {S : Type 0} (serves : Serving S) (longest : ℕ) (s t u : S) (n : ℕ) (lines journal : List Bytes) (text line : Bytes) (a : LineReply)
+    → ServesAll serves longest s n lines journal text t → serves t (n + length lines) (given longest line) a u
+    → ServesAll serves longest s n (lines ++ line ∷ []) (journal ++ journal_line (given longest line) a ∷ []) (text ++ a.text) u
 serves_more serves longest s t u n lines journal text line a many one =
     serves_both serves longest s t u n lines (line ∷ []) journal (journal_line (given longest line) a ∷ []) text a.text many
     (serves_one serves longest t u (n + length lines) line a one)
@@ -41,7 +41,7 @@ pub record ServesFirst {S : Type 0} (serves : Serving S) (longest : ℕ) (s : S)
   pub text : Bytes
   pub left : S
   pub parts : lines ≡ first ++ rest
-  pub served : Serves serves longest s n first front text left
+  pub served : ServesAll serves longest s n first front text left
 
 abbrev behind_first : List Bytes → List Bytes
 behind_first [] = []
@@ -51,7 +51,7 @@ abbrev first_of : List Bytes → Bytes
 first_of [] = []
 first_of (x ∷ xs) = x
 
-first_more : {S : Type 0} (serves : Serving S) (longest : ℕ) (s m : S) (n : ℕ) (line : Bytes) (more : List Bytes) (x : Bytes) (front : List Bytes) (a : Reply)
+first_more : {S : Type 0} (serves : Serving S) (longest : ℕ) (s m : S) (n : ℕ) (line : Bytes) (more : List Bytes) (x : Bytes) (front : List Bytes) (a : LineReply)
     → serves s n (given longest line) a m → journal_line (given longest line) a ≡ x → ServesFirst serves longest m (n + 1) more front
     → ServesFirst serves longest s n (line ∷ more) (x ∷ front)
 first_more serves longest s m n line more x front a one e f = record {
@@ -60,11 +60,11 @@ first_more serves longest s m n line more x front a one e f = record {
   text = a.text ++ f.text;
   left = f.left;
   parts = ap (λ ls. line ∷ ls) f.parts;
-  served = subst (λ l. Serves serves longest s n (line ∷ f.first) (l ∷ front) (a.text ++ f.text) f.left) e (next a one f.served);
+  served = subst (λ l. ServesAll serves longest s n (line ∷ f.first) (l ∷ front) (a.text ++ f.text) f.left) e (next a one f.served);
 }
 
 pub serves_first : {S : Type 0} (serves : Serving S) (longest : ℕ) (s t : S) (n : ℕ) (lines journal : List Bytes) (text : Bytes) (front back : List Bytes)
-    → Serves serves longest s n lines journal text t → journal ≡ front ++ back → ServesFirst serves longest s n lines front
+    → ServesAll serves longest s n lines journal text t → journal ≡ front ++ back → ServesFirst serves longest s n lines front
 serves_first serves longest s t n lines journal text [] back h e = record { first = []; rest = lines; text = []; left = s; parts = refl; served = none }
 serves_first serves longest s t n lines journal text (x ∷ front) back none e = cc
 serves_first serves longest s t n lines journal text (x ∷ front) back (next {t = m} {line = line} {more = more} {journal = after} {others = others} a one many) e =
@@ -90,7 +90,7 @@ given_is longest line l e = given_by line l (nat_lt longest (length line)) e
 
 -- a line of the journal is answered so that the same state is left, and stands for itself
 pub record Again {S : Type 0} (serves : Serving S) (longest : ℕ) (s : S) (n : ℕ) (line : Bytes) (t : S) : Type 0 where
-  pub reply : Reply
+  pub reply : LineReply
   pub served : serves s n (given longest line) reply t
   pub same : journal_line (given longest line) reply ≡ line
 
@@ -105,7 +105,7 @@ empty_again {S} serves longest skipped s t n line e f = subst (λ l. Again serve
     }
 
 line_again : {S : Type 0} (serves : Serving S) (longest : ℕ) → OnlyKeptLinesCount serves → EmptyLinesAreSkipped serves
-    → (s t : S) (n : ℕ) (line : Bytes) (a : Reply) (g : Option Bytes) (kept : Bool) → given longest line ≡ g → is_kept a ≡ kept
+    → (s t : S) (n : ℕ) (line : Bytes) (a : LineReply) (g : Option Bytes) (kept : Bool) → given longest line ≡ g → is_kept a ≡ kept
     → serves s n (given longest line) a t → Again serves longest s n (journal_line (given longest line) a) t
 line_again serves longest only skipped s t n line a None kept e f one =
     let empty : journal_line (given longest line) a ≡ [] = ap (λ g. journal_line g a) e in
@@ -119,17 +119,17 @@ line_again serves longest only skipped s t n line a (Some l) true e f one =
 
 pub record Replayed {S : Type 0} (serves : Serving S) (longest : ℕ) (s : S) (n : ℕ) (journal : List Bytes) (t : S) : Type 0 where
   pub text : Bytes
-  pub served : Serves serves longest s n journal journal text t
+  pub served : ServesAll serves longest s n journal journal text t
 
 again_more : {S : Type 0} (serves : Serving S) (longest : ℕ) (s m t : S) (n : ℕ) (l : Bytes) (after : List Bytes)
     → Again serves longest s n l m → Replayed serves longest m (n + 1) after t → Replayed serves longest s n (l ∷ after) t
 again_more serves longest s m t n l after one rest = record {
   text = one.reply.text ++ rest.text;
-  served = subst (λ x. Serves serves longest s n (l ∷ after) (x ∷ after) (one.reply.text ++ rest.text) t) one.same (next one.reply one.served rest.served);
+  served = subst (λ x. ServesAll serves longest s n (l ∷ after) (x ∷ after) (one.reply.text ++ rest.text) t) one.same (next one.reply one.served rest.served);
 }
 
 pub replays : {S : Type 0} (serves : Serving S) (longest : ℕ) → OnlyKeptLinesCount serves → EmptyLinesAreSkipped serves
-    → (s t : S) (n : ℕ) (lines journal : List Bytes) (text : Bytes) → Serves serves longest s n lines journal text t → Replayed serves longest s n journal t
+    → (s t : S) (n : ℕ) (lines journal : List Bytes) (text : Bytes) → ServesAll serves longest s n lines journal text t → Replayed serves longest s n journal t
 replays serves longest only skipped s t n lines journal text none = record { text = []; served = none }
 replays serves longest only skipped s t n lines journal text (next {t = m} {line = line} {more = more} {journal = after} {others = others} a one many) =
     again_more serves longest s m t n (journal_line (given longest line) a) after (line_again serves longest only skipped s m n line a (given longest line) (is_kept a) refl refl one)
@@ -138,16 +138,16 @@ replays serves longest only skipped s t n lines journal text (next {t = m} {line
 -- ---- lines of the journal are plain
 
 plain_line : {S : Type 0} (serves : Serving S) (longest : ℕ) → KeptLinesAreWhole serves
-    → (s t : S) (n : ℕ) (line : Bytes) (a : Reply) (g : Option Bytes) (kept : Bool) → given longest line ≡ g → is_kept a ≡ kept
-    → has_no_feed line ≡ true → serves s n (given longest line) a t → is_plain (journal_line (given longest line) a) ≡ true
-plain_line serves longest whole s t n line a None kept e f plain one = ap (λ g. is_plain (journal_line g a)) e
-plain_line serves longest whole s t n line a (Some l) false e f plain one = ap is_plain (ap₂ kept_as e f)
+    → (s t : S) (n : ℕ) (line : Bytes) (a : LineReply) (g : Option Bytes) (kept : Bool) → given longest line ≡ g → is_kept a ≡ kept
+    → has_no_feed line ≡ true → serves s n (given longest line) a t → is_whole_line (journal_line (given longest line) a) ≡ true
+plain_line serves longest whole s t n line a None kept e f plain one = ap (λ g. is_whole_line (journal_line g a)) e
+plain_line serves longest whole s t n line a (Some l) false e f plain one = ap is_whole_line (ap₂ kept_as e f)
 plain_line serves longest whole s t n line a (Some l) true e f plain one =
     let is : l ≡ line = given_is longest line l e in
     let no_hole : has_no_hole l ≡ true = whole s t n l a (subst (λ g. serves s n g a t) e one) f in
-    ap is_plain (ap₂ kept_as e f) ∙ ap₂ (λ (x y : Bool). x && y) (ap has_no_feed is ∙ plain) no_hole
+    ap is_whole_line (ap₂ kept_as e f) ∙ ap₂ (λ (x y : Bool). x && y) (ap has_no_feed is ∙ plain) no_hole
 
 pub plain_journal_line : {S : Type 0} (serves : Serving S) (longest : ℕ) → KeptLinesAreWhole serves
-    → (s t : S) (n : ℕ) (line : Bytes) (a : Reply) → has_no_feed line ≡ true → serves s n (given longest line) a t
-    → is_plain (journal_line (given longest line) a) ≡ true
+    → (s t : S) (n : ℕ) (line : Bytes) (a : LineReply) → has_no_feed line ≡ true → serves s n (given longest line) a t
+    → is_whole_line (journal_line (given longest line) a) ≡ true
 plain_journal_line serves longest whole s t n line a plain one = plain_line serves longest whole s t n line a (given longest line) (is_kept a) refl refl plain one

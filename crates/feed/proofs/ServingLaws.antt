@@ -10,7 +10,7 @@ use Rattle.scripts.specs.Script.{Bytes, lines_with_feeds, has_no_feed}
 use Rattle.scripts.specs.declared.input.ReadError.{ReadError}
 use Rattle.scripts.specs.declared.input.ReadError.TheVariants as read
 use Rattle.feed.specs.WholeLines.{AreWholeLines, BeginsWithLines, given}
-use Rattle.feed.specs.Reading.{Held, IsNextLine}
+use Rattle.feed.specs.Reading.{HeldLine, IsNextLine}
 use Rattle.feed.specs.Faults.{fault_of_read}
 use Rattle.feed.specs.Served.{EmptyLinesAreSkipped, KeptLinesAreWhole, OnlyKeptLinesCount, Serving, journal_line, kept_as}
 use Rattle.feed.specs.Acts.{Act, Did, told_by}
@@ -94,13 +94,13 @@ nothing_told acts bytes = sym (told_both acts (Wrote bytes ∷ []) ∙ append-ni
 
 -- a line was read and served
 pub line_more : {S : Type 0} (serves : Serving S) (longest : ℕ) (s : S) (n : ℕ) (input mid now : Option Bytes) (oa ma na : Option (List Act)) (ot mt nt : Option Bytes)
-    (waits after : Bytes) (t u : S) (count d : ℕ) (h : Held) (more : Bool)
+    (waits after : Bytes) (t u : S) (count d : ℕ) (h : HeldLine) (more : Bool)
     → Going serves longest s n input mid oa ma ot mt waits t count → IsNextLine longest mid now h (Some more)
     → HasServedLine serves t count h.given waits ma na (Ok tt) after d u → Keeps mt nt → Going serves longest s n input now oa na ot nt after u d
 line_more {S} serves longest s n input mid now oa ma na ot mt nt waits after t u count d h more g next served keeps =
     let a = served.0 in
     let line = next.0 in
-    let given_is : h.given ≡ given longest line = ap (λ (h : Held). h.given) next.3 in
+    let given_is : h.given ≡ given longest line = ap (λ (h : HeldLine). h.given) next.3 in
     let place : count + 1 ≡ n + length g.hosting.lines = g.hosting.counted in
     let one : serves t (n + length g.hosting.lines) (given longest line) a u =
     subst (λ (k : ℕ). serves t k (given longest line) a u) place (subst (λ l. serves t (count + 1) l a u) given_is served.1) in
@@ -180,7 +180,7 @@ told_then serves longest s n input now oa ma na ot mt nt waits after t count g t
 -- ---- why a line was not served
 
 pub unserved : {S : Type 0} (serves : Serving S) (longest : ℕ) (s : S) (n : ℕ) (input mid now : Option Bytes) (oa ma na : Option (List Act)) (ot mt nt : Option Bytes)
-    (waits after : Bytes) (t u : S) (count d : ℕ) (h : Held) (more : Bool) (why : Fault)
+    (waits after : Bytes) (t u : S) (count d : ℕ) (h : HeldLine) (more : Bool) (why : Fault)
     → Going serves longest s n input mid oa ma ot mt waits t count → IsNextLine longest mid now h (Some more)
     → HasServedLine serves t count h.given waits ma na (Err why) after d u → Keeps mt nt
     → (part : Bytes) × Hosting serves longest s n input oa na ot nt part after t count × IsEndedBy why (count + 1) part [] t u
@@ -197,7 +197,7 @@ unserved serves longest s n input mid now oa ma na ot mt nt waits after t u coun
 unserved {S} serves longest s n input mid now oa ma na ot mt nt waits after t u count d h more fault.NotAppended g next served keeps =
     let kept = served.1.0 in
     let part = served.1.1 in
-    let plain : has_no_feed part ≡ true = plain_part h.given kept next.0 (ap (λ (h : Held). h.given) next.3) next.1 part served.1.2 served.1.3 in
+    let plain : has_no_feed part ≡ true = plain_part h.given kept next.0 (ap (λ (h : HeldLine). h.given) next.3) next.1 part served.1.2 served.1.3 in
     let acts = g.hosting.acts ++ Wrote part ∷ [] in (
       part,
       subst (λ w. Hosting serves longest s n input oa na ot nt part w t count) (sym served.0) (record {
@@ -274,7 +274,7 @@ not_told serves longest laws s n input left oa ma na ot mt nt part waits after t
 
 -- the input has ended
 pub all_told : {S : Type 0} (serves : Serving S) (longest : ℕ) → Laws serves → (s : S) (n : ℕ) (input mid left : Option Bytes) (oa ma na : Option (List Act)) (ot mt nt : Option Bytes)
-    (waits after : Bytes) (t : S) (count : ℕ) (h : Held) (result : Result (Unit {0}) Fault) → Going serves longest s n input mid oa ma ot mt waits t count
+    (waits after : Bytes) (t : S) (count : ℕ) (h : HeldLine) (result : Result (Unit {0}) Fault) → Going serves longest s n input mid oa ma ot mt waits t count
     → IsNextLine longest mid left h None → HasTold waits ma na mt nt result after → HasHostedStream serves longest s n input left (HasDone oa na ot nt) result t
 unfolding told_all
 all_told serves longest laws s n input mid left oa ma na ot mt nt waits after t count h (Ok done) g next told =

@@ -5,9 +5,9 @@ use Rattle.std.specs.List.{list_all}
 use Rattle.std.proofs.lemmas.List.{append-nil}
 use Rattle.std.proofs.lemmas.List.Folds.{list_all-append}
 use Rattle.scripts.specs.Script.{Bytes, lines_with_feeds, has_no_feed}
-use Rattle.feed.specs.WholeLines.{given, is_plain}
-use Rattle.feed.specs.Served.{EmptyLinesAreSkipped, KeptLinesAreWhole, OnlyKeptLinesCount, Reply, Serves, Serving, journal_line}
-use Rattle.feed.specs.Served.Serves.{none}
+use Rattle.feed.specs.WholeLines.{given, is_whole_line}
+use Rattle.feed.specs.Served.{EmptyLinesAreSkipped, KeptLinesAreWhole, LineReply, OnlyKeptLinesCount, ServesAll, Serving, journal_line}
+use Rattle.feed.specs.Served.ServesAll.{none}
 use Rattle.feed.specs.Acts.{Act, Disk, MayLeave, Tears, disk_after, lines_run, settled, told_by}
 use Rattle.feed.specs.Acts.Act.{Synced, Told, Wrote}
 use Rattle.feed.specs.Hosted.{Hosts, Survives, SurvivesStops}
@@ -69,10 +69,10 @@ record Moment {S : Type 0} (serves : Serving S) (longest : ℕ) (s : S) (n : ℕ
   now : S
   extra : Bytes
   parts : lines ≡ first ++ next
-  told : Serves serves longest s n first journal (told_by done) now
-  untold : Serves serves longest now (n + length first) next more waits t
-  plain : list_all is_plain journal ≡ true
-  plain_more : list_all is_plain more ≡ true
+  told : ServesAll serves longest s n first journal (told_by done) now
+  untold : ServesAll serves longest now (n + length first) next more waits t
+  plain : list_all is_whole_line journal ≡ true
+  plain_more : list_all is_whole_line more ≡ true
   plain_part : has_no_feed part ≡ true
   safe : (disk_after (settled (lines_with_feeds before)) done).safe ≡ lines_with_feeds before ++ (lines_with_feeds journal ++ extra)
   tail : extra ++ (disk_after (settled (lines_with_feeds before)) done).tail ≡ lines_with_feeds more ++ part
@@ -99,8 +99,8 @@ at_first serves longest s n before = record {
 untold_more : (done : List Act) (a : Act) → told_by (a ∷ []) ≡ [] → told_by (done ++ a ∷ []) ≡ told_by done
 untold_more done a e = told_both done (a ∷ []) ∙ ap (λ more. told_by done ++ more) e ∙ append-nil (told_by done)
 
-list_all_both : (xs ys : List Bytes) → list_all is_plain xs ≡ true → list_all is_plain ys ≡ true → list_all is_plain (xs ++ ys) ≡ true
-list_all_both xs ys e f = list_all-append is_plain xs ys ∙ ap₂ (λ (x y : Bool). x && y) e f
+list_all_both : (xs ys : List Bytes) → list_all is_whole_line xs ≡ true → list_all is_whole_line ys ≡ true → list_all is_whole_line (xs ++ ys) ≡ true
+list_all_both xs ys e f = list_all-append is_whole_line xs ys ∙ ap₂ (λ (x y : Bool). x && y) e f
 
 -- bytes were written behind the others
 safe_stays : (d : Disk) (done : List Act) (bytes : Bytes) → (disk_after d (done ++ Wrote bytes ∷ [])).safe ≡ (disk_after d done).safe
@@ -109,7 +109,7 @@ safe_stays d done bytes = ap (λ (x : Disk). x.safe) (disk_both d done (Wrote by
 tail_grows : (d : Disk) (done : List Act) (bytes : Bytes) → (disk_after d (done ++ Wrote bytes ∷ [])).tail ≡ (disk_after d done).tail ++ bytes
 tail_grows d done bytes = ap (λ (x : Disk). x.tail) (disk_both d done (Wrote bytes ∷ []))
 
-line_served : {S : Type 0} (serves : Serving S) (longest : ℕ) → KeptLinesAreWhole serves → (s : S) (n : ℕ) (before lines : List Bytes) (done : List Act) (waits : Bytes) (t u : S) (line : Bytes) (a : Reply)
+line_served : {S : Type 0} (serves : Serving S) (longest : ℕ) → KeptLinesAreWhole serves → (s : S) (n : ℕ) (before lines : List Bytes) (done : List Act) (waits : Bytes) (t u : S) (line : Bytes) (a : LineReply)
     → has_no_feed line ≡ true → serves t (n + length lines) (given longest line) a u → Moment serves longest s n before lines done [] waits t
     → Moment serves longest s n before (lines ++ line ∷ []) (done ++ Wrote (journal_line (given longest line) a ++ 10 ∷ []) ∷ []) [] (waits ++ a.text) u
 line_served {S} serves longest whole s n before lines done waits t u line a plain one m = record {
@@ -120,7 +120,7 @@ line_served {S} serves longest whole s n before lines done waits t u line a plai
   now = m.now;
   extra = m.extra;
   parts = ap (λ ls. ls ++ line ∷ []) m.parts ∙ append_assoc m.first m.next (line ∷ []);
-  told = subst (λ text. Serves serves longest s n m.first m.journal text m.now) (sym (untold_more done (Wrote written) refl)) m.told;
+  told = subst (λ text. ServesAll serves longest s n m.first m.journal text m.now) (sym (untold_more done (Wrote written) refl)) m.told;
   untold = serves_more serves longest m.now t u (n + length m.first) m.next m.more waits line a m.untold (subst (λ (k : ℕ). serves t k (given longest line) a u) place one);
   plain = m.plain;
   plain_more = list_all_both m.more (l ∷ []) m.plain_more (ap (λ (x : Bool). x && true) (plain_journal_line serves longest whole t u (n + length lines) line a plain one));
@@ -152,7 +152,7 @@ part_written serves longest s n before lines done part waits t plain m = record 
   now = m.now;
   extra = m.extra;
   parts = m.parts;
-  told = subst (λ text. Serves serves longest s n m.first m.journal text m.now) (sym (untold_more done (Wrote part) refl)) m.told;
+  told = subst (λ text. ServesAll serves longest s n m.first m.journal text m.now) (sym (untold_more done (Wrote part) refl)) m.told;
   untold = m.untold;
   plain = m.plain;
   plain_more = m.plain_more;
@@ -175,7 +175,7 @@ synced serves longest s n before lines done part waits t m = record {
   now = m.now;
   extra = m.extra ++ d.tail;
   parts = m.parts;
-  told = subst (λ text. Serves serves longest s n m.first m.journal text m.now) (sym (untold_more done Synced refl)) m.told;
+  told = subst (λ text. ServesAll serves longest s n m.first m.journal text m.now) (sym (untold_more done Synced refl)) m.told;
   untold = m.untold;
   plain = m.plain;
   plain_more = m.plain_more;
@@ -203,7 +203,7 @@ told_now serves longest s n before lines done part waits t all m = record {
   now = t;
   extra = part;
   parts = m.parts ∙ sym (append-nil (m.first ++ m.next));
-  told = subst (λ text. Serves serves longest s n (m.first ++ m.next) (m.journal ++ m.more) text t) (sym told_text)
+  told = subst (λ text. ServesAll serves longest s n (m.first ++ m.next) (m.journal ++ m.more) text t) (sym told_text)
       (serves_both serves longest s m.now t n m.first m.next m.journal m.more (told_by done) waits m.told m.untold);
   untold = none;
   plain = list_all_both m.journal m.more m.plain m.plain_more;
@@ -313,7 +313,7 @@ each_moment serves longest whole s n before lines acts part waits t (tells {acts
 
 survives_moment : {S : Type 0} (serves : Serving S) (longest : ℕ) → OnlyKeptLinesCount serves → EmptyLinesAreSkipped serves
     → (s : S) (n : ℕ) (before lines rest : List Bytes) (done : List Act) (part waits : Bytes) (t : S) (file : Bytes)
-    → list_all is_plain before ≡ true → Moment serves longest s n before lines done part waits t
+    → list_all is_whole_line before ≡ true → Moment serves longest s n before lines done part waits t
     → MayLeave (disk_after (settled (lines_with_feeds before)) done) file → Survives serves longest s n before (lines ++ rest) done file
 survives_moment {S} serves longest only skipped s n before lines rest done part waits t file plain m left = by run
   where

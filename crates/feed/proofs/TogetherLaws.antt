@@ -5,8 +5,8 @@ use Rattle.std.specs.Io.KnownBytes.{Keeps}
 use Rattle.std.proofs.lemmas.List.{drop_all, get_or-map, get_or-take, length-map, length-take}
 use Rattle.scripts.specs.Script.{Bytes}
 use Rattle.scripts.specs.declared.input.ReadError.{ReadError}
-use Rattle.feed.specs.Reading.{AreNextLines, HasGathered, Held, IsNextLine, IsReadTo, given_of, nothing_held}
-use Rattle.feed.specs.Served.{AreAnswered, Reply, Serving}
+use Rattle.feed.specs.Reading.{AreNextLines, HasGathered, HeldLine, IsNextLine, IsReadTo, given_of, nothing_held}
+use Rattle.feed.specs.Served.{AreAnswered, LineReply, Serving}
 use Rattle.feed.specs.Acts.{Act}
 use Rattle.feed.specs.Faults.{fault_of_read}
 use Rattle.feed.specs.Hosted.{HasDone, HasHostedStream, IsEndedBy}
@@ -16,13 +16,13 @@ use Rattle.feed.specs.declared.fault.Fault.TheVariants as fault
 use Rattle.feed.proofs.ServingLaws.{Going, Hosting, Laws, all_told, did_nothing, ended_by, ended_still, kept_going, line_more, not_told, told_then, unread, unserved}
 
 -- ---- reading
-pub next_lines_more : (longest : ℕ) (old mid new : Option Bytes) (hs : List Held) (h : Held) (more : Bool)
+pub next_lines_more : (longest : ℕ) (old mid new : Option Bytes) (hs : List HeldLine) (h : HeldLine) (more : Bool)
     → AreNextLines longest old mid hs → IsNextLine longest mid new h (Some more) → AreNextLines longest old new (hs ++ h ∷ [])
 next_lines_more longest old mid new [] h more are next = (new, more, subst (λ r. IsNextLine longest r new h (Some more)) are next, refl)
 next_lines_more longest old mid new (x ∷ xs) h more are next = (are.0, are.1, are.2, next_lines_more longest are.0 mid new xs h more are.3 next)
 
 -- ---- answering
-pub answered_more : {S : Type 0} (serves : Serving S) (s t u : S) (n : ℕ) (lines : List (Option Bytes)) (answers : List Reply) (d : Option Bytes) (a : Reply)
+pub answered_more : {S : Type 0} (serves : Serving S) (s t u : S) (n : ℕ) (lines : List (Option Bytes)) (answers : List LineReply) (d : Option Bytes) (a : LineReply)
     → AreAnswered serves s n lines answers t → length answers < length lines → serves t (n + length answers) (get_or lines (length answers) d) a u
     → AreAnswered serves s n lines (answers ++ a ∷ []) u
 answered_more serves s t u n [] [] d a are l one = absurd (omega (arith, l))
@@ -34,7 +34,7 @@ answered_more serves s t u n (x ∷ xs) (b ∷ bs) d a are l one =
     let same : n + suc (length bs) ≡ n + 1 + length bs = omega arith in
     (are.0, are.1, answered_more serves are.0 t u (n + 1) xs bs d a are.2 (omega (arith, l)) (subst (λ (m : ℕ). serves t m (get_or xs (length bs) d) a u) same one))
 
-pub answered_next : {S : Type 0} (serves : Serving S) (s t u : S) (n k : ℕ) (hs : List Held) (answers : List Reply) (h : Held) (a : Reply) → AreAnswered serves s n (map given_of hs) answers t
+pub answered_next : {S : Type 0} (serves : Serving S) (s t u : S) (n k : ℕ) (hs : List HeldLine) (answers : List LineReply) (h : HeldLine) (a : LineReply) → AreAnswered serves s n (map given_of hs) answers t
     → length answers ≡ k → k < length hs → get_or hs k h ≡ h → serves t (n + k) (given_of h) a u → AreAnswered serves s n (map given_of hs) (answers ++ a ∷ []) u
 answered_next {S} serves s t u n k hs answers h a are long l at one =
     let is : get_or (map given_of hs) (length answers) (given_of h) ≡ given_of h = get_or-map given_of hs (length answers) h (given_of h) (omega (arith, long, l)) ∙ ap given_of (ap (λ (m : ℕ). get_or hs m h) long ∙ at) in
@@ -42,7 +42,7 @@ answered_next {S} serves s t u n k hs answers h a are long l at one =
     (subst (λ v. serves t (n + length answers) v a u) (sym is) (subst (λ (m : ℕ). serves t (n + m) (given_of h) a u) (sym long) one))
 
 -- of a beginning of lines: of all of them
-pub answered_first : {S : Type 0} (serves : Serving S) (s t : S) (n k : ℕ) (hs : List Held) (answers : List Reply)
+pub answered_first : {S : Type 0} (serves : Serving S) (s t : S) (n k : ℕ) (hs : List HeldLine) (answers : List LineReply)
     → AreAnswered serves s n (map given_of (take k hs)) answers t → AreAnswered serves s n (map given_of hs) answers t
 answered_first serves s t n k hs [] are = are
 answered_first serves s t n zero [] (a ∷ answers) are = absurd are
@@ -50,7 +50,7 @@ answered_first serves s t n zero (h ∷ hs) (a ∷ answers) are = absurd are
 answered_first serves s t n (suc k) [] (a ∷ answers) are = absurd are
 answered_first serves s t n (suc k) (h ∷ hs) (a ∷ answers) are = (are.0, are.1, answered_first serves are.0 t (n + 1) k hs answers are.2)
 
-pub few_answers : {S : Type 0} (serves : Serving S) (s t : S) (n : ℕ) (lines : List (Option Bytes)) (answers : List Reply)
+pub few_answers : {S : Type 0} (serves : Serving S) (s t : S) (n : ℕ) (lines : List (Option Bytes)) (answers : List LineReply)
     → AreAnswered serves s n lines answers t → length answers ≤ length lines
 few_answers serves s t n lines [] are = omega arith
 few_answers serves s t n [] (a ∷ answers) are = absurd are
@@ -70,7 +70,7 @@ keeps_both (Some x) (Some y) (Some z) a b = b ∙ a
 -- ---- one after the other
 
 -- so many of these lines were dealt with, with these answers left for others; and what follows from the state that they left
-pub record Left {S : Type 0} (serves : Serving S) (final : S) (c : ℕ) (all : List Held) (m k : ℕ) (answers : List Reply) (count : ℕ) (Follows : S → Type 0) : Type 0 where
+pub record Left {S : Type 0} (serves : Serving S) (final : S) (c : ℕ) (all : List HeldLine) (m k : ℕ) (answers : List LineReply) (count : ℕ) (Follows : S → Type 0) : Type 0 where
   pub state : S
   pub end : S
   pub follows : Follows state
@@ -79,7 +79,7 @@ pub record Left {S : Type 0} (serves : Serving S) (final : S) (c : ℕ) (all : L
   pub last : length answers + k ≡ m → end ≡ final
   pub counted : count ≡ c + k
 
-pub left_at_first : {S : Type 0} (serves : Serving S) (s t final : S) (c : ℕ) (all : List Held) (m : ℕ) (answers : List Reply) (Follows : S → Type 0)
+pub left_at_first : {S : Type 0} (serves : Serving S) (s t final : S) (c : ℕ) (all : List HeldLine) (m : ℕ) (answers : List LineReply) (Follows : S → Type 0)
     → AreAnswered serves s (c + 1) (map given_of (take m all)) answers t → m ≤ length all → (length answers ≡ m → t ≡ final) → Follows s → Left serves final c all m 0 answers c Follows
 left_at_first serves s t final c all m answers Follows are l same follows = record {
   state = s;
@@ -91,23 +91,23 @@ left_at_first serves s t final c all m answers Follows are l same follows = reco
   counted = omega arith;
 }
 
-pub dropped : (k : ℕ) (xs : List Held) (h : Held) → k < length xs → get_or xs k h ≡ h → drop k xs ≡ h ∷ drop (k + 1) xs
+pub dropped : (k : ℕ) (xs : List HeldLine) (h : HeldLine) → k < length xs → get_or xs k h ≡ h → drop k xs ≡ h ∷ drop (k + 1) xs
 dropped k [] h l is = absurd (omega (arith, l))
 dropped zero (x ∷ xs) h l is = ap (λ y. y ∷ xs) is
 dropped (suc k) (x ∷ xs) h l is = let same : suc k + 1 ≡ suc (k + 1) = omega arith in dropped k xs h (omega (arith, l)) is ∙ ap (λ (n : ℕ). h ∷ drop n (x ∷ xs)) (sym same)
 
-pub few_of_all : (all numbered : List Held) → numbered ≡ take (length numbered) all → length numbered ≤ length all
+pub few_of_all : (all numbered : List HeldLine) → numbered ≡ take (length numbered) all → length numbered ≤ length all
 few_of_all all numbered first = let l : length numbered ≡ length (take (length numbered) all) = ap length first in omega (arith, l, length-take (length numbered) all)
 
 -- a line of those for which there are numbers is one of all
-pub next_of_all : (all numbered : List Held) (k : ℕ) (h : Held) → numbered ≡ take (length numbered) all → k < length numbered → h ≡ get_or numbered k h → (get_or all k h ≡ h) × (k < length all)
+pub next_of_all : (all numbered : List HeldLine) (k : ℕ) (h : HeldLine) → numbered ≡ take (length numbered) all → k < length numbered → h ≡ get_or numbered k h → (get_or all k h ≡ h) × (k < length all)
 next_of_all all numbered k h first l is =
     let few = few_of_all all numbered first in
     (sym (get_or-take (length numbered) all k h l) ∙ ap (λ xs. get_or xs k h) (sym first) ∙ sym is, omega (arith, l, few))
 
-module _ {S : Type 0} (serves : Serving S) (final : S) (c : ℕ) (all : List Held) (m k : ℕ) where
+module _ {S : Type 0} (serves : Serving S) (final : S) (c : ℕ) (all : List HeldLine) (m k : ℕ) where
   -- the next line was dealt with
-  pub left_next : (h : Held) (a : Reply) (answers : List Reply) (count next : ℕ) (Follows Goes : S → Type 0) → get_or all k h ≡ h → k < length all → Left serves final c all m k (a ∷ answers) count Follows
+  pub left_next : (h : HeldLine) (a : LineReply) (answers : List LineReply) (count next : ℕ) (Follows Goes : S → Type 0) → get_or all k h ≡ h → k < length all → Left serves final c all m k (a ∷ answers) count Follows
       → ((p q : S) → serves p (count + 1) (given_of h) a q → Follows p → Goes q × (next ≡ count + 1)) → Left serves final c all m (k + 1) answers next Goes
   left_next h a answers count next Follows Goes at l r step =
       let are : AreAnswered serves r.state (count + 1) (map given_of (h ∷ drop (k + 1) all)) (a ∷ answers) r.end = subst (λ hs. AreAnswered serves r.state (count + 1) (map given_of hs) (a ∷ answers) r.end) (dropped k all h l at) r.answered in
@@ -123,11 +123,11 @@ module _ {S : Type 0} (serves : Serving S) (final : S) (c : ℕ) (all : List Hel
       }
 
   -- all lines were dealt with that were answered
-  pub left_end : (answers : List Reply) (count : ℕ) (Follows : S → Type 0) → k ≡ m → Left serves final c all m k answers count Follows → Follows final
+  pub left_end : (answers : List LineReply) (count : ℕ) (Follows : S → Type 0) → k ≡ m → Left serves final c all m k answers count Follows → Follows final
   left_end [] count Follows q r = let zero_more : 0 + k ≡ m = omega (arith, q) in subst Follows (sym r.answered ∙ r.last zero_more) r.follows
   left_end (a ∷ answers) count Follows q r = let few = r.left in absurd (omega (arith, q, few))
 
-pub at_self : (xs : List Held) (k : ℕ) (d : Held) → k < length xs → get_or xs k (get_or xs k d) ≡ get_or xs k d
+pub at_self : (xs : List HeldLine) (k : ℕ) (d : HeldLine) → k < length xs → get_or xs k (get_or xs k d) ≡ get_or xs k d
 at_self [] k d l = absurd (omega (arith, l))
 at_self (x ∷ xs) zero d l = refl
 at_self (x ∷ xs) (suc k) d l = at_self xs k d (omega (arith, l))
@@ -135,29 +135,29 @@ at_self (x ∷ xs) (suc k) d l = at_self xs k d (omega (arith, l))
 -- ---- serving one after the other
 
 -- what is served behind so many of these lines is served behind all
-abbrev pub Follows : {S : Type 0} → Serving S → S → ℕ → List Held → Bytes → Option (List Act) → ℕ → ℕ → Bytes → Option (List Act) → S → Type 0
+abbrev pub Follows : {S : Type 0} → Serving S → S → ℕ → List HeldLine → Bytes → Option (List Act) → ℕ → ℕ → Bytes → Option (List Act) → S → Type 0
 Follows {S} serves s c all waits acts k count now done state =
     (new : Option (List Act)) (result : Result (Unit {0}) Fault) (later : Bytes) (e : ℕ) (u : S)
     → HasServedLines serves state count (map given_of (drop k all)) now done new result later e u → HasServedLines serves s c (map given_of all) waits acts new result later e u
 
 -- so many of these lines were served, with these answers left for others
-abbrev pub Rest : {S : Type 0} → Serving S → S → ℕ → List Held → Bytes → Option (List Act) → ℕ → S → ℕ → List Reply → ℕ → Bytes → Option (List Act) → Type 0
+abbrev pub Rest : {S : Type 0} → Serving S → S → ℕ → List HeldLine → Bytes → Option (List Act) → ℕ → S → ℕ → List LineReply → ℕ → Bytes → Option (List Act) → Type 0
 Rest serves s c all waits acts m final k answers count now done = Left serves final c all m k answers count (Follows serves s c all waits acts k count now done)
 
-pub rest_at_first : {S : Type 0} (serves : Serving S) (s t final : S) (c : ℕ) (all : List Held) (waits : Bytes) (acts : Option (List Act)) (m : ℕ) (answers : List Reply)
+pub rest_at_first : {S : Type 0} (serves : Serving S) (s t final : S) (c : ℕ) (all : List HeldLine) (waits : Bytes) (acts : Option (List Act)) (m : ℕ) (answers : List LineReply)
     → AreAnswered serves s (c + 1) (map given_of (take m all)) answers t → m ≤ length all → (length answers ≡ m → t ≡ final) → Rest serves s c all waits acts m final 0 answers c waits acts
 rest_at_first serves s t final c all waits acts m answers are l same =
     left_at_first serves s t final c all m answers (Follows serves s c all waits acts 0 c waits acts) are l same (λ new result later e u h. h)
 
-module _ {S : Type 0} (serves : Serving S) (s final : S) (c : ℕ) (all : List Held) (waits : Bytes) (acts : Option (List Act)) (m k : ℕ) (count : ℕ) (now : Bytes) (done : Option (List Act)) where
+module _ {S : Type 0} (serves : Serving S) (s final : S) (c : ℕ) (all : List HeldLine) (waits : Bytes) (acts : Option (List Act)) (m k : ℕ) (count : ℕ) (now : Bytes) (done : Option (List Act)) where
   -- all lines were served
-  pub rest_all : (answers : List Reply) → k ≡ m → Rest serves s c all waits acts m final k answers count now done → length all ≤ k → HasServedLines serves s c (map given_of all) waits acts done (Ok tt) now count final
+  pub rest_all : (answers : List LineReply) → k ≡ m → Rest serves s c all waits acts m final k answers count now done → length all ≤ k → HasServedLines serves s c (map given_of all) waits acts done (Ok tt) now count final
   rest_all answers q r l =
       left_end serves final c all m k answers count (Follows serves s c all waits acts k count now done) q r done (Ok tt) now count final
       (subst (λ hs. HasServedLines serves final count (map given_of hs) now done done (Ok tt) now count final) (sym (drop_all k all l)) (refl, refl, refl, refl, refl))
 
   -- there is no number for the next line
-  pub rest_unnumbered : (answers : List Reply) → k ≡ m → Rest serves s c all waits acts m final k answers count now done → k < length all → c + m + 1 ≡ 2 ^ 64
+  pub rest_unnumbered : (answers : List LineReply) → k ≡ m → Rest serves s c all waits acts m final k answers count now done → k < length all → c + m + 1 ≡ 2 ^ 64
       → HasServedLines serves s c (map given_of all) waits acts done (Err fault.TooLong) now count final
   rest_unnumbered answers q r l full =
       let is = dropped k all (get_or all k nothing_held) l (at_self all k nothing_held l) in
@@ -165,9 +165,9 @@ module _ {S : Type 0} (serves : Serving S) (s final : S) (c : ℕ) (all : List H
       (subst (λ hs. HasServedLines serves final count (map given_of hs) now done done (Err fault.TooLong) now count final) (sym is)
       (inr (fault.TooLong, refl, (refl, did_nothing done, refl, omega (arith, q, full, r.counted)))))
 
-module _ {S : Type 0} (serves : Serving S) (s final : S) (c : ℕ) (all : List Held) (waits : Bytes) (acts : Option (List Act)) (m k : ℕ) (count : ℕ) (now : Bytes) (done : Option (List Act)) (h : Held) (at : get_or all k h ≡ h) where
+module _ {S : Type 0} (serves : Serving S) (s final : S) (c : ℕ) (all : List HeldLine) (waits : Bytes) (acts : Option (List Act)) (m k : ℕ) (count : ℕ) (now : Bytes) (done : Option (List Act)) (h : HeldLine) (at : get_or all k h ≡ h) where
   -- the next line was served
-  pub rest_next : (a : Reply) (answers : List Reply) (mid : Option (List Act)) (later : Bytes) (e : ℕ) → Rest serves s c all waits acts m final k (a ∷ answers) count now done
+  pub rest_next : (a : LineReply) (answers : List LineReply) (mid : Option (List Act)) (later : Bytes) (e : ℕ) → Rest serves s c all waits acts m final k (a ∷ answers) count now done
       → k < length all → ((p q : S) → serves p (count + 1) (given_of h) a q → HasServedLine serves p count (given_of h) now done mid (Ok tt) later e q)
       → Rest serves s c all waits acts m final (k + 1) answers e later mid
   rest_next a answers mid later e r l settled =
@@ -178,7 +178,7 @@ module _ {S : Type 0} (serves : Serving S) (s final : S) (c : ℕ) (all : List H
       ))
 
   -- the next line was not served
-  pub rest_stops : (answers : List Reply) (new : Option (List Act)) (why : Fault) (later : Bytes) (e : ℕ) (u : S) → (r : Rest serves s c all waits acts m final k answers count now done)
+  pub rest_stops : (answers : List LineReply) (new : Option (List Act)) (why : Fault) (later : Bytes) (e : ℕ) (u : S) → (r : Rest serves s c all waits acts m final k answers count now done)
       → k < length all → HasServedLine serves r.state count (given_of h) now done new (Err why) later e u → HasServedLines serves s c (map given_of all) waits acts new (Err why) later e u
   rest_stops answers new why later e u r l one =
       r.follows new (Err why) later e u (subst (λ hs. HasServedLines serves r.state count (map given_of hs) now done new (Err why) later e u) (sym (dropped k all h l at)) (inr (why, refl, one)))
@@ -202,7 +202,7 @@ GoesOn serves longest s n input now oa na ot nt (Ok tt) after u d = Going serves
 GoesOn serves longest s n input now oa na ot nt (Err why) after u d = Ended serves longest s n input oa na ot nt after u why
 
 pub lines_served : {S : Type 0} (serves : Serving S) (longest : ℕ) (s : S) (n : ℕ) (input mid now : Option Bytes) (oa ma na : Option (List Act)) (ot nt : Option Bytes)
-    (waits after : Bytes) (t u : S) (count d : ℕ) (hs : List Held) (result : Result (Unit {0}) Fault)
+    (waits after : Bytes) (t u : S) (count d : ℕ) (hs : List HeldLine) (result : Result (Unit {0}) Fault)
     → Going serves longest s n input mid oa ma ot nt waits t count → AreNextLines longest mid now hs
     → HasServedLines serves t count (map given_of hs) waits ma na result after d u → GoesOn serves longest s n input now oa na ot nt result after u d
 lines_served {S} serves longest s n input mid now oa ma na ot nt waits after t u count d [] result g are served =
@@ -222,7 +222,7 @@ lines_served {S} serves longest s n input mid now oa ma na ot nt waits after t u
 
 -- what is read at a time was served
 pub served_on : {S : Type 0} (serves : Serving S) (longest : ℕ) (s : S) (n : ℕ) (input mid new : Option Bytes) (oa ma na : Option (List Act)) (ot mt nt : Option Bytes)
-    (waits after : Bytes) (t u : S) (count d : ℕ) (hs : List Held) (read : Result Bool ReadError) (result : Result (Unit {0}) Fault)
+    (waits after : Bytes) (t u : S) (count d : ℕ) (hs : List HeldLine) (read : Result Bool ReadError) (result : Result (Unit {0}) Fault)
     → Going serves longest s n input mid oa ma ot mt waits t count → HasGathered longest mid new hs read → HasServedLines serves t count (map given_of hs) waits ma na result after d u → Keeps mt nt
     → (now : Option Bytes) × IsReadTo longest now new read × GoesOn serves longest s n input now oa na ot nt result after u d
 served_on serves longest s n input mid new oa ma na ot mt nt waits after t u count d hs read result g gathered served keeps = (

@@ -3,8 +3,8 @@ use Rattle.std.specs.Prelude.{◌≡◌, ◌++◌, ◌+◌, ◌^◌, ℕ, List, 
 use Rattle.std.specs.List.{list_all}
 use Rattle.std.specs.Io.KnownBytes.{Appends, IsAtEnd}
 use Rattle.scripts.specs.Script.{Bytes, has_no_feed, lines_with_feeds}
-use Rattle.feed.specs.WholeLines.{AreWholeLines, BeginsWithLines, given, is_plain}
-use Rattle.feed.specs.Served.{Reply, Serves, Serving, journal_line}
+use Rattle.feed.specs.WholeLines.{AreWholeLines, BeginsWithLines, given, is_whole_line}
+use Rattle.feed.specs.Served.{LineReply, ServesAll, Serving, journal_line}
 use Rattle.feed.specs.Acts.{Act, Did, MayLeave, disk_after, lines_run, settled, told_by}
 use Rattle.feed.specs.Acts.Act.{Synced, Told, Wrote}
 use Rattle.feed.specs.declared.fault.Fault.{Fault}
@@ -16,7 +16,7 @@ use Rattle.feed.specs.declared.fault.Fault.TheVariants as fault
 pub data Hosts {S : Type 0} (serves : Serving S) (longest : ℕ) (s : S) (n : ℕ)
     : List Bytes → List Act → Bytes → Bytes → S → Type 0 where
   begins : Hosts serves longest s n [] [] [] [] s
-  serves_line : {lines : List Bytes} {acts : List Act} {waits : Bytes} {t u : S} (line : Bytes) (a : Reply)
+  serves_line : {lines : List Bytes} {acts : List Act} {waits : Bytes} {t u : S} (line : Bytes) (a : LineReply)
       → Hosts serves longest s n lines acts [] waits t → IsTrue (has_no_feed line)
       → serves t (n + length lines) (given longest line) a u
       → Hosts serves longest s n (lines ++ line ∷ []) (acts ++ Wrote (journal_line (given longest line) a ++ 10 ∷ []) ∷ [])
@@ -45,15 +45,15 @@ pub record Survives {S : Type 0} (serves : Serving S) (longest : ℕ) (s : S) (n
   pub now : S
   pub later : S
   pub parts : lines ≡ first ++ (next ++ rest)
-  pub told : Serves serves longest s n first journal (told_by done) now
-  pub untold : Serves serves longest now (n + length first) next more text later
+  pub told : ServesAll serves longest s n first journal (told_by done) now
+  pub untold : ServesAll serves longest now (n + length first) next more text later
   pub runs : lines_run file ≡ before ++ (journal ++ more)
-  pub replays : Serves serves longest s n (journal ++ more) (journal ++ more) again later
+  pub replays : ServesAll serves longest s n (journal ++ more) (journal ++ more) again later
 
 -- the same of each moment, and of each file that a stop may leave then, where the journal was on the disk before
 abbrev pub SurvivesStops : {S : Type 0} → Serving S → ℕ → S → ℕ → List Bytes → List Act → Type 0
 SurvivesStops serves longest s n lines acts =
-    (before : List Bytes) → IsTrue (list_all is_plain before) → (done left : List Act) → acts ≡ done ++ left
+    (before : List Bytes) → IsTrue (list_all is_whole_line before) → (done left : List Act) → acts ≡ done ++ left
     → (file : Bytes) → MayLeave (disk_after (settled (lines_with_feeds before)) done) file
     → Survives serves longest s n before lines done file
 

@@ -81,8 +81,8 @@ abbrev pub new_network : NetworkLines
 new_network = record { declared = []; is_named = false; lost = nothing_drawn; slots = [] }
 
 -- the entry of a number in a list
-abbrev pub value_at : {X : Type 0} → List (ℕ × X) → ℕ → Option X
-value_at entries n = lookup (is_at (nat_cmp n)) entries
+abbrev pub entry_at : {X : Type 0} → List (ℕ × X) → ℕ → Option X
+entry_at entries n = lookup (is_at (nat_cmp n)) entries
 
 -- a list without the entry of a number
 abbrev pub without : {X : Type 0} → ℕ → List (ℕ × X) → List (ℕ × X)
@@ -113,10 +113,10 @@ drawn_at (Some slot) = slot.drawn
 abbrev pub network_after : ℕ → Deed → NetworkLines → NetworkLines
 network_after n Declared net = record net { declared = net.declared ++ n ∷ [] }
 network_after n Refused net = record net { is_named = true }
-network_after n (Applied i d) net = record net { is_named = true; slots = slots_with (value_at net.slots i) i n d net.slots }
+network_after n (Applied i d) net = record net { is_named = true; slots = slots_with (entry_at net.slots i) i n d net.slots }
 network_after n (Closed i d) net = record net {
   is_named = true;
-  lost = both_drawn net.lost (both_drawn (drawn_at (value_at net.slots i)) d);
+  lost = both_drawn net.lost (both_drawn (drawn_at (entry_at net.slots i)) d);
   slots = without i net.slots;
 }
 network_after n Dropped net = net
@@ -132,7 +132,7 @@ lasting_after n text g Declared net old =
     record old { declarations = insert_entry nat_cmp old.declarations n (record { network = g; text = text }) }
 lasting_after n text g Refused net old = old
 lasting_after n text g (Applied i d) net old = record old { events = insert_entry nat_cmp old.events n text }
-lasting_after n text g (Closed i d) net old = record old { events = events_but (value_at net.slots i) old.events }
+lasting_after n text g (Closed i d) net old = record old { events = events_but (entry_at net.slots i) old.events }
 lasting_after n text g Dropped net old = record {
   declarations = without_all net.declared old.declarations;
   events = without_slots (values_of net.slots) old.events;
@@ -167,20 +167,20 @@ is_drop Dropped = true
 -- what is known behind a line that did this
 abbrev pub lines_after : ℕ → Bytes → Done → Lines → Lines
 lines_after n text done old =
-    if is_drop done.deed then without_network (value_at old.networks done.network) n text done old
-    else with_network (value_at old.networks done.network) n text done old
+    if is_drop done.deed then without_network (entry_at old.networks done.network) n text done old
+    else with_network (entry_at old.networks done.network) n text done old
 
 -- the lines that last behind one more line; one that did nothing and an empty one change nothing
-abbrev pub lines_behind : ℕ → Option Bytes → Option Done → Lines → Lines
-lines_behind n None did old = old
-lines_behind n (Some []) did old = old
-lines_behind n (Some (b ∷ text)) None old = old
-lines_behind n (Some (b ∷ text)) (Some done) old = lines_after n (b ∷ text) done old
+abbrev pub lasting_behind : ℕ → Option Bytes → Option Done → Lines → Lines
+lasting_behind n None did old = old
+lasting_behind n (Some []) did old = old
+lasting_behind n (Some (b ∷ text)) None old = old
+lasting_behind n (Some (b ∷ text)) (Some done) old = lines_after n (b ∷ text) done old
 
 -- a line is answered as it was, and the lines that last are known
 abbrev pub Watching : {S : Type 0} → Serving S → Serving (Watched S)
 Watching serves old n line a new =
-    serves old.server n line a new.server × (new.lines ≡ lines_behind n line a.done old.lines)
+    serves old.server n line a new.server × (new.lines ≡ lasting_behind n line a.done old.lines)
 
 -- the number of the first line of those of open slots
 abbrev pub first_line : Lasting → Option ℕ
@@ -222,7 +222,7 @@ lost_at (Some net) = net.lost
 
 -- a kept line that declares something, with what is left of its budgets, and a line feed (10)
 abbrev pub declaration_text : List (ℕ × NetworkLines) → Declaration → Bytes
-declaration_text networks d = lowered (lost_at (value_at networks d.network)) d.text ++ 10 ∷ []
+declaration_text networks d = lowered (lost_at (entry_at networks d.network)) d.text ++ 10 ∷ []
 
 -- `close N 0`, a line that is refused and names a network: where an event has named it, and no slot is open
 abbrev pub naming_text : ℕ × NetworkLines → Bytes

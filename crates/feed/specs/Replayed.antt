@@ -5,7 +5,7 @@ use Rattle.scripts.specs.Script.{Bytes, lines_with_feeds}
 use Rattle.scripts.specs.declared.run.Stop.{Stop}
 use Rattle.scripts.specs.declared.run.Stop.TheVariants as stop
 use Rattle.feed.specs.WholeLines.{BeginsWithLines, given}
-use Rattle.feed.specs.Served.{Reply, Serves, Serving, is_kept, unanswered}
+use Rattle.feed.specs.Served.{LineReply, ServesAll, Serving, is_kept, unanswered}
 use Rattle.feed.specs.Acts.{lines_run}
 use Rattle.feed.specs.declared.replaying.JournalEnd.{JournalEnd}
 
@@ -20,24 +20,24 @@ told_if true text = text
 told_if false text = []
 
 -- the line is one of a journal: it is kept, or it is not answered
-abbrev pub IsTaken : Reply → Type 0
-IsTaken a = (is_kept a ≡ true) ⊎ (a ≡ unanswered)
+abbrev pub IsJournalReply : LineReply → Type 0
+IsJournalReply a = (is_kept a ≡ true) ⊎ (a ≡ unanswered)
 
 -- a line is answered as it was, if it is one of a journal; what is told of it is told only from that line on
 abbrev pub Replaying : {S : Type 0} → Option ℕ → Serving S → Serving S
 Replaying from serves s n line told t =
-    (a : Reply) × serves s n line a t × IsTaken a × (told ≡ record { text = told_if (is_told from n) a.text; done = a.done })
+    (a : LineReply) × serves s n line a t × IsJournalReply a × (told ≡ record { text = told_if (is_told from n) a.text; done = a.done })
 
 -- a line is none of a journal: it is too long, or its answer says that it is not kept
 abbrev pub IsNoLine : {S : Type 0} → Serving S → S → ℕ → Option Bytes → Type 0
 IsNoLine {S} serves s n None = Unit {0}
-IsNoLine {S} serves s n (Some line) = (a : Reply) × (t : S) × serves s n (Some line) a t × (is_kept a ≡ false)
+IsNoLine {S} serves s n (Some line) = (a : LineReply) × (t : S) × serves s n (Some line) a t × (is_kept a ≡ false)
 
 -- one line was answered again, and the journal ends behind it; or why not
 abbrev pub HasReplayedLine : {S : Type 0} → Serving S → Option ℕ → S → JournalEnd → Option Bytes → Option Bytes → Option Bytes
     → Result JournalEnd Stop → S → Type 0
 HasReplayedLine serves from s end given old new (Ok now) t =
-    (line : Bytes) × (told : Reply) × (given ≡ Some line) × Replaying from serves s (end.lines + 1) (Some line) told t
+    (line : Bytes) × (told : LineReply) × (given ≡ Some line) × Replaying from serves s (end.lines + 1) (Some line) told t
     × Appends old new told.text × (now.lines ≡ end.lines + 1) × (now.bytes ≡ end.bytes + length line + 1)
 HasReplayedLine serves from s end given old new (Err (stop.BadLine n)) t =
     (n ≡ end.lines + 1) × IsNoLine serves s n given
@@ -70,11 +70,11 @@ abbrev pub HasReplayed : {S : Type 0} → Serving S → ℕ → Option ℕ → S
     → Result JournalEnd Stop → S → Type 0
 HasReplayed serves longest from s file old new (Ok end) t =
     (lines journal : List Bytes) × (text : Bytes) × AreRun file lines
-    × Serves (Replaying from serves) longest s 1 lines journal text t × Appends old new text
+    × ServesAll (Replaying from serves) longest s 1 lines journal text t × Appends old new text
     × (end.lines ≡ length lines) × (end.bytes ≡ length (lines_with_feeds lines))
 HasReplayed {S} serves longest from s file old new (Err (stop.BadLine n)) t =
     (lines journal : List Bytes) × (text line : Bytes) × (u : S) × AreRunBefore file lines line
-    × Serves (Replaying from serves) longest s 1 lines journal text u
+    × ServesAll (Replaying from serves) longest s 1 lines journal text u
     × (n ≡ length lines + 1) × IsNoLine serves u n (given longest line)
 HasReplayed serves longest from s file old new (Err stop.CannotRead) t = Unit {0}
 HasReplayed serves longest from s file old new (Err stop.TooLong) t = Unit {0}

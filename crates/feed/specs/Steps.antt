@@ -2,7 +2,7 @@
 use Rattle.std.specs.Prelude.{◌≡◌, ◌⊎◌, ◌++◌, ◌+◌, ◌^◌, ℕ, Bool, List, [], ◌∷◌, Option, Result, Ok, Err}
 use Rattle.std.specs.Io.KnownBytes.{Appends, Keeps}
 use Rattle.scripts.specs.Script.{Bytes}
-use Rattle.feed.specs.Served.{Reply, Serving, journal_line, kept_as}
+use Rattle.feed.specs.Served.{LineReply, Serving, journal_line, kept_as}
 use Rattle.feed.specs.Acts.{Act, Did}
 use Rattle.feed.specs.Acts.Act.{Synced, Told, Wrote}
 use Rattle.feed.specs.declared.fault.Fault.{Fault}
@@ -12,7 +12,7 @@ use Rattle.feed.specs.declared.fault.Fault.TheVariants as fault
 abbrev pub HasServedLine : {S : Type 0} → Serving S → S → ℕ → Option Bytes → Bytes → Option (List Act) → Option (List Act)
     → Result (Unit {0}) Fault → Bytes → ℕ → S → Type 0
 HasServedLine serves s c given waits old new (Ok _) now d t =
-    (a : Reply) × serves s (c + 1) given a t × (now ≡ waits ++ a.text) × (d ≡ c + 1)
+    (a : LineReply) × serves s (c + 1) given a t × (now ≡ waits ++ a.text) × (d ≡ c + 1)
     × Did old new (Wrote (journal_line given a ++ 10 ∷ []) ∷ [])
 HasServedLine serves s c given waits old new (Err fault.TooLong) now d t =
     (now ≡ waits) × Did old new [] × (t ≡ s) × (c + 1 ≡ 2 ^ 64)

@@ -29,5 +29,5 @@ abbrev pub has_no_hole : Bytes → Bool
 has_no_hole bytes = list_all (λ b. not (b == 0)) bytes
 
 -- no byte of a line is a line feed (10) or 0
-abbrev pub is_plain : Bytes → Bool
-is_plain line = has_no_feed line && has_no_hole line
+abbrev pub is_whole_line : Bytes → Bool
+is_whole_line line = has_no_feed line && has_no_hole line

@@ -11,7 +11,7 @@ ghost use Rattle.std.specs.Ordering.{nat_cmp};
 ghost use Rattle.scripts.specs.Script.{lines_with_feeds};
 ghost use Rattle.scripts.specs.Words.{split_once};
 ghost use Rattle.feed.specs.Compacting.{HasCompacted};
-ghost use Rattle.feed.specs.Lasting.{both_drawn, compacted, declaration_text, drawn_at, events_but, first_line, lasting_after, lines_behind, lost_at, lowered, lowered_word, lowered_words, naming_text, network_after, new_network, no_lines, slots_with, value_at, with_network, without, without_all, without_network, without_slots};
+ghost use Rattle.feed.specs.Lasting.{both_drawn, compacted, declaration_text, drawn_at, entry_at, events_but, first_line, lasting_after, lasting_behind, lost_at, lowered, lowered_word, lowered_words, naming_text, network_after, new_network, no_lines, slots_with, with_network, without, without_all, without_network, without_slots};
 
 use crate::answering::{
     Answer, BatchServer, Deed, Done, Drawn, LineServer, serve_in_turn, write_and_flush,
@@ -112,15 +112,15 @@ impl<S: LineServer> Lasting<S> {
 
 impl<S: LineServer> LineServer for Lasting<S> {
     ghost use Rattle.feed.specs.Lasting.{Watching};
-    ghost use Rattle.feed.specs.LastingLaws.{empty_lines_are_skipped, kept_lines_are_whole, only_kept_lines_count};
+    ghost use Rattle.feed.specs.LastingLaws.{lasting_empty_lines_are_skipped, lasting_kept_lines_are_whole, lasting_only_kept_lines_count};
 
     ghost serves = { Watching S.serves };
 
-    ghost only_kept = { only_kept_lines_count S.serves S.only_kept };
+    ghost only_kept = { lasting_only_kept_lines_count S.serves S.only_kept };
 
-    ghost skipped = { empty_lines_are_skipped S.serves S.skipped };
+    ghost skipped = { lasting_empty_lines_are_skipped S.serves S.skipped };
 
-    ghost whole = { kept_lines_are_whole S.serves S.whole };
+    ghost whole = { lasting_kept_lines_are_whole S.serves S.whole };
 
     /// Has the line answered by the server, and keeps it while it lasts. An error says that it is out of memory; then
     /// nothing is served any more.
@@ -369,7 +369,7 @@ impl NetworkLines {
         slot: u64,
         drawn: Drawn,
     ) -> Result<(), AllocError>
-        ensures slots { OnOk result (self.new.slots ≡ slots_with (value_at self.old.slots slot) slot number drawn self.old.slots) }
+        ensures slots { OnOk result (self.new.slots ≡ slots_with (entry_at self.old.slots slot) slot number drawn self.old.slots) }
         ensures same { (self.new.declared ≡ self.old.declared) × (self.new.is_named ≡ self.old.is_named) × (self.new.lost ≡ self.old.lost) }
     {
         if let Some(open) = self.slots.get_mut(&slot) {
@@ -388,8 +388,8 @@ impl NetworkLines {
 
     /// A line that drew `drawn` closed a slot, whose lines do not last.
     fn close(&mut self, slot: u64, drawn: Drawn, events: &mut BTreeMap<u64, EventLine>)
-        ensures network { self.new ≡ record self.old { lost = both_drawn self.old.lost (both_drawn (drawn_at (value_at self.old.slots slot)) drawn); slots = without slot self.old.slots } }
-        ensures events { events.new.entries ≡ events_but (value_at self.old.slots slot) events.old.entries }
+        ensures network { self.new ≡ record self.old { lost = both_drawn self.old.lost (both_drawn (drawn_at (entry_at self.old.slots slot)) drawn); slots = without slot self.old.slots } }
+        ensures events { events.new.entries ≡ events_but (entry_at self.old.slots slot) events.old.entries }
     {
         let mut all = Drawn::NOTHING;
         if let Some(closed) = self.slots.remove(&slot) {
@@ -455,7 +455,7 @@ impl Lines {
         line: Option<&[u8]>,
         done: Option<Done>,
     ) -> Result<(), AllocError>
-        ensures { OnOk result (self.new ≡ lines_behind number (option_map (λ bytes. bytes.now) line.entry) done self.old) }
+        ensures { OnOk result (self.new ≡ lasting_behind number (option_map (λ bytes. bytes.now) line.entry) done self.old) }
     {
         let (Some(line), Some(done)) = (line, done) else {
             return Ok(());
@@ -478,7 +478,7 @@ impl Lines {
         line: &[u8],
         done: Done,
     ) -> Result<(), AllocError>
-        ensures { OnOk result (self.new ≡ with_network (value_at self.old.networks done.network) number line.now done self.old) }
+        ensures { OnOk result (self.new ≡ with_network (entry_at self.old.networks done.network) number line.now done self.old) }
     {
         if let Some(network) = self.networks.get_mut(&done.network) {
             return network.note(alloc, number, line, done, &mut self.lasting);
@@ -500,7 +500,7 @@ impl Lines {
         line: &[u8],
         done: Done,
     ) -> Result<(), AllocError>
-        ensures { OnOk result (self.new ≡ without_network (value_at self.old.networks done.network) number line.now done self.old) }
+        ensures { OnOk result (self.new ≡ without_network (entry_at self.old.networks done.network) number line.now done self.old) }
     {
         match self.networks.remove(&done.network) {
             Some(dropped) => {
@@ -560,7 +560,7 @@ impl Lines {
 
     /// What events of a network drew that are not of open slots.
     fn lost_of(&self, network: u32) -> Drawn
-        ensures { result ≡ lost_at (value_at self.now.networks network) }
+        ensures { result ≡ lost_at (entry_at self.now.networks network) }
     {
         match self.networks.get(&network) {
             Some(network) => network.lost,

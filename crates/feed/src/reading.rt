@@ -27,10 +27,10 @@ pub struct KeptLine {
 
 impl Model for KeptLine {
     ghost use Rattle.std.specs.Prelude.{◌≤◌, Some, None, length, if◌then◌else◌};
-    ghost use Rattle.feed.specs.Reading.{Held};
+    ghost use Rattle.feed.specs.Reading.{HeldLine};
     ghost use Rattle.feed.specs.declared.reading.TheConstants.{LONGEST_LINE};
 
-    ghost Value = { Held };
+    ghost Value = { HeldLine };
 
     ghost view = { λ line. record { given = if line.too_long then None else Some line.bytes.items; hole = line.hole } };
 

@@ -4,7 +4,7 @@ ghost use Rattle.std.specs.Prelude.{◌≡◌, ◌+◌, ◌<◌, ◌^◌, false,
 ghost use Rattle.std.specs.Io.KnownBytes.{Appends};
 ghost use Rattle.feed.specs.Reading.{given_of};
 ghost use Rattle.feed.specs.Served.{is_kept, reply_of};
-ghost use Rattle.feed.specs.Replayed.{HasReplayed, HasReplayedLine, HasReplayedLines, IsTaken, is_told, told_if};
+ghost use Rattle.feed.specs.Replayed.{HasReplayed, HasReplayedLine, HasReplayedLines, IsJournalReply, is_told, told_if};
 
 use crate::answering::{Answer, BatchServer, LineServer};
 use crate::gathering::{gather, most_behind, numbered, whole_lines};
@@ -130,7 +130,7 @@ fn tell_again<W: Write>(
     from: Option<u64>,
     out: &mut W,
 ) -> Result<(), Stop>
-    ensures told { OnOk result (IsTaken (reply_of answer) × Appends (W.contents out.old) (W.contents out.new) (told_if (is_told from number) (reply_of answer).text)) }
+    ensures told { OnOk result (IsJournalReply (reply_of answer) × Appends (W.contents out.old) (W.contents out.new) (told_if (is_told from number) (reply_of answer).text)) }
     ensures bad { (n : _) → result ≡ Err (Stop.BadLine n) → (n ≡ number) × (is_kept (reply_of answer) ≡ false) }
 {
     let Some(Answer { block, done }) = answer else {

@@ -60,32 +60,32 @@ pub record IsFlat (us : List ℕ) (sets : List Level) : Type 0 where
 
 -- ---- the numbers of slices
 -- how many inner sets there are
-abbrev pub count_sets : Members → ℕ
-count_sets none = 0
-count_sets (node u rest) = count_sets rest
-count_sets (inner k own rest) = suc (count_sets own + count_sets rest)
+abbrev pub count_inner_sets : Members → ℕ
+count_inner_sets none = 0
+count_inner_sets (node u rest) = count_inner_sets rest
+count_inner_sets (inner k own rest) = suc (count_inner_sets own + count_inner_sets rest)
 
 -- how many names of a table stand before one
-abbrev pub place_of : List ℕ → ℕ → ℕ
-place_of [] u = 0
-place_of (x ∷ xs) u = if x == u then 0 else suc (place_of xs u)
+abbrev pub place_of_name : List ℕ → ℕ → ℕ
+place_of_name [] u = 0
+place_of_name (x ∷ xs) u = if x == u then 0 else suc (place_of_name xs u)
 
 -- members by number, where the sets among them, each before those inside it, have the numbers from this one on
-abbrev pub numbers_of : List ℕ → ℕ → Members → List FlatMember
-numbers_of us first none = []
-numbers_of us first (node u rest) = Name (place_of us u) ∷ numbers_of us first rest
-numbers_of us first (inner k own rest) = Inner first ∷ numbers_of us (suc first + count_sets own) rest
+abbrev pub flat_members : List ℕ → ℕ → Members → List FlatMember
+flat_members us first none = []
+flat_members us first (node u rest) = Name (place_of_name us u) ∷ flat_members us first rest
+flat_members us first (inner k own rest) = Inner first ∷ flat_members us (suc first + count_inner_sets own) rest
 
 -- these sets, each before those inside it
-abbrev pub levels_in : List ℕ → ℕ → Members → List Level
-levels_in us first none = []
-levels_in us first (node u rest) = levels_in us first rest
-levels_in us first (inner k own rest) =
-    record { threshold = k; members = numbers_of us (suc first) own } ∷ levels_in us (suc first) own ++ levels_in us (suc first + count_sets own) rest
+abbrev pub flat_levels : List ℕ → ℕ → Members → List Level
+flat_levels us first none = []
+flat_levels us first (node u rest) = flat_levels us first rest
+flat_levels us first (inner k own rest) =
+    record { threshold = k; members = flat_members us (suc first) own } ∷ flat_levels us (suc first) own ++ flat_levels us (suc first + count_inner_sets own) rest
 
 -- slices as a list of sets: each set, and then those inside it
 abbrev pub levels_of : List ℕ → ℕ → Slices → List Level
-levels_of us first q = record { threshold = q.threshold; members = numbers_of us (suc first) q.members } ∷ levels_in us (suc first) q.members
+levels_of us first q = record { threshold = q.threshold; members = flat_members us (suc first) q.members } ∷ flat_levels us (suc first) q.members
 
 -- ---- a code
 abbrev pub member_code : Coded FlatMember

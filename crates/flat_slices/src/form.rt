@@ -4,7 +4,7 @@ ghost use Rattle.std.specs.Prelude.{◌≡◌, ◌==◌, ◌+◌, ◌++◌, ◌-
 ghost use Rattle.types.specs.Trees.{HasThreshold, HaveThresholds, depth_of, most_levels, names_in};
 ghost use Rattle.protocol.specs.Sets.{among, AreWithin, IsAscending};
 ghost use Rattle.protocol.specs.Satisfaction.{sat, is_blocked};
-ghost use Rattle.flat_slices.specs.Numbers.{AreNumbers, levels_of, place_of, set_at};
+ghost use Rattle.flat_slices.specs.Numbers.{AreNumbers, levels_of, place_of_name, set_at};
 ghost use Rattle.slices.specs.Weighing.{share_of, whole};
 
 use crate::flat_set::{FlatMember, FlatSet};
@@ -226,7 +226,7 @@ fn push_sets(
 fn place_of(names: &[NodeId], node: &NodeId) -> usize
     requires ascending { IsAscending names.now }
     requires known { IsTrue (among names.now node.now) }
-    ensures { result ≡ place_of names.now node.now }
+    ensures { result ≡ place_of_name names.now node.now }
 {
     match names.binary_search(node) {
         Ok(place) => place,

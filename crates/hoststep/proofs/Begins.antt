@@ -8,9 +8,9 @@ use Rattle.hoststep.specs.declared.kept.StoredEntry.{StoredEntry}
 use Rattle.hoststep.specs.declared.outs_list.EntryOuts.{EntryOuts}
 use Rattle.hoststep.specs.Giving.{kept_outs}
 use Rattle.hoststep.specs.Keeping.{AreKept, IsKeptEvent, entry_of}
-use Rattle.network.specs.Lodgings.{IsTallied, Seats}
+use Rattle.network.specs.FiledSlots.{CountedSlot, IsTallied}
 use Rattle.hoststep.specs.Logs.{IsJournal}
-use Rattle.network.specs.Standing.{Standing, machine_of}
+use Rattle.network.specs.Standing.{FiledMachine, machine_of}
 use Rattle.std.specs.List.{All}
 
 begins : (config : Config) → IsJournal (machine_of (record { config = config; archive = []; slots = []; events = 0; bytes = 0; opens = 0 })) [] × AreKept config.nodes [] [] []
@@ -18,7 +18,7 @@ unfolding net_after
 begins config = (
   record {
     run = record { applied = λ k x h. absurd (cc); outs = λ k x h. absurd (cc) };
-    state = record { is = refl; tallied = All-nil (λ (s : Seats). All (IsTallied s.number []) s.seats) };
+    state = record { is = refl; tallied = All-nil (λ (s : CountedSlot). All (IsTallied s.number []) s.instances) };
   },
   (
     All-nil (λ (x : StoredEntry). IsKeptEvent config.nodes [] x.event × AreFiledOuts [] (kept_outs x.outs)),
@@ -30,8 +30,8 @@ begins config = (
   ),
 )
 
-pub fresh-journal : (config : Config) (m : Standing) (lists : List EntryOuts) (xs : List StoredEntry) → m ≡ record { config = config; archive = []; slots = []; events = 0; bytes = 0; opens = 0 } → lists ≡ [] → xs ≡ []
+pub fresh-journal : (config : Config) (m : FiledMachine) (lists : List EntryOuts) (xs : List StoredEntry) → m ≡ record { config = config; archive = []; slots = []; events = 0; bytes = 0; opens = 0 } → lists ≡ [] → xs ≡ []
     → IsJournal (machine_of m) (map entry_of xs) × AreKept m.config.nodes m.archive lists xs
 fresh-journal config m lists xs is fresh none =
-    subst (λ (s : Standing). IsJournal (machine_of s) (map entry_of xs) × AreKept s.config.nodes s.archive lists xs) (sym is)
+    subst (λ (s : FiledMachine). IsJournal (machine_of s) (map entry_of xs) × AreKept s.config.nodes s.archive lists xs) (sym is)
     (subst (λ (l : List EntryOuts × List StoredEntry). IsJournal (machine_of (record { config = config; archive = []; slots = []; events = 0; bytes = 0; opens = 0 })) (map entry_of l.1) × AreKept config.nodes [] l.0 l.1) (λ i. (sym fresh i, sym none i)) (begins config))

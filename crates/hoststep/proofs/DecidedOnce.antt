@@ -16,10 +16,10 @@ use Rattle.protocol.specs.Runs.{IsRun, state_of}
 use Rattle.protocol.specs.Sameness.{same_sent}
 use Rattle.protocol.specs.States.{counter_of, sent_nomination, sent_vote}
 use Rattle.network.specs.Marks.{slot_and_node_of}
-use Rattle.hoststep.specs.Deciding.{decided_at, decisions_by, decisions_in, values_in}
+use Rattle.hoststep.specs.Deciding.{decided_at, decisions_by, decisions_in, externalized_values}
 
 abbrev AtMostOne : List Out → Type 0
-AtMostOne os = length (values_in os) ≤ 1
+AtMostOne os = length (externalized_values os) ≤ 1
 
 none-there : 0 ≤ 1
 none-there = omega (arith)
@@ -27,7 +27,7 @@ none-there = omega (arith)
 one-there : 1 ≤ 1
 one-there = omega (arith)
 
-pub values-append : (xs ys : List Out) → values_in (xs ++ ys) ≡ values_in xs ++ values_in ys
+pub values-append : (xs ys : List Out) → externalized_values (xs ++ ys) ≡ externalized_values xs ++ externalized_values ys
 values-append [] ys = refl
 values-append (ArmNomination r ∷ xs) ys = values-append xs ys
 values-append (ArmBallot n ∷ xs) ys = values-append xs ys
@@ -35,22 +35,22 @@ values-append (Emit e ∷ xs) ys = values-append xs ys
 values-append (Externalized x ∷ xs) ys = ap (λ (vs : List (List ℕ)). x ∷ vs) (values-append xs ys)
 
 -- behind what decides nothing
-after-none : (xs ys : List Out) → values_in xs ≡ [] → values_in (xs ++ ys) ≡ values_in ys
-after-none xs ys h = values-append xs ys ∙ ap (λ (vs : List (List ℕ)). vs ++ values_in ys) h
+after-none : (xs ys : List Out) → externalized_values xs ≡ [] → externalized_values (xs ++ ys) ≡ externalized_values ys
+after-none xs ys h = values-append xs ys ∙ ap (λ (vs : List (List ℕ)). vs ++ externalized_values ys) h
 
-round-timer : (b : Bool) (r : ℕ) → values_in (when b (ArmNomination r)) ≡ []
+round-timer : (b : Bool) (r : ℕ) → externalized_values (when b (ArmNomination r)) ≡ []
 round-timer true r = refl
 round-timer false r = refl
 
-ballot-timer : (b : Bool) (n : ℕ) → values_in (when b (ArmBallot n)) ≡ []
+ballot-timer : (b : Bool) (n : ℕ) → externalized_values (when b (ArmBallot n)) ≡ []
 ballot-timer true n = refl
 ballot-timer false n = refl
 
-pub no-values-emitted : (n : Node) (old new : Option Statement) → values_in (emission_between n old new) ≡ []
+pub no-values-emitted : (n : Node) (old new : Option Statement) → externalized_values (emission_between n old new) ≡ []
 no-values-emitted n old None = refl
 no-values-emitted n old (Some s) = go (same_sent old (Some s))
   where
-    go : (b : Bool) → values_in (if b then [] else Emit (record { sender = n.name; slot = n.slot; slices = n.slices; body = s }) ∷ []) ≡ []
+    go : (b : Bool) → externalized_values (if b then [] else Emit (record { sender = n.name; slot = n.slot; slices = n.slices; body = s }) ∷ []) ≡ []
     go true = refl
     go false = refl
 
@@ -59,7 +59,7 @@ value true None = none-there
 value true (Some x) = one-there
 value false x = none-there
 
-after-sent : (a b c d e : List Out) → values_in a ≡ [] → values_in b ≡ [] → values_in c ≡ [] → values_in d ≡ [] → AtMostOne e → AtMostOne (a ++ b ++ c ++ d ++ e)
+after-sent : (a b c d e : List Out) → externalized_values a ≡ [] → externalized_values b ≡ [] → externalized_values c ≡ [] → externalized_values d ≡ [] → AtMostOne e → AtMostOne (a ++ b ++ c ++ d ++ e)
 after-sent a b c d e ha hb hc hd he =
     subst (λ (vs : List (List ℕ)). length vs ≤ 1)
     (sym (after-none (a ++ b ++ c ++ d) e (after-none (a ++ b ++ c) d (after-none (a ++ b) c (after-none a b ha ∙ hb) ∙ hc) ∙ hd))) he
@@ -104,8 +104,8 @@ by-event net (BallotTimerFires i u n) = by-act net i u (BallotTimer n)
 by-event net (Reslices i u q) = by-act net i u (Reslice q)
 
 -- of an entry in a run
-pub decided-once : (config : Config) (entries : List Entry) (k : ℕ) (x : Entry) → IsRun config entries → slice_get entries k ≡ Some x → length (values_in x.outs) ≤ 1
-decided-once config entries k x run at = subst (λ (os : List Out). length (values_in os) ≤ 1) (sym (run.outs k x at)) (by-event (state_of config (take k entries)) x.event)
+pub decided-once : (config : Config) (entries : List Entry) (k : ℕ) (x : Entry) → IsRun config entries → slice_get entries k ≡ Some x → length (externalized_values x.outs) ≤ 1
+decided-once config entries k x run at = subst (λ (os : List Out). length (externalized_values os) ≤ 1) (sym (run.outs k x at)) (by-event (state_of config (take k entries)) x.event)
 
 -- the first of one value at most is all of them
 pub first-is-all : (xs : List (List ℕ)) (o : Option (List ℕ)) → o ≡ slice_get xs 0 → length xs ≤ 1 → option_to_list o ≡ xs
@@ -120,11 +120,11 @@ by-place (Some at) [] few = none-there
 by-place (Some at) (x ∷ []) few = one-there
 by-place (Some at) (x ∷ y ∷ zs) few = absurd (omega (arith, few))
 
-few-each : (entries : List Entry) → ((k : ℕ) (x : Entry) → slice_get entries k ≡ Some x → length (values_in x.outs) ≤ 1) → length (decisions_by entries) ≤ length entries
+few-each : (entries : List Entry) → ((k : ℕ) (x : Entry) → slice_get entries k ≡ Some x → length (externalized_values x.outs) ≤ 1) → length (decisions_by entries) ≤ length entries
 few-each [] each = omega (arith)
 few-each (x ∷ xs) each =
     let rest = few-each xs (λ k y at. each (suc k) y at) in
-    let mine = by-place (slot_and_node_of x.event) (values_in x.outs) (each 0 x refl) in
+    let mine = by-place (slot_and_node_of x.event) (externalized_values x.outs) (each 0 x refl) in
     let both = length-append (decisions_in x) (decisions_by xs) in
     omega (arith, rest, mine, both)
 

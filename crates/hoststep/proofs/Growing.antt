@@ -18,18 +18,18 @@ use Rattle.protocol.specs.Networks.Reply.{Done}
 use Rattle.protocol.specs.Networks.Step.{Opens, Closes, Proposes, Delivers, Hears, NominationTimerFires, BallotTimerFires, Reslices}
 use Rattle.protocol.specs.Hosts.{Config, Entry, new_net}
 use Rattle.protocol.specs.Runs.{IsRun, net_after, outs_given, refusal_of, state_of}
-use Rattle.slot.specs.Filings.{AreFiledOuts, IsFiledOut, copies_of, outs_of}
+use Rattle.slot.specs.Filings.{AreFiledOuts, IsFiledOut, copies_of, whole_outs}
 use Rattle.slot.specs.declared.filed.FiledOut.{FiledOut}
 use Rattle.network.specs.Answers.{IsApplied}
 use Rattle.network.specs.declared.applied.Outcome.{Outcome}
-use Rattle.network.specs.Standing.{IsStep, Standing, StandsFor, machine_of}
+use Rattle.network.specs.Standing.{IsStep, FiledMachine, StandsFor, machine_of}
 use Rattle.hoststep.specs.declared.kept.StoredEntry.{StoredEntry}
 use Rattle.hoststep.specs.declared.outs_list.EntryOuts.{EntryOuts}
 use Rattle.hoststep.specs.Giving.{kept_outs, listed_at, with_outs}
 use Rattle.hoststep.specs.declared.kept.KeptEvent.{KeptEvent}
 use Rattle.hoststep.specs.declared.kept.KeptEvent.TheVariants as events
 use Rattle.hoststep.specs.Hosting.{NamesNodes}
-use Rattle.hoststep.specs.Keeping.{AreKept, AreListed, IsKeptEvent, IsReadable, entry_of, step_in}
+use Rattle.hoststep.specs.Keeping.{AreKept, AreOutsListed, IsKeptEvent, IsReadable, entry_of, step_in}
 use Rattle.hoststep.proofs.Listing.{AreEarlier, put-behind}
 use Rattle.hoststep.specs.Entering.{IsEnteredWith, outs_after}
 use Rattle.hoststep.specs.Logs.{IsJournal, Log, with_entry}
@@ -110,10 +110,10 @@ all-hosted net (Reslices i u q) h = passed (is_hosted net u) _ h
 
 -- ---- journals
 -- what an event does that is applied after these entries
-pub applied-next : (old new : Standing) (es : List Entry) (e : Step) (os : List Out) → IsJournal (machine_of old) es → IsStep (machine_of old) e os (machine_of new) → IsNext old.config es (record { event = e; outs = os })
+pub applied-next : (old new : FiledMachine) (es : List Entry) (e : Step) (os : List Out) → IsJournal (machine_of old) es → IsStep (machine_of old) e os (machine_of new) → IsNext old.config es (record { event = e; outs = os })
 applied-next old new es e os h step = step-done (state_of old.config es) e os (step (state_of old.config es) h.state).1
 
-pub journal-grows : (old new : Standing) (es : List Entry) (e : Step) (os : List Out) → IsJournal (machine_of old) es → IsStep (machine_of old) e os (machine_of new) → new.config ≡ old.config
+pub journal-grows : (old new : FiledMachine) (es : List Entry) (e : Step) (os : List Out) → IsJournal (machine_of old) es → IsStep (machine_of old) e os (machine_of new) → new.config ≡ old.config
     → IsJournal (machine_of new) (es ++ record { event = e; outs = os } ∷ [])
 journal-grows old new es e os h step same = record {
   run = subst (λ (c : Config). IsRun c grown) (sym same) (run-grows old.config es x h.run (applied-next old new es e os h step));
@@ -159,7 +159,7 @@ below_or_last k n l = elim (cases_Bool (nat_lt k n)) [
 ]
 
 -- what was given out by an entry more is listed by its number
-listed-more : (before : OutsLists) (xs : List StoredEntry) (x : StoredEntry) (outs : Vec FiledOut Global) → AreListed before xs → kept_outs x.outs ≡ outs.items → AreListed (with_outs (length xs) outs before) (xs ++ x ∷ [])
+listed-more : (before : OutsLists) (xs : List StoredEntry) (x : StoredEntry) (outs : Vec FiledOut Global) → AreOutsListed before xs → kept_outs x.outs ≡ outs.items → AreOutsListed (with_outs (length xs) outs before) (xs ++ x ∷ [])
 listed-more before xs x outs h gave =
     let put = put-behind before (length xs) outs h.ascending h.earlier in
     let longer : length (xs ++ x ∷ []) ≡ suc (length xs) = omega (arith, length_push xs x) in
@@ -183,24 +183,24 @@ kept-more nodes old new before xs x outs kept all event gave filed = (
 
 -- ---- an event that is entered
 -- the entries are a run that leads to the machine, and the hosted nodes, the archive and the lists have what they keep
-abbrev pub Stands : Standing → OutsLists → List StoredEntry → Type 0
+abbrev pub Stands : FiledMachine → OutsLists → List StoredEntry → Type 0
 Stands m lists xs = IsJournal (machine_of m) (map entry_of xs) × AreKept m.config.nodes m.archive lists xs
 
-abbrev pub log_of : Standing → List StoredEntry → Log
+abbrev pub log_of : FiledMachine → List StoredEntry → Log
 log_of m xs = record { config = m.config; entries = map entry_of xs }
 
-next-of : (old new : Standing) (lists : OutsLists) (xs : List StoredEntry) (e : Step) (count : ℕ) (a : Outcome) → Stands old lists xs → IsApplied old e count new a → IsNext old.config (map entry_of xs) (record { event = e; outs = outs_of a.outs.items })
-next-of old new lists xs e count a h d = applied-next old new (map entry_of xs) e (outs_of a.outs.items) h.0 d.step
+next-of : (old new : FiledMachine) (lists : OutsLists) (xs : List StoredEntry) (e : Step) (count : ℕ) (a : Outcome) → Stands old lists xs → IsApplied old e count new a → IsNext old.config (map entry_of xs) (record { event = e; outs = whole_outs a.outs.items })
+next-of old new lists xs e count a h d = applied-next old new (map entry_of xs) e (whole_outs a.outs.items) h.0 d.step
 
-pub is-readable : (old new : Standing) (lists : OutsLists) (xs : List StoredEntry) (e : Step) (count : ℕ) (a : Outcome) → Stands old lists xs → IsApplied old e count new a → IsReadable e
+pub is-readable : (old new : FiledMachine) (lists : OutsLists) (xs : List StoredEntry) (e : Step) (count : ℕ) (a : Outcome) → Stands old lists xs → IsApplied old e count new a → IsReadable e
 is-readable old new lists xs e count a h d = readable (state_of old.config (map entry_of xs)) e (next-of old new lists xs e count a h d).0
 
-pub names-nodes : (old new : Standing) (config : Config) (lists : OutsLists) (xs : List StoredEntry) (e : Step) (count : ℕ) (a : Outcome) → Stands old lists xs → IsApplied old e count new a → config ≡ new.config → new.config ≡ old.config → NamesNodes config.nodes e
+pub names-nodes : (old new : FiledMachine) (config : Config) (lists : OutsLists) (xs : List StoredEntry) (e : Step) (count : ℕ) (a : Outcome) → Stands old lists xs → IsApplied old e count new a → config ≡ new.config → new.config ≡ old.config → NamesNodes config.nodes e
 names-nodes old new config lists xs e count a h d is same =
     let net = state_of old.config (map entry_of xs) in
     subst (λ (k : Config). NamesNodes k.nodes e) (sym (is ∙ same)) (subst (λ (n : Net). NamesNodes n.nodes e) h.0.state.is (all-hosted net e (next-of old new lists xs e count a h d).0))
 
-pub entered-with : (l : Log) (old new : Standing) (lists : OutsLists) (xs : List StoredEntry) (e : Step) (count : ℕ) (a : Outcome) → log_of old xs ≡ l → Stands old lists xs → IsApplied old e count new a → IsEnteredWith l e count (record { marks = a.marks; copies = a.copies })
+pub entered-with : (l : Log) (old new : FiledMachine) (lists : OutsLists) (xs : List StoredEntry) (e : Step) (count : ℕ) (a : Outcome) → log_of old xs ≡ l → Stands old lists xs → IsApplied old e count new a → IsEnteredWith l e count (record { marks = a.marks; copies = a.copies })
 entered-with l old new lists xs e count a is h d =
     let next = next-of old new lists xs e count a h d in
     subst (λ (k : Log). IsEnteredWith k e count (record { marks = a.marks; copies = a.copies })) is
@@ -211,24 +211,24 @@ pub record IsEntryFor (e : Step) (outs : List FiledOut) (x : StoredEntry) : Type
   pub step : step_in x.event ≡ e
   pub gave : kept_outs x.outs ≡ outs
 
-more : (xs ys zs : List StoredEntry) (x : StoredEntry) (e : Step) (os : List FiledOut) → ys ≡ xs → zs ≡ ys ++ x ∷ [] → IsEntryFor e os x → map entry_of zs ≡ map entry_of xs ++ record { event = e; outs = outs_of os } ∷ []
+more : (xs ys zs : List StoredEntry) (x : StoredEntry) (e : Step) (os : List FiledOut) → ys ≡ xs → zs ≡ ys ++ x ∷ [] → IsEntryFor e os x → map entry_of zs ≡ map entry_of xs ++ record { event = e; outs = whole_outs os } ∷ []
 more xs ys zs x e os same is entry =
     ap (map entry_of) (is ∙ ap (λ (l : List StoredEntry). l ++ x ∷ []) same) ∙ map-append entry_of xs (x ∷ [])
-    ∙ ap (λ (s : Step). map entry_of xs ++ record { event = s; outs = outs_of (kept_outs x.outs) } ∷ []) entry.step
-    ∙ ap (λ (l : List FiledOut). map entry_of xs ++ record { event = e; outs = outs_of l } ∷ []) entry.gave
+    ∙ ap (λ (s : Step). map entry_of xs ++ record { event = s; outs = whole_outs (kept_outs x.outs) } ∷ []) entry.step
+    ∙ ap (λ (l : List FiledOut). map entry_of xs ++ record { event = e; outs = whole_outs l } ∷ []) entry.gave
 
-pub stands-more : (old new : Standing) (hosting : Config) (before middle after : OutsLists) (n : ℕ) (xs ys zs : List StoredEntry) (x : StoredEntry) (e : Step) (count : ℕ) (a : Outcome) → Stands old before xs → IsApplied old e count new a → hosting ≡ new.config → new.config ≡ old.config
+pub stands-more : (old new : FiledMachine) (hosting : Config) (before middle after : OutsLists) (n : ℕ) (xs ys zs : List StoredEntry) (x : StoredEntry) (e : Step) (count : ℕ) (a : Outcome) → Stands old before xs → IsApplied old e count new a → hosting ≡ new.config → new.config ≡ old.config
     → Keeps old.archive new.archive → middle ≡ before → n ≡ length ys → after ≡ with_outs n a.outs middle → ys ≡ xs → zs ≡ ys ++ x ∷ [] → IsEntryFor e a.outs.items x → IsKeptEvent hosting.nodes new.archive x.event → Stands new after zs
 stands-more old new hosting before middle after n xs ys zs x e count a h d there config kept stays counted put same is entry filed =
     let earlier : AreKept new.config.nodes old.archive before xs = subst (λ (k : Config). AreKept k.nodes old.archive before xs) (sym config) h.1 in
     let mine : IsKeptEvent new.config.nodes new.archive x.event = subst (λ (k : Config). IsKeptEvent k.nodes new.archive x.event) there filed in
     let outs : AreFiledOuts new.archive (kept_outs x.outs) = subst (λ (os : List FiledOut). AreFiledOuts new.archive os) (sym entry.gave) d.outs in
     let lists : after ≡ with_outs (length xs) a.outs before = put ∙ ap₂ (λ (i : ℕ) (l : OutsLists). with_outs i a.outs l) (counted ∙ ap length same) stays in (
-      subst (λ (es : List Entry). IsJournal (machine_of new) es) (sym (more xs ys zs x e a.outs.items same is entry)) (journal-grows old new (map entry_of xs) e (outs_of a.outs.items) h.0 d.step config),
+      subst (λ (es : List Entry). IsJournal (machine_of new) es) (sym (more xs ys zs x e a.outs.items same is entry)) (journal-grows old new (map entry_of xs) e (whole_outs a.outs.items) h.0 d.step config),
       subst (λ (l : OutsLists × List StoredEntry). AreKept new.config.nodes new.archive l.0 l.1) (λ i. (sym lists i, sym (is ∙ ap (λ (l : List StoredEntry). l ++ x ∷ []) same) i)) (kept-more new.config.nodes old.archive new.archive before xs x a.outs kept earlier mine entry.gave outs),
     )
 
-pub log-grows : (l : Log) (old new : Standing) (before : OutsLists) (xs ys zs : List StoredEntry) (x : StoredEntry) (e : Step) (count : ℕ) (a : Outcome) → log_of old xs ≡ l → Stands old before xs → IsApplied old e count new a → new.config ≡ old.config
+pub log-grows : (l : Log) (old new : FiledMachine) (before : OutsLists) (xs ys zs : List StoredEntry) (x : StoredEntry) (e : Step) (count : ℕ) (a : Outcome) → log_of old xs ≡ l → Stands old before xs → IsApplied old e count new a → new.config ≡ old.config
     → ys ≡ xs → zs ≡ ys ++ x ∷ [] → IsEntryFor e a.outs.items x → log_of new zs ≡ with_entry l e (outs_after l e)
 log-grows l old new before xs ys zs x e count a of h d config same is entry =
     let next = next-of old new before xs e count a h d in

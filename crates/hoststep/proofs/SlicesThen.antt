@@ -15,7 +15,7 @@ use Rattle.protocol.proofs.Networks.OpenSlots.{instances_at-drop_other, instance
 use Rattle.protocol.proofs.Networks.Journals.{runs_are_journals}
 use Rattle.protocol.proofs.Networks.SlicesOfRuns.{slices_follow_runs}
 use Rattle.closure.specs.Announcing.{slices_then}
-use Rattle.network.specs.Standing.{slices_at}
+use Rattle.network.specs.Standing.{slices_of_node}
 
 -- ---- open slots
 -- a slot is open where its number is among those of the open ones
@@ -101,7 +101,7 @@ closed-then config run i u q is closed =
 
 -- ---- as they are looked up
 -- those of the node at an open slot are its slices then
-pub open_then : (config : Config) (run : List Entry) (i u : ℕ) (now : Slices) → IsRun config run → Some now ≡ slices_at (state_of config run) i u → true ≡ (is_open (state_of config run) i && is_some (slices_of config.nodes u)) → Some now ≡ slices_then config.nodes i run u
+pub open_then : (config : Config) (run : List Entry) (i u : ℕ) (now : Slices) → IsRun config run → Some now ≡ slices_of_node (state_of config run) i u → true ≡ (is_open (state_of config run) i && is_some (slices_of config.nodes u)) → Some now ≡ slices_then config.nodes i run u
 open_then config run i u now is there hosted = go (slices_of config.nodes u) (node_where_open (instances_at (state_of config run).slots i) u) refl refl there hosted
   where
     go : (o : Option Slices) (p : Option Instance) → slices_of config.nodes u ≡ o → node_where_open (instances_at (state_of config run).slots i) u ≡ p → Some now ≡ option_map (λ x. x.node.slices) p → true ≡ (is_open (state_of config run) i && is_some o) → Some now ≡ option_map (λ q. slices_at_end i u q run) o

@@ -13,12 +13,12 @@ pub record ExternalizedValue : Type 0 where
   pub value : List ℕ
 
 -- the values that are externalized, of all that is given out
-abbrev pub values_in : List Out → List (List ℕ)
-values_in [] = []
-values_in (ArmNomination r ∷ os) = values_in os
-values_in (ArmBallot n ∷ os) = values_in os
-values_in (Emit e ∷ os) = values_in os
-values_in (Externalized x ∷ os) = x ∷ values_in os
+abbrev pub externalized_values : List Out → List (List ℕ)
+externalized_values [] = []
+externalized_values (ArmNomination r ∷ os) = externalized_values os
+externalized_values (ArmBallot n ∷ os) = externalized_values os
+externalized_values (Emit e ∷ os) = externalized_values os
+externalized_values (Externalized x ∷ os) = x ∷ externalized_values os
 
 -- these values are decided at this slot by this node
 abbrev pub decided_at : Option (ℕ × ℕ) → List (List ℕ) → List ExternalizedValue
@@ -27,7 +27,7 @@ decided_at (Some at) xs = map (λ x. record { slot = at.0; node = at.1; value = 
 
 -- all that an entry decided: each value that it gives out, at the slot and by the node of its event
 abbrev pub decisions_in : Entry → List ExternalizedValue
-decisions_in x = decided_at (slot_and_node_of x.event) (values_in x.outs)
+decisions_in x = decided_at (slot_and_node_of x.event) (externalized_values x.outs)
 
 -- nothing where there is no entry
 abbrev pub decisions_in_any : Option Entry → List ExternalizedValue

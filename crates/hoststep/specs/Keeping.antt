@@ -8,7 +8,7 @@ use Rattle.protocol.specs.Networks.{HostedNode, Step}
 use Rattle.protocol.specs.Networks.Reading.{Read, Fault}
 use Rattle.protocol.specs.Networks.Step.{Opens, Closes, Delivers, Hears, NominationTimerFires, BallotTimerFires}
 use Rattle.envstore.specs.Archives.{Archived, IsFiled, sent_of}
-use Rattle.slot.specs.Filings.{AreFiledOuts, outs_of}
+use Rattle.slot.specs.Filings.{AreFiledOuts, whole_outs}
 use Rattle.protocol.specs.Sets.{IsAscending}
 use Rattle.network.specs.Decoding.{step_of}
 use Rattle.hoststep.specs.Hosting.{IsNodePlace, node_name}
@@ -32,7 +32,7 @@ step_in (Large b) = step_of (box_value b)
 
 -- an entry that is kept, with whole envelopes and with names
 abbrev pub entry_of : StoredEntry → Entry
-entry_of x = record { event = step_in x.event; outs = outs_of (kept_outs x.outs) }
+entry_of x = record { event = step_in x.event; outs = whole_outs (kept_outs x.outs) }
 
 -- the bytes of a delivery are an envelope
 abbrev pub IsReadable : Step → Type 0
@@ -56,7 +56,7 @@ IsKeptEvent nodes archive (BallotTimer u n i) = IsNodePlace nodes u
 IsKeptEvent nodes archive (Large b) = is_large (box_value b) ≡ true
 
 -- what each entry gave out is listed by its number: the lists ascend, and are of these entries
-pub record AreListed (lists : List EntryOuts) (xs : List StoredEntry) : Type 0 where
+pub record AreOutsListed (lists : List EntryOuts) (xs : List StoredEntry) : Type 0 where
   pub ascending : IsAscending (map entry_number lists)
   pub earlier : All (λ x. x.entry < length xs) lists
   pub listed : (k : ℕ) (d : StoredEntry) → k < length xs → listed_at lists k ≡ kept_outs (get_or xs k d).outs
@@ -64,11 +64,11 @@ pub record AreListed (lists : List EntryOuts) (xs : List StoredEntry) : Type 0 w
 -- a journal is kept: each entry with its event; the archive has what was emitted, and what was given out is listed
 abbrev pub AreKept : List HostedNode → Archived → List EntryOuts → List StoredEntry → Type 0
 AreKept nodes archive lists xs =
-    All (λ x. IsKeptEvent nodes archive x.event × AreFiledOuts archive (kept_outs x.outs)) xs × AreListed lists xs
+    All (λ x. IsKeptEvent nodes archive x.event × AreFiledOuts archive (kept_outs x.outs)) xs × AreOutsListed lists xs
 
 -- an entry that is lent, in the words of the definitions
 abbrev pub lent_entry : LentEntry → Entry
-lent_entry x = record { event = step_in x.event.now; outs = outs_of x.outs.now }
+lent_entry x = record { event = step_in x.event.now; outs = whole_outs x.outs.now }
 
 -- the archive has the envelopes of an entry that is lent, and its nodes stand at their places
 abbrev pub IsLentEntry : List HostedNode → Archived → LentEntry → Type 0

@@ -25,5 +25,5 @@ outs_in None = []
 outs_in (Some x) = x.outs
 
 -- what the entry with this number gave out, from 0 on; nothing past the last
-abbrev pub outs_at : List Entry → ℕ → List Out
-outs_at entries n = outs_in (slice_get entries n)
+abbrev pub outs_of_entry : List Entry → ℕ → List Out
+outs_of_entry entries n = outs_in (slice_get entries n)

@@ -11,7 +11,7 @@ use Rattle.protocol.specs.Runs.{IsRun, outs_given, refusal_of, state_of}
 use Rattle.network.specs.Marks.{marks_in}
 use Rattle.hoststep.specs.declared.recorded.Recorded.{Recorded}
 use Rattle.network.specs.Decoding.{step_of}
-use Rattle.network.specs.Standing.{AreBytesRead, Machine, StandsFor}
+use Rattle.network.specs.Standing.{IsDeliveryThatTakesMemory, Machine, StandsFor}
 
 -- a journal: a configuration, and the entries, envelopes whole
 pub record Log : Type 0 where
@@ -34,7 +34,7 @@ IsEntered l e os = (refusal_of l.config l.entries e ≡ None) × (os ≡ outs_gi
 -- memory may be wanting for an event after these entries: nothing else refuses it, or bytes are being read that may take
 -- memory
 abbrev pub MayWantMemory : Config → List Entry → Step → Type 0
-MayWantMemory config entries e = (refusal_of config entries e ≡ None) ⊎ AreBytesRead config.nodes e
+MayWantMemory config entries e = (refusal_of config entries e ≡ None) ⊎ IsDeliveryThatTakesMemory config.nodes e
 
 -- the first refusal that applies after these entries; or memory is wanting where it may be
 abbrev pub IsRefused : Log → Step → Refusal → Type 0

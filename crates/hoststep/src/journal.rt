@@ -4,10 +4,10 @@ ghost use Rattle.std.specs.Prelude.{◌≡◌, ◌&&◌, ◌++◌, [], IfErr, If
 ghost use Rattle.protocol.specs.Networks.{is_open, slices_of};
 ghost use Rattle.protocol.specs.Runs.{IsRun, state_of};
 ghost use Rattle.network.specs.Decoding.{step_of};
-ghost use Rattle.network.specs.Standing.{slices_at};
+ghost use Rattle.network.specs.Standing.{slices_of_node};
 ghost use Rattle.hoststep.specs.Logs.{IsEntered, IsEntryAt, IsRecorded, IsRefused, with_entry};
 ghost use Rattle.hoststep.specs.Entering.{IsEnteredWith, outs_after};
-ghost use Rattle.hoststep.specs.Lending.{lent_step, outs_at};
+ghost use Rattle.hoststep.specs.Lending.{lent_step, outs_of_entry};
 ghost use Rattle.hoststep.specs.Deciding.{decided_by, decisions_at};
 
 use crate::entered::{Entered, only_copy};
@@ -104,7 +104,7 @@ impl<S: Shelf> Journal<S> {
     /// The slices of a hosted node at an open slot, as they are after all entries; `None` if the slot is not open then
     /// or the node is not hosted. It takes no memory.
     pub(crate) fn slices_now(&self, slot: u64, node: &NodeId) -> Option<&Nested>
-        ensures value { option_map (λ q. q.now) result ≡ slices_at (state_of self.now.config self.now.entries) slot node.now }
+        ensures value { option_map (λ q. q.now) result ≡ slices_of_node (state_of self.now.config self.now.entries) slot node.now }
         ensures there { is_some result ≡ (is_open (state_of self.now.config self.now.entries) slot && is_some (slices_of self.now.config.nodes node.now)) }
     {
         self.network.slices(slot, node)
@@ -253,7 +253,7 @@ impl<S: Shelf> Journal<S> {
         number: usize,
         outs: &mut Vec<Out>,
     ) -> Result<(), AllocError>
-        ensures ok { OnOk result (outs.new.items ≡ outs.old.items ++ outs_at self.now.entries number) }
+        ensures ok { OnOk result (outs.new.items ≡ outs.old.items ++ outs_of_entry self.now.entries number) }
         ensures err { OnErr result (take (length outs.old.items) outs.new.items ≡ outs.old.items) }
     {
         match entry_at(&self.network, &self.given, &self.entries, number) {

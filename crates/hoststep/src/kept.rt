@@ -8,7 +8,7 @@ ghost use Rattle.envstore.specs.Archives.{Archived, IsFiled, sent_of};
 ghost use Rattle.protocol.specs.Networks.{HostedNode};
 ghost use Rattle.protocol.specs.Networks.Reading.{Read};
 ghost use Rattle.protocol.specs.Networks.Step.{Delivers};
-ghost use Rattle.slot.specs.Filings.{AreFiledOuts, IsFiledOut, out_of, outs_of};
+ghost use Rattle.slot.specs.Filings.{AreFiledOuts, IsFiledOut, out_of, whole_outs};
 ghost use Rattle.network.specs.Answers.{delivered_of};
 ghost use Rattle.network.specs.Decoding.{reading, step_of};
 ghost use Rattle.hoststep.specs.Hosting.{IsNodePlace, NamesNodes, node_name};
@@ -274,7 +274,7 @@ pub(crate) fn push_whole_outs<S: Shelf>(
     whole: &mut Vec<Out>,
 ) -> Result<(), AllocError>
     requires { AreFiledOuts network.now.archive outs.now }
-    ensures ok { OnOk result (whole.new.items ≡ whole.old.items ++ outs_of outs.now) }
+    ensures ok { OnOk result (whole.new.items ≡ whole.old.items ++ whole_outs outs.now) }
     ensures err { OnErr result (take (length whole.old.items) whole.new.items ≡ whole.old.items) }
 {
     for out in outs {

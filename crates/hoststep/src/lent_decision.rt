@@ -3,8 +3,8 @@
 ghost use Rattle.std.specs.Prelude.{◌≡◌, ◌≤◌, length, option_map, option_to_list, slice_get, true};
 ghost use Rattle.network.specs.Decoding.{step_of};
 ghost use Rattle.network.specs.Marks.{slot_and_node_of};
-ghost use Rattle.slot.specs.Filings.{outs_of};
-ghost use Rattle.hoststep.specs.Deciding.{decided_at, decided_by, values_in};
+ghost use Rattle.slot.specs.Filings.{whole_outs};
+ghost use Rattle.hoststep.specs.Deciding.{decided_at, decided_by, externalized_values};
 ghost use Rattle.hoststep.specs.Boxing.{is_large};
 ghost use Rattle.hoststep.specs.Keeping.{IsKeptEvent, step_in};
 
@@ -29,8 +29,8 @@ pub(crate) fn lent_decision<'a, S: Shelf>(
     outs: &'a [FiledOut],
 ) -> Option<LentDecision<'a>>
     requires filed { IsKeptEvent network.now.config.nodes network.now.archive event.now }
-    requires once { length (values_in (outs_of outs.now)) ≤ 1 }
-    ensures { option_to_list (option_map decided_by result) ≡ decided_at (slot_and_node_of (step_in event.now)) (values_in (outs_of outs.now)) }
+    requires once { length (externalized_values (whole_outs outs.now)) ≤ 1 }
+    ensures { option_to_list (option_map decided_by result) ≡ decided_at (slot_and_node_of (step_in event.now)) (externalized_values (whole_outs outs.now)) }
 {
     decision_at(slot_and_node_of(network, event), first_value(outs))
 }
@@ -48,7 +48,7 @@ fn decision_at(place: Option<(u64, NodeId)>, value: Option<&Value>) -> Option<Le
 }
 
 fn first_value(outs: &[FiledOut]) -> Option<&Value>
-    ensures { option_map (λ v. v.now) result ≡ slice_get (values_in (outs_of outs.now)) 0 }
+    ensures { option_map (λ v. v.now) result ≡ slice_get (externalized_values (whole_outs outs.now)) 0 }
 {
     match outs {
         [] => None,

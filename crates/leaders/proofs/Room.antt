@@ -6,7 +6,7 @@ use native.Mathlib.Numerals.{unary_clauses}
 use Rattle.types.specs.Trees.{most_members, most_levels}
 use Rattle.protocol.specs.Weights.{Fraction}
 use Rattle.slices.specs.Weighing.{part_of, whole}
-use Rattle.leaders.specs.Walk.{HasRoom}
+use Rattle.leaders.specs.Walk.{HasRoomForLevels}
 
 -- one factor more takes the place of one level
 next_level : (k a levels room : ℕ) → k ≤ most_members → a * most_members ^ suc levels ≤ room → (k * a) * most_members ^ levels ≤ room
@@ -22,7 +22,7 @@ fewer_levels a below levels room h k =
     omega arith
 
 -- a part of it has room for the levels of an inner set
-pub has_room : (k n levels below : ℕ) (f : Fraction) → k ≤ most_members → n ≤ most_members → below < levels → HasRoom f levels → HasRoom (part_of k n f) below
+pub has_room : (k n levels below : ℕ) (f : Fraction) → k ≤ most_members → n ≤ most_members → below < levels → HasRoomForLevels f levels → HasRoomForLevels (part_of k n f) below
 has_room k n levels below f few many h r = record {
   numerator = next_level k f.numerator below (most_members ^ most_levels) few (fewer_levels f.numerator (suc below) levels (most_members ^ most_levels) h r.numerator);
   denominator = next_level n f.denominator below (most_members ^ most_levels) many (fewer_levels f.denominator (suc below) levels (most_members ^ most_levels) h r.denominator);
@@ -35,14 +35,14 @@ few a levels room h =
     omega arith
 
 -- and both numbers are small
-pub is_small : (f : Fraction) (levels : ℕ) → HasRoom f levels → (f.numerator ≤ 2 ^ 56) × (f.denominator ≤ 2 ^ 56)
+pub is_small : (f : Fraction) (levels : ℕ) → HasRoomForLevels f levels → (f.numerator ≤ 2 ^ 56) × (f.denominator ≤ 2 ^ 56)
 is_small f levels r =
     let upper : f.numerator ≤ most_members ^ most_levels = few f.numerator levels (most_members ^ most_levels) r.numerator in
     let lower : f.denominator ≤ most_members ^ most_levels = few f.denominator levels (most_members ^ most_levels) r.denominator in
     (omega arith, omega arith)
 
 -- the whole has room for all levels
-pub whole_has_room : (levels : ℕ) → levels ≤ most_levels → HasRoom whole levels
+pub whole_has_room : (levels : ℕ) → levels ≤ most_levels → HasRoomForLevels whole levels
 whole_has_room levels h =
     let less : most_members ^ levels ≤ most_members ^ most_levels = pow-le-pow_right (omega arith) h in
     record { numerator = omega arith; denominator = omega arith }

@@ -21,6 +21,6 @@ abbrev pub is_drawn : (slot round : ℕ) → ℕ → Fraction → Bool
 is_drawn slot round u f = is_near (Some f) (hash slot 1 round u)
 
 -- a weight can be multiplied once for each level that is left
-pub record HasRoom (f : Fraction) (levels : ℕ) : Type 0 where
+pub record HasRoomForLevels (f : Fraction) (levels : ℕ) : Type 0 where
   pub numerator : f.numerator * most_members ^ levels ≤ most_members ^ most_levels
   pub denominator : f.denominator * most_members ^ levels ≤ most_members ^ most_levels

@@ -7,7 +7,7 @@ ghost use Rattle.protocol.specs.Leaders.{hash, beats, leader};
 ghost use Rattle.protocol.specs.Satisfaction.{names};
 ghost use Rattle.protocol.specs.Sets.{also, among};
 ghost use Rattle.leaders.specs.Leaders.{IsLeader};
-ghost use Rattle.leaders.specs.Walk.{best_among, is_drawn, HasRoom};
+ghost use Rattle.leaders.specs.Walk.{best_among, is_drawn, HasRoomForLevels};
 
 use crate::candidate::Candidate;
 use crate::draw::Draw;
@@ -37,7 +37,7 @@ pub fn leader(slot: u64, round: u32, node: &NodeId, slices: &Nested) -> NodeId
 fn best_in(draw: Draw, set: &SliceSet, outer: Weight, own: Candidate) -> Candidate
     requires threshold { HasThreshold set.now.threshold set.now.members }
     requires inner_sets { HaveThresholds set.now.members }
-    requires room { HasRoom outer (depth_of set.now.members) }
+    requires room { HasRoomForLevels outer (depth_of set.now.members) }
     requires priority { own.priority ≡ hash draw.slot 2 draw.round own.node }
     ensures node { result.node ≡ best_among (is_drawn draw.slot draw.round) (beats draw.slot draw.round) (part_of set.now.threshold (member_count set.now.members) outer) set.now.members own.node }
     ensures priority { result.priority ≡ hash draw.slot 2 draw.round result.node }

@@ -17,8 +17,8 @@ use Rattle.configuration.specs.Configs.{names_of}
 use Rattle.network.specs.declared.plan.Emission.{Emission}
 use Rattle.network.specs.Decoding.{step_of}
 use Rattle.network.specs.Marks.{slot_and_node_of}
-use Rattle.network.specs.Standing.{IsRefusal, AreBytesRead, Machine, StandsFor}
-use Rattle.live.specs.Serving.{AreHeard, Hearing, IsServed, IsTried, Telling, all_hearings, emitted_by, hearings_of, is_stale, named, slot_at, step_of_hearing, told_at, told_of, waits_after}
+use Rattle.network.specs.Standing.{IsRefusal, IsDeliveryThatTakesMemory, Machine, StandsFor}
+use Rattle.live.specs.Serving.{AreHeard, Hearing, IsServed, IsTried, ToldReply, all_hearings, emissions_by, hearings_of, is_stale, named, slot_at, step_of_hearing, told_at, told_of, waits_after}
 use Rattle.live.specs.Serving.AreHeard.{all_heard, one_heard}
 use Rattle.live.specs.Serving.Ending.{IsDone}
 use Rattle.live.specs.Serving.IsServed.{done, refused}
@@ -33,7 +33,7 @@ use Rattle.live.specs.declared.stepping.Given.{Given}
 pub leads-nowhere : (i : ℕ) (m : Machine) → LeadsTo i [] m [] [] m
 leads-nowhere i m = λ net stands. (net, stands, λ hs rest after heard. subst (λ l. AreHeard i l net rest after) (append-nil hs) heard)
 
-pub leads-both : (i : ℕ) (front behind : List Hearing) (old now new : Machine) (more later : List Hearing) (told next : List Telling) → LeadsTo i front old more told now
+pub leads-both : (i : ℕ) (front behind : List Hearing) (old now new : Machine) (more later : List Hearing) (told next : List ToldReply) → LeadsTo i front old more told now
     → LeadsTo i behind now later next new → LeadsTo i (front ++ behind) old (more ++ later) (told ++ next) new
 leads-both i front behind old now new more later told next one other = λ net stands.
     let first = one net stands in
@@ -55,7 +55,7 @@ unfolding net_step
 tried-refused m net e r stands h =
     ⊎_elim
     (λ (short : _). subst (λ x. IsTried net e (Refused x) net) (sym short.0)
-    (wanting (⊎_elim (λ free. inl (free net stands)) (λ bytes. inr (subst (λ (n : Net). AreBytesRead n.nodes e) (sym stands.is) bytes)) short.1)))
+    (wanting (⊎_elim (λ free. inl (free net stands)) (λ bytes. inr (subst (λ (n : Net). IsDeliveryThatTakesMemory n.nodes e) (sym stands.is) bytes)) short.1)))
     (λ is. go (first_that (tests net e)) refl (is net stands))
     h
   where
@@ -68,13 +68,13 @@ pub tried-done : (net : Net) (e : Step) (os : List Out) → (net_step net e).1 �
 tried-done net e os is = subst (λ a. IsTried net e a (net_step net e).0) is stepped
 
 -- what waits after a step of a network that the machine stands for, by the names of its nodes
-waits-by : (m : Machine) (net : Net) (e : Step) (r : Reply) (es : List Emission) → StandsFor m net → emitted_by net e r ≡ es → waits_after net e r ≡ all_hearings (names_of m.config.nodes) es
+waits-by : (m : Machine) (net : Net) (e : Step) (r : Reply) (es : List Emission) → StandsFor m net → emissions_by net e r ≡ es → waits_after net e r ≡ all_hearings (names_of m.config.nodes) es
 waits-by m net e r es stands is =
-    subst₂ (λ (ns : List HostedNode) (xs : List Emission). all_hearings (names_of net.nodes) (emitted_by net e r) ≡ all_hearings (names_of ns) xs) (ap (λ (n : Net). n.nodes) stands.is) is refl
+    subst₂ (λ (ns : List HostedNode) (xs : List Emission). all_hearings (names_of net.nodes) (emissions_by net e r) ≡ all_hearings (names_of ns) xs) (ap (λ (n : Net). n.nodes) stands.is) is refl
 
 -- one hearing that was tried leads to what it makes wait
 leads-one : (i : ℕ) (h : Hearing) (old new : Machine) (r : Reply) (es : List Emission)
-    → ((net : Net) → StandsFor old net → (now : Net) × StandsFor new now × IsTried net (step_of_hearing i h) r now × (emitted_by net (step_of_hearing i h) r ≡ es))
+    → ((net : Net) → StandsFor old net → (now : Net) × StandsFor new now × IsTried net (step_of_hearing i h) r now × (emissions_by net (step_of_hearing i h) r ≡ es))
     → LeadsTo i (h ∷ []) old (all_hearings (names_of old.config.nodes) es) (told_of h.node r) new
 leads-one i h old new r es tried = λ net stands.
     let t = tried net stands in (
@@ -94,7 +94,7 @@ pub data IsAnswer (old : Machine) (e : Step) : Result Given Refusal → Machine 
   err : (r : Refusal) → IsRefusal old e r → IsAnswer old e (Err r) old
 
 tried-by : (old new : Machine) (e : Step) (a : Result Given Refusal) → IsAnswer old e a new → (net : Net) → StandsFor old net
-    → (now : Net) × StandsFor new now × IsTried net e (outcome_of a) now × (emitted_by net e (outcome_of a) ≡ emissions_of a)
+    → (now : Net) × StandsFor new now × IsTried net e (outcome_of a) now × (emissions_by net e (outcome_of a) ≡ emissions_of a)
 tried-by old new e a (ok g h) net stands =
     let s = h.step net stands in
     ((net_step net e).0, s.0, tried-done net e g.outs.items s.1, ap (λ ks. named (emissions g.outs.items) ks) (sym (h.marks net stands)))
@@ -161,15 +161,15 @@ hearings-more us k u e is =
 
 -- ---- all that wait
 -- from the start on, what waits and these hearings in front of it come to this
-abbrev pub ComesTo : ℕ → List ℕ → List Emission → Machine → List Emission → List Telling → Machine → Type 0
+abbrev pub ComesTo : ℕ → List ℕ → List Emission → Machine → List Emission → List ToldReply → Machine → Type 0
 ComesTo i us es old left told now =
     (net : Net) → StandsFor old net → (after : Net) × StandsFor now after
-    × ((rest : List Telling) (end : Net) → AreHeard i (all_hearings us left) after rest end → AreHeard i (all_hearings us es) net (told ++ rest) end)
+    × ((rest : List ToldReply) (end : Net) → AreHeard i (all_hearings us left) after rest end → AreHeard i (all_hearings us es) net (told ++ rest) end)
 
 pub comes-first : (i : ℕ) (us : List ℕ) (es : List Emission) (m : Machine) → ComesTo i us es m es [] m
 comes-first i us es m = λ net stands. (net, stands, λ rest end heard. heard)
 
-pub comes-next : (i : ℕ) (us : List ℕ) (es : List Emission) (old now new : Machine) (e : Emission) (left more : List Emission) (told next : List Telling) → ComesTo i us es old (e ∷ left) told now
+pub comes-next : (i : ℕ) (us : List ℕ) (es : List Emission) (old now new : Machine) (e : Emission) (left more : List Emission) (told next : List ToldReply) → ComesTo i us es old (e ∷ left) told now
     → LeadsTo i (hearings_of us e) now (all_hearings us more) next new → ComesTo i us es old (left ++ more) (told ++ next) new
 comes-next i us es old now new e left more told next before one = λ net stands.
     let b = before net stands in
@@ -183,7 +183,7 @@ comes-next i us es old now new e left more told next before one = λ net stands.
           (subst (λ l. AreHeard i l o.0 rest end) (flat_map-append (hearings_of us) left more) heard))),
     )
 
-pub comes-to-all : (i : ℕ) (us : List ℕ) (es : List Emission) (old now : Machine) (told : List Telling) → ComesTo i us es old [] told now → HaveHeard i (all_hearings us es) old told now
+pub comes-to-all : (i : ℕ) (us : List ℕ) (es : List Emission) (old now : Machine) (told : List ToldReply) → ComesTo i us es old [] told now → HaveHeard i (all_hearings us es) old told now
 comes-to-all i us es old now told all = λ net stands.
     let a = all net stands in
     (a.0, subst (λ t. AreHeard i (all_hearings us es) net t a.0) (append-nil told) (a.2 [] a.0 all_heard), a.1)
@@ -243,7 +243,7 @@ served-alone old new e g s h alone is stale zero none = record {
     placeless : slot_and_node_of e ≡ None
     placeless = sym h.place ∙ alone
 
-pub served-and-heard : (old now new : Machine) (e : Step) (g : Given) (i u : ℕ) (first all : List Telling) (rest : List Telling) (s : Served) → IsStepped old e g now → g.place ≡ Some (i, u) → now.config ≡ old.config
+pub served-and-heard : (old now new : Machine) (e : Step) (g : Given) (i u : ℕ) (first all : List ToldReply) (rest : List ToldReply) (s : Served) → IsStepped old e g now → g.place ≡ Some (i, u) → now.config ≡ old.config
     → HaveHeard i (all_hearings (names_of now.config.nodes) (named (emissions g.outs.items) g.marks.items)) now rest new → first ≡ told_of u (Done g.outs.items) → all ≡ first ++ rest → s.refused ≡ None → s.stale ≡ g.stale → s.slot ≡ i → tellings_of s.told.items ≡ all → IsServedBy old e new s
 served-and-heard old now new e g i u first all rest s h at config heard told both is stale slot is-told = record {
   slot = subst (λ o. IsToldAt o s.slot e) (sym is) (slot ∙ sym (ap slot_at place));

@@ -15,7 +15,7 @@ use Rattle.protocol.specs.Nodes.{Node, change}
 use Rattle.configuration.specs.Configs.{names_of}
 use Rattle.network.specs.declared.plan.Emission.{Emission}
 use Rattle.network.specs.Marks.{marks_in, slot_and_node_of}
-use Rattle.network.specs.Standing.{AreBytesRead, node_at}
+use Rattle.network.specs.Standing.{IsDeliveryThatTakesMemory, node_at}
 
 -- ---- who hears what
 
@@ -43,29 +43,29 @@ abbrev pub all_hearings : List ℕ → List Emission → List Hearing
 all_hearings us es = flat_map (hearings_of us) es
 
 -- the emissions of a step that was answered
-abbrev pub emitted_by : Net → Step → Reply → List Emission
-emitted_by net e (Done os) = named (emissions os) (marks_in net e)
-emitted_by net e (Refused r) = []
+abbrev pub emissions_by : Net → Step → Reply → List Emission
+emissions_by net e (Done os) = named (emissions os) (marks_in net e)
+emissions_by net e (Refused r) = []
 
 -- who is to hear them: every other hosted node
 abbrev pub waits_after : Net → Step → Reply → List Hearing
-waits_after net e r = all_hearings (names_of net.nodes) (emitted_by net e r)
+waits_after net e r = all_hearings (names_of net.nodes) (emissions_by net e r)
 
 -- ---- what is told
 
 -- whose step it was, and what it gave out, or why it was refused
-pub record Telling : Type 0 where
+pub record ToldReply : Type 0 where
   pub node : ℕ
   pub reply : Reply
 
 -- what is told of a node's step: what it gave out, or why it was refused; nothing where it gave nothing out
-abbrev pub told_of : ℕ → Reply → List Telling
+abbrev pub told_of : ℕ → Reply → List ToldReply
 told_of u (Done []) = []
 told_of u (Done (o ∷ os)) = record { node = u; reply = Done (o ∷ os) } ∷ []
 told_of u (Refused r) = record { node = u; reply = Refused r } ∷ []
 
 -- what the node of an event gave out; openings and closings have no node, and give nothing out
-abbrev pub told_at : Option (ℕ × ℕ) → List Out → List Telling
+abbrev pub told_at : Option (ℕ × ℕ) → List Out → List ToldReply
 told_at None os = []
 told_at (Some at) os = told_of at.1 (Done os)
 
@@ -75,13 +75,13 @@ told_at (Some at) os = told_of at.1 (Done os)
 -- changes
 pub data IsTried (old : Net) (e : Step) : Reply → Net → Type 0 where
   stepped : IsTried old e (net_step old e).1 (net_step old e).0
-  wanting : (first_that (tests old e) ≡ None) ⊎ AreBytesRead old.nodes e → IsTried old e (Refused NoMemory) old
+  wanting : (first_that (tests old e) ≡ None) ⊎ IsDeliveryThatTakesMemory old.nodes e → IsTried old e (Refused NoMemory) old
 
 -- what waits at a slot is heard, one hearing after the other; what it makes wait joins the end, and a hearing that is
 -- refused is told and not tried again. These are told.
-pub data AreHeard (i : ℕ) : List Hearing → Net → List Telling → Net → Type 0 where
+pub data AreHeard (i : ℕ) : List Hearing → Net → List ToldReply → Net → Type 0 where
   all_heard : {net : Net} → AreHeard i [] net [] net
-  one_heard : {h : Hearing} {hs : List Hearing} {old now new : Net} {told : List Telling} (r : Reply)
+  one_heard : {h : Hearing} {hs : List Hearing} {old now new : Net} {told : List ToldReply} (r : Reply)
       → IsTried old (step_of_hearing i h) r now
       → AreHeard i (hs ++ waits_after old (step_of_hearing i h) r) now told new
       → AreHeard i (h ∷ hs) old (told_of h.node r ++ told) new
@@ -114,8 +114,8 @@ pub data Ending : Type 0 where
   IsDone : Bool → Ending
 
 -- an event is served: it is refused, and that is all; or it is done, told, and then heard of
-pub data IsServed (old : Net) (e : Step) : Ending → List Telling → Net → Type 0 where
+pub data IsServed (old : Net) (e : Step) : Ending → List ToldReply → Net → Type 0 where
   refused : (r : Refusal) → IsTried old e (Refused r) old → IsServed old e (IsRefused r) [] old
-  done : {now new : Net} {told : List Telling} (os : List Out) → IsTried old e (Done os) now
+  done : {now new : Net} {told : List ToldReply} (os : List Out) → IsTried old e (Done os) now
       → AreHeard (slot_at (slot_and_node_of e)) (waits_after old e (Done os)) now told new
       → IsServed old e (IsDone (is_stale old e)) (told_at (slot_and_node_of e) os ++ told) new

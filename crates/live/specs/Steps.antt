@@ -3,7 +3,7 @@ use Rattle.std.specs.Prelude.{◌≡◌, ◌++◌, ℕ, List}
 use Rattle.protocol.specs.Networks.{Net, Step}
 use Rattle.network.specs.Marks.{marks_in, slot_and_node_of}
 use Rattle.network.specs.Standing.{IsStep, Machine, StandsFor}
-use Rattle.live.specs.Serving.{AreHeard, Hearing, Telling, is_stale}
+use Rattle.live.specs.Serving.{AreHeard, Hearing, ToldReply, is_stale}
 use Rattle.live.specs.declared.stepping.Given.{Given}
 
 -- an event at a served network: the network's step, its marks, whose it was, and whether it is stale
@@ -14,8 +14,8 @@ pub record IsStepped (old : Machine) (e : Step) (g : Given) (new : Machine) : Ty
   pub stale : (net : Net) → StandsFor old net → g.stale ≡ is_stale net e
 
 -- These hearings, in front of whatever waits, come to this: they are told so, and what they make wait joins the end.
-abbrev pub LeadsTo : ℕ → List Hearing → Machine → List Hearing → List Telling → Machine → Type 0
+abbrev pub LeadsTo : ℕ → List Hearing → Machine → List Hearing → List ToldReply → Machine → Type 0
 LeadsTo i front old more told new =
     (net : Net) → StandsFor old net → (now : Net) × StandsFor new now
-    × ((hs : List Hearing) (rest : List Telling) (after : Net) → AreHeard i (hs ++ more) now rest after
+    × ((hs : List Hearing) (rest : List ToldReply) (after : Net) → AreHeard i (hs ++ more) now rest after
     → AreHeard i (front ++ hs) net (told ++ rest) after)

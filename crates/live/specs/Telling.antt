@@ -8,7 +8,7 @@ use Rattle.protocol.specs.Networks.Reply.{Done, Refused}
 use Rattle.network.specs.declared.plan.Emission.{Emission}
 use Rattle.network.specs.Marks.{slot_and_node_of}
 use Rattle.network.specs.Standing.{Machine, StandsFor}
-use Rattle.live.specs.Serving.{AreHeard, Ending, Hearing, IsServed, Telling, all_hearings, named, slot_at}
+use Rattle.live.specs.Serving.{AreHeard, Ending, Hearing, IsServed, ToldReply, all_hearings, named, slot_at}
 use Rattle.live.specs.Serving.Ending.{IsDone, IsRefused}
 use Rattle.live.specs.Steps.{LeadsTo}
 use Rattle.live.specs.declared.hearing.Following.{Following}
@@ -27,16 +27,16 @@ emissions_of (Ok g) = named (emissions g.outs.items) g.marks.items
 emissions_of (Err r) = []
 
 -- the answer of a step that is told, as a reply of the definitions
-abbrev pub reply_of : Result (Vec Out Global) Refusal → Reply
-reply_of (Ok v) = Done v.items
-reply_of (Err r) = Refused r
+abbrev pub reply_of_step : Result (Vec Out Global) Refusal → Reply
+reply_of_step (Ok v) = Done v.items
+reply_of_step (Err r) = Refused r
 
 -- what is told of one step, in the words of the definitions
-abbrev pub telling_of : Told → Telling
-telling_of t = record { node = t.node; reply = reply_of t.answer }
+abbrev pub telling_of : Told → ToldReply
+telling_of t = record { node = t.node; reply = reply_of_step t.answer }
 
 -- what is told of several steps, in the words of the definitions
-abbrev pub tellings_of : List Told → List Telling
+abbrev pub tellings_of : List Told → List ToldReply
 tellings_of ts = map telling_of ts
 
 abbrev pub ending_by : Option Refusal → Bool → Ending
@@ -51,13 +51,13 @@ ending_of s = ending_by s.refused s.stale
 -- that is told.
 abbrev pub IsHeardByAll : ℕ → List ℕ → List Hearing → Machine → Following → Following → Machine → Type 0
 IsHeardByAll i us front old before after new =
-    (more : List Emission) × (told : List Telling) × (after.emissions.items ≡ before.emissions.items ++ more)
+    (more : List Emission) × (told : List ToldReply) × (after.emissions.items ≡ before.emissions.items ++ more)
     × (tellings_of after.told.items ≡ tellings_of before.told.items ++ told)
     × LeadsTo i front old (all_hearings us more) told new
 
 -- what waits at the slot is heard and told, for each network that the machine stands for, and what becomes of that is
 -- kept
-abbrev pub HaveHeard : ℕ → List Hearing → Machine → List Telling → Machine → Type 0
+abbrev pub HaveHeard : ℕ → List Hearing → Machine → List ToldReply → Machine → Type 0
 HaveHeard i hs old told new =
     (net : Net) → StandsFor old net → (after : Net) × AreHeard i hs net told after × StandsFor new after
 

@@ -5,7 +5,7 @@ ghost use Rattle.types.specs.declared.event.Event.TheVariants.{Hear};
 ghost use Rattle.configuration.specs.Configs.{names_of};
 ghost use Rattle.network.specs.Standing.{machine_of};
 ghost use Rattle.protocol.specs.Networks.{emissions};
-ghost use Rattle.live.specs.Serving.{Telling, all_hearings, hearings_of, named, told_of};
+ghost use Rattle.live.specs.Serving.{ToldReply, all_hearings, hearings_of, named, told_of};
 ghost use Rattle.live.specs.Telling.{HaveHeard, IsHeardByAll, emissions_of, outcome_of, tellings_of};
 
 use crate::stepping::{Given, step};
@@ -112,7 +112,7 @@ pub(crate) fn hear_all<S: Shelf>(
     following: &mut Following,
 ) -> Result<(), AllocError>
     requires { names.now ≡ names_of network.old.config.nodes }
-    ensures heard { OnOk result ((told : List Telling) × (tellings_of following.new.told.items ≡ tellings_of following.old.told.items ++ told) × HaveHeard slot (all_hearings names.now following.old.emissions.items) (machine_of network.old) told (machine_of network.new)) }
+    ensures heard { OnOk result ((told : List ToldReply) × (tellings_of following.new.told.items ≡ tellings_of following.old.told.items ++ told) × HaveHeard slot (all_hearings names.now following.old.emissions.items) (machine_of network.old) told (machine_of network.new)) }
     ensures config { network.new.config ≡ network.old.config }
 {
     let mut at = 0;

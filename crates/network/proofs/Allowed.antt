@@ -5,8 +5,8 @@ use Rattle.types.specs.declared.event.Refusal.TheVariants.{NoSuchNode, SlotNotOp
 use Rattle.protocol.specs.Networks.{HostedNode, Net, Slot, is_hosted, hosted_test, is_open, open_test, first_that}
 use Rattle.configuration.specs.Configs.{index_in, index_of_name, names_of}
 use Rattle.network.specs.Deeds.{IsSlotThere, index_of_slot}
-use Rattle.network.specs.Lodgings.{slot_of}
-use Rattle.network.specs.Standing.{Standing, StandsFor, machine_of}
+use Rattle.network.specs.FiledSlots.{slot_of}
+use Rattle.network.specs.Standing.{FiledMachine, StandsFor, machine_of}
 use Rattle.network.proofs.Indexes.{at-index, at-none, index-within, mapped-length}
 use Rattle.network.proofs.Plans.{instances_at-is, slices_of-is}
 
@@ -43,23 +43,23 @@ pub opened_not : (net : Net) (i : ℕ) → index_of_slot net.slots i ≡ None �
 opened_not net i q = ap is_some (instances_at-is net.slots i ∙ at-none (λ (x : Slot). x.number) (λ (x : Slot). x.instances) net.slots i q)
 
 -- ---- the networks for which a machine stands
-pub node_place-in : (m : Standing) (net : Net) (u : ℕ) → StandsFor (machine_of m) net → index_in (names_of net.nodes) u ≡ index_of_name m.config.nodes u
+pub node_place-in : (m : FiledMachine) (net : Net) (u : ℕ) → StandsFor (machine_of m) net → index_in (names_of net.nodes) u ≡ index_of_name m.config.nodes u
 node_place-in m net u s = ap (λ (n : Net). index_in (names_of n.nodes) u) s.is
 
-pub slot-in : (m : Standing) (net : Net) (i : ℕ) → StandsFor (machine_of m) net → index_of_slot net.slots i ≡ index_of_slot (map slot_of (machine_of m).slots) i
+pub slot-in : (m : FiledMachine) (net : Net) (i : ℕ) → StandsFor (machine_of m) net → index_of_slot net.slots i ≡ index_of_slot (map slot_of (machine_of m).slots) i
 slot-in m net i s = ap (λ (n : Net). index_of_slot n.slots i) s.is
 
 -- ---- the tests that many events share
-pub no_node : (m : Standing) (net : Net) (u : ℕ) (ts : List (Bool × Refusal)) → StandsFor (machine_of m) net → index_of_name m.config.nodes u ≡ None → first_that (hosted_test net u ∷ ts) ≡ Some NoSuchNode
+pub no_node : (m : FiledMachine) (net : Net) (u : ℕ) (ts : List (Bool × Refusal)) → StandsFor (machine_of m) net → index_of_name m.config.nodes u ≡ None → first_that (hosted_test net u ∷ ts) ≡ Some NoSuchNode
 no_node m net u ts s h = refuses (not (is_hosted net u)) NoSuchNode ts (ap not (hosted-not net u (node_place-in m net u s ∙ h)))
 
-pub node_then : (m : Standing) (net : Net) (u h : ℕ) (ts : List (Bool × Refusal)) → StandsFor (machine_of m) net → index_of_name m.config.nodes u ≡ Some h → first_that (hosted_test net u ∷ ts) ≡ first_that ts
+pub node_then : (m : FiledMachine) (net : Net) (u h : ℕ) (ts : List (Bool × Refusal)) → StandsFor (machine_of m) net → index_of_name m.config.nodes u ≡ Some h → first_that (hosted_test net u ∷ ts) ≡ first_that ts
 node_then m net u h ts s q = passes (hosted_test net u) ts (ap not (hosted net u h (node_place-in m net u s ∙ q)))
 
-pub not_open : (m : Standing) (net : Net) (i : ℕ) (ts : List (Bool × Refusal)) → StandsFor (machine_of m) net → index_of_slot (map slot_of (machine_of m).slots) i ≡ None → first_that (open_test net i ∷ ts) ≡ Some SlotNotOpen
+pub not_open : (m : FiledMachine) (net : Net) (i : ℕ) (ts : List (Bool × Refusal)) → StandsFor (machine_of m) net → index_of_slot (map slot_of (machine_of m).slots) i ≡ None → first_that (open_test net i ∷ ts) ≡ Some SlotNotOpen
 not_open m net i ts s h = refuses (not (is_open net i)) SlotNotOpen ts (ap not (opened_not net i (slot-in m net i s ∙ h)))
 
-pub open_then : (m : Standing) (net : Net) (i k : ℕ) (ts : List (Bool × Refusal)) → StandsFor (machine_of m) net → IsSlotThere m i k → first_that (open_test net i ∷ ts) ≡ first_that ts
+pub open_then : (m : FiledMachine) (net : Net) (i k : ℕ) (ts : List (Bool × Refusal)) → StandsFor (machine_of m) net → IsSlotThere m i k → first_that (open_test net i ∷ ts) ≡ first_that ts
 open_then m net i k ts s q = passes (open_test net i) ts (ap not (opened_at net i k (slot-in m net i s ∙ q)))
 
 -- ---- limits

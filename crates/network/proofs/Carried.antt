@@ -20,17 +20,17 @@ use Rattle.protocol.proofs.Networks.Counts.{next}
 use Rattle.protocol.proofs.Networks.Effects.{effect-keeps}
 use Rattle.protocol.proofs.Networks.Room.{room-bytes, room-events}
 use Rattle.protocol.proofs.Networks.Drawn.{steps_are_counted}
-use Rattle.slot.specs.Filings.{copies_of, event_of, outs_of}
+use Rattle.slot.specs.Filings.{copies_of, event_of, whole_outs}
 use Rattle.configuration.specs.Configs.{index_in, names_of}
 use Rattle.configuration.specs.Budgets.{AreShares}
 use Rattle.network.specs.Answers.{IsApplied}
 use Rattle.network.specs.Changes.{IsChangedAt, changed_at}
-use Rattle.network.specs.Charges.{HasRoomInCounts, HasRoomOnNetwork, IsActed, IsReady, IsSlotActed, on_budgets_of, on_opens_of}
-use Rattle.network.specs.Deeds.{IsDrawn, IsEventOf, IsNodeOf, IsPlan, IsThere, slots_after_event, envelope_to_file, instance_at, outs_after, slots_after}
-use Rattle.network.specs.Doings.{IsAnswer, IsDoable, IsDone, marks_after, slots_of}
-use Rattle.network.specs.Lodgings.{AreTallied, IsLodged, IsTallied, IsUncounted, Lodging, Lodgings, Seat, Seats, bytes_from, events_from, instance_in, seat_of, seats_of, slot_of}
+use Rattle.network.specs.Charges.{HasReadyNode, HasRoomInCounts, HasRoomOnNetwork, IsActed, IsSlotActed, on_budgets_of, on_opens_of}
+use Rattle.network.specs.Deeds.{IsDrawn, IsEventOf, IsNodeOf, IsPlan, IsThere, slots_after_event, envelope_to_file, instance_at, outs_of_deed, slots_after}
+use Rattle.network.specs.Doings.{IsDeedAnswer, IsDoable, IsDone, marks_after, slots_of}
+use Rattle.network.specs.FiledSlots.{AreTallied, CountedInstance, CountedSlot, FiledInstance, FiledSlot, IsInstanceFiled, IsTallied, HasDrawnNothing, bytes_from, counted_instance, counted_slot, events_from, instance_of_filed, slot_of}
 use Rattle.network.specs.Marks.{marks_in, numbers_by_kind, slot_and_node_of, emitted_at, emitted_before}
-use Rattle.network.specs.Standing.{IsOfSlot, IsStanding, IsStep, IsTidy, Machine, Standing, StandsFor, machine_of, net_of}
+use Rattle.network.specs.Standing.{IsOfSlot, IsStanding, IsStep, IsTidy, Machine, FiledMachine, StandsFor, machine_of, net_of}
 use Rattle.network.specs.declared.applied.Outcome.{Outcome}
 use Rattle.network.specs.declared.plan.Charge.{Charge}
 use Rattle.network.specs.declared.plan.Deed.{Deed}
@@ -98,39 +98,39 @@ all-changed key R P Q i (suc k) (x ∷ xs) (y ∷ ys) o r miss hit a =
     All-cons Q y ys (subst Q r.0 (miss x o.0 (All-head P x xs a))) (all-changed key R P Q i k xs ys o.1 r.1 miss hit (All-tail P x xs a))
 
 -- ---- slots without numbers of archives and counts
-abbrev node_of : Seat → Instance
+abbrev node_of : CountedInstance → Instance
 node_of x = x.instance
 
-abbrev name_at : Lodging → ℕ
+abbrev name_at : FiledInstance → ℕ
 name_at l = l.held.node.name
 
-abbrev number_at : Lodgings → ℕ
+abbrev number_at : FiledSlot → ℕ
 number_at s = s.number
 
-names-are : (ps : List Lodging) → map (λ (x : Seat). x.instance.node.name) (map seat_of ps) ≡ map name_at ps
+names-are : (ps : List FiledInstance) → map (λ (x : CountedInstance). x.instance.node.name) (map counted_instance ps) ≡ map name_at ps
 names-are [] = refl
 names-are (p ∷ ps) = ap (λ (ns : List ℕ). name_at p ∷ ns) (names-are ps)
 
-seat-numbers : (ss : List Lodgings) → map (λ (s : Seats). s.number) (map seats_of ss) ≡ map number_at ss
-seat-numbers [] = refl
-seat-numbers (s ∷ ss) = ap (λ (ns : List ℕ). s.number ∷ ns) (seat-numbers ss)
+counted-numbers : (ss : List FiledSlot) → map (λ (s : CountedSlot). s.number) (map counted_slot ss) ≡ map number_at ss
+counted-numbers [] = refl
+counted-numbers (s ∷ ss) = ap (λ (ns : List ℕ). s.number ∷ ns) (counted-numbers ss)
 
-acted-instances : (c : Charge) (e : NodeEvent) (h : ℕ) (old new : List Lodging) → IsChangedAt (IsActed c e) h old new → map node_of (map seat_of new) ≡ changed_at h (after_event e) (map node_of (map seat_of old))
+acted-instances : (c : Charge) (e : NodeEvent) (h : ℕ) (old new : List FiledInstance) → IsChangedAt (IsActed c e) h old new → map node_of (map counted_instance new) ≡ changed_at h (after_event e) (map node_of (map counted_instance old))
 acted-instances c e h [] new r = absurd r
 acted-instances c e h (x ∷ xs) [] r = absurd r
-acted-instances c e zero (x ∷ xs) (y ∷ ys) r = ap₂ (λ (p : Instance) (ps : List Instance). p ∷ ps) r.0.instance (sym (ap (λ (zs : List Lodging). map node_of (map seat_of zs)) r.1))
-acted-instances c e (suc h) (x ∷ xs) (y ∷ ys) r = ap₂ (λ (p : Instance) (ps : List Instance). p ∷ ps) (sym (ap instance_in r.0)) (acted-instances c e h xs ys r.1)
+acted-instances c e zero (x ∷ xs) (y ∷ ys) r = ap₂ (λ (p : Instance) (ps : List Instance). p ∷ ps) r.0.instance (sym (ap (λ (zs : List FiledInstance). map node_of (map counted_instance zs)) r.1))
+acted-instances c e (suc h) (x ∷ xs) (y ∷ ys) r = ap₂ (λ (p : Instance) (ps : List Instance). p ∷ ps) (sym (ap instance_of_filed r.0)) (acted-instances c e h xs ys r.1)
 
-acted-slots : (c : Charge) (e : NodeEvent) (h k : ℕ) (old new : List Lodgings) → IsChangedAt (IsSlotActed c h e) k old new → slots_of new ≡ slots_after_event (slots_of old) k h e
+acted-slots : (c : Charge) (e : NodeEvent) (h k : ℕ) (old new : List FiledSlot) → IsChangedAt (IsSlotActed c h e) k old new → slots_of new ≡ slots_after_event (slots_of old) k h e
 acted-slots c e h k [] new r = absurd r
 acted-slots c e h k (x ∷ xs) [] r = absurd r
 acted-slots c e h zero (x ∷ xs) (y ∷ ys) r =
     ap₂ {C = List Slot} (λ (s : Slot) (ss : List Slot). s ∷ ss) (λ j. record { number = r.0.number j; instances = acted-instances c e h x.instances y.instances r.0.instances j }) (sym (ap slots_of r.1))
-acted-slots c e h (suc k) (x ∷ xs) (y ∷ ys) r = ap₂ {C = List Slot} (λ (s : Slot) (ss : List Slot). s ∷ ss) (sym (ap (λ (s : Lodgings). slot_of (seats_of s)) r.0)) (acted-slots c e h k xs ys r.1)
+acted-slots c e h (suc k) (x ∷ xs) (y ∷ ys) r = ap₂ {C = List Slot} (λ (s : Slot) (ss : List Slot). s ∷ ss) (sym (ap (λ (s : FiledSlot). slot_of (counted_slot s)) r.0)) (acted-slots c e h k xs ys r.1)
 
-pub done-slots : (c : Charge) (d : Deed) (old new : List Lodgings) → IsDone c d old new → slots_of new ≡ slots_after (slots_of old) d
-done-slots c (Open s) old new h = ap slots_of h ∙ ap (map slot_of) (map-append seats_of old (s ∷ [])) ∙ map-append slot_of (map seats_of old) (seats_of s ∷ [])
-done-slots c (Close k) old new h = ap slots_of h ∙ ap (map slot_of) (map-remove seats_of old k) ∙ map-remove slot_of (map seats_of old) k
+pub done-slots : (c : Charge) (d : Deed) (old new : List FiledSlot) → IsDone c d old new → slots_of new ≡ slots_after (slots_of old) d
+done-slots c (Open s) old new h = ap slots_of h ∙ ap (map slot_of) (map-append counted_slot old (s ∷ [])) ∙ map-append slot_of (map counted_slot old) (counted_slot s ∷ [])
+done-slots c (Close k) old new h = ap slots_of h ∙ ap (map slot_of) (map-remove counted_slot old k) ∙ map-remove slot_of (map counted_slot old) k
 done-slots c (Act k h e) old new d = acted-slots c (event_of e) h k old new d
 done-slots c (Hand k h e) old new d = acted-slots c (NodeEvent.Take e) h k old new d
 
@@ -149,9 +149,9 @@ opens-are m (ByPair k h u) s q = ap on_opens q.6
 
 -- ---- what is counted at the nodes
 -- the hosted nodes stand in their order at each slot
-names-all : (ns : List ℕ) (ss : List Lodgings) → AllByRecursion (λ (s : Seats). map (λ (x : Seat). x.instance.node.name) s.seats ≡ ns) (map seats_of ss) → All (λ (s : Lodgings). map name_at s.instances ≡ ns) ss
-names-all ns [] a = All-nil (λ (s : Lodgings). map name_at s.instances ≡ ns)
-names-all ns (s ∷ ss) a = All-cons (λ (s : Lodgings). map name_at s.instances ≡ ns) s ss (sym (names-are s.instances) ∙ a.0) (names-all ns ss a.1)
+names-all : (ns : List ℕ) (ss : List FiledSlot) → AllByRecursion (λ (s : CountedSlot). map (λ (x : CountedInstance). x.instance.node.name) s.instances ≡ ns) (map counted_slot ss) → All (λ (s : FiledSlot). map name_at s.instances ≡ ns) ss
+names-all ns [] a = All-nil (λ (s : FiledSlot). map name_at s.instances ≡ ns)
+names-all ns (s ∷ ss) a = All-cons (λ (s : FiledSlot). map name_at s.instances ≡ ns) s ss (sym (names-are s.instances) ∙ a.0) (names-all ns ss a.1)
 
 unmapped : {X Y : Type 0} (P : X → Type 0) (f : Y → X) (ys : List Y) → All P (map f ys) → All (λ y. P (f y)) ys
 unmapped P f [] a = All-nil (λ y. P (f y))
@@ -161,44 +161,44 @@ both-all : {X : Type 0} (P Q : X → Type 0) (xs : List X) → All P xs → All 
 both-all P Q [] a b = All-nil (λ x. P x × Q x)
 both-all P Q (x ∷ xs) a b = All-cons (λ x. P x × Q x) x xs (All-head P x xs a, All-head Q x xs b) (both-all P Q xs (All-tail P x xs a) (All-tail Q x xs b))
 
-abbrev AreCounted : List Draw → Lodgings → Type 0
-AreCounted draws s = All (λ (l : Lodging). IsTallied s.number draws (seat_of l)) s.instances
+abbrev AreCounted : List Draw → FiledSlot → Type 0
+AreCounted draws s = All (λ (l : FiledInstance). IsTallied s.number draws (counted_instance l)) s.instances
 
-counted-from : (draws : List Draw) (ss : List Lodgings) → AreTallied draws (map seats_of ss) → All (AreCounted draws) ss
+counted-from : (draws : List Draw) (ss : List FiledSlot) → AreTallied draws (map counted_slot ss) → All (AreCounted draws) ss
 counted-from draws ss a =
-    All-weaker (λ (s : Lodgings). All (IsTallied s.number draws) (map seat_of s.instances)) (AreCounted draws) (λ s b. unmapped (IsTallied s.number draws) seat_of s.instances b) ss
-    (unmapped (λ (s : Seats). All (IsTallied s.number draws) s.seats) seats_of ss a)
+    All-weaker (λ (s : FiledSlot). All (IsTallied s.number draws) (map counted_instance s.instances)) (AreCounted draws) (λ s b. unmapped (IsTallied s.number draws) counted_instance s.instances b) ss
+    (unmapped (λ (s : CountedSlot). All (IsTallied s.number draws) s.instances) counted_slot ss a)
 
-counted-to : (draws : List Draw) (ss : List Lodgings) → All (AreCounted draws) ss → AreTallied draws (map seats_of ss)
+counted-to : (draws : List Draw) (ss : List FiledSlot) → All (AreCounted draws) ss → AreTallied draws (map counted_slot ss)
 counted-to draws ss a =
-    All-map (λ (s : Seats). All (IsTallied s.number draws) s.seats) seats_of ss
-    (All-weaker (AreCounted draws) (λ (s : Lodgings). All (IsTallied s.number draws) (map seat_of s.instances)) (λ s b. All-map (IsTallied s.number draws) seat_of s.instances b) ss a)
+    All-map (λ (s : CountedSlot). All (IsTallied s.number draws) s.instances) counted_slot ss
+    (All-weaker (AreCounted draws) (λ (s : FiledSlot). All (IsTallied s.number draws) (map counted_instance s.instances)) (λ s b. All-map (IsTallied s.number draws) counted_instance s.instances b) ss a)
 
 -- an event of a node
 module _ (net after : Net) (e : Step) (c : IsCountedAfter net e after) (i u : ℕ) (o : (n : ℕ) → is_opening n e ≡ false) (q : IsSourceOf i u (source net.roster e)) where
-  spared-here : (s : Lodgings) → (s.number == i) ≡ false → AreCounted net.draws s → AreCounted after.draws s
+  spared-here : (s : FiledSlot) → (s.number == i) ≡ false → AreCounted net.draws s → AreCounted after.draws s
   spared-here s d a =
-      All-weaker (λ (l : Lodging). IsTallied s.number net.draws (seat_of l)) (λ (l : Lodging). IsTallied s.number after.draws (seat_of l))
-      (λ l t. stays net after e s.number (seat_of l) c (o s.number) (spared-slot i u s.number l.held.node.name (source net.roster e) q d) t) s.instances a
+      All-weaker (λ (l : FiledInstance). IsTallied s.number net.draws (counted_instance l)) (λ (l : FiledInstance). IsTallied s.number after.draws (counted_instance l))
+      (λ l t. stays net after e s.number (counted_instance l) c (o s.number) (spared-slot i u s.number l.held.node.name (source net.roster e) q d) t) s.instances a
 
   module _ (g : Charge) (ev : NodeEvent) (size : g.size ≡ size_of e) (agree : Agrees i u g.drawn (source net.roster e)) where
-    moved-here : (h : ℕ) (x y : Lodgings) → x.number ≡ i → IsSlotActed g h ev x y → IsOnlyAt u h (map name_at x.instances) → AreCounted net.draws x → AreCounted after.draws y
+    moved-here : (h : ℕ) (x y : FiledSlot) → x.number ≡ i → IsSlotActed g h ev x y → IsOnlyAt u h (map name_at x.instances) → AreCounted net.draws x → AreCounted after.draws y
     moved-here h x y same r only a =
-        subst (λ n. All (λ (l : Lodging). IsTallied n after.draws (seat_of l)) y.instances) (sym r.number)
-        (all-changed name_at (IsActed g ev) (λ (l : Lodging). IsTallied x.number net.draws (seat_of l)) (λ (l : Lodging). IsTallied x.number after.draws (seat_of l)) u h x.instances y.instances only r.instances
-        (λ l d t. stays net after e x.number (seat_of l) c (o x.number) (spared-name i u x.number l.held.node.name (source net.roster e) q d) t)
+        subst (λ n. All (λ (l : FiledInstance). IsTallied n after.draws (counted_instance l)) y.instances) (sym r.number)
+        (all-changed name_at (IsActed g ev) (λ (l : FiledInstance). IsTallied x.number net.draws (counted_instance l)) (λ (l : FiledInstance). IsTallied x.number after.draws (counted_instance l)) u h x.instances y.instances only r.instances
+        (λ l d t. stays net after e x.number (counted_instance l) c (o x.number) (spared-name i u x.number l.held.node.name (source net.roster e) q d) t)
         (λ l k w acted t. moves net after e x.number g l k c (o x.number)
         (subst (λ m. Agrees m l.held.node.name g.drawn (source net.roster e)) (sym same) (subst (λ m. Agrees i m g.drawn (source net.roster e)) (sym w) agree))
-        size (ap (λ (p : Instance). p.node.name) acted.instance ∙ after_event-name ev (instance_in l)) acted.charged t)
+        size (ap (λ (p : Instance). p.node.name) acted.instance ∙ after_event-name ev (instance_of_filed l)) acted.charged t)
         a)
 
-    counted-act : (ns : List ℕ) (h k : ℕ) (old new : List Lodgings) → IsOnlyAt i k (map number_at old) → IsOnlyAt u h ns → All (λ (s : Lodgings). map name_at s.instances ≡ ns) old → IsChangedAt (IsSlotActed g h ev) k old new
+    counted-act : (ns : List ℕ) (h k : ℕ) (old new : List FiledSlot) → IsOnlyAt i k (map number_at old) → IsOnlyAt u h ns → All (λ (s : FiledSlot). map name_at s.instances ≡ ns) old → IsChangedAt (IsSlotActed g h ev) k old new
         → All (AreCounted net.draws) old → All (AreCounted after.draws) new
     counted-act ns h k old new at only names r a =
-        all-changed number_at (IsSlotActed g h ev) (λ (s : Lodgings). AreCounted net.draws s × (map name_at s.instances ≡ ns)) (AreCounted after.draws) i k old new at r
+        all-changed number_at (IsSlotActed g h ev) (λ (s : FiledSlot). AreCounted net.draws s × (map name_at s.instances ≡ ns)) (AreCounted after.draws) i k old new at r
         (λ s d b. spared-here s d b.0)
         (λ x y w acted b. moved-here h x y w acted (subst (IsOnlyAt u h) (sym b.1) only) b.0)
-        (both-all (AreCounted net.draws) (λ (s : Lodgings). map name_at s.instances ≡ ns) old a names)
+        (both-all (AreCounted net.draws) (λ (s : FiledSlot). map name_at s.instances ≡ ns) old a names)
 
 -- an opening draws on no share, and nothing is drawn on those of its slot
 openings-draw : (o : Option Roster) (i m : ℕ) (t : Share) → is_of_share m t (source o (Opens i)) ≡ false
@@ -209,28 +209,28 @@ closings-draw : (o : Option Roster) (i m : ℕ) (t : Share) → is_of_share m t 
 closings-draw None i m t = refl
 closings-draw (Some r) i m t = refl
 
-fresh-tallied : (net after : Net) (i : ℕ) (l : Lodging) → IsCountedAfter net (Opens i) after → IsUncounted l → IsTallied i after.draws (seat_of l)
+fresh-tallied : (net after : Net) (i : ℕ) (l : FiledInstance) → IsCountedAfter net (Opens i) after → HasDrawnNothing l → IsTallied i after.draws (counted_instance l)
 fresh-tallied net after i l c u = record {
   own = u.own ∙ sym (c.renewed i (Own l.held.node.name) (eqb-refl i)).0;
   events = λ v. ap (λ ts. events_from ts v) u.heard ∙ sym (c.renewed i (Pair l.held.node.name v) (eqb-refl i)).0;
   bytes = λ v. ap (λ ts. bytes_from ts v) u.heard ∙ sym (c.renewed i (Pair l.held.node.name v) (eqb-refl i)).1;
 }
 
-counted-open : (net after : Net) (s : Lodgings) (old : List Lodgings) → IsCountedAfter net (Opens s.number) after → AllByRecursion (λ m. (m == s.number) ≡ false) (map number_at old) → All IsUncounted s.instances
+counted-open : (net after : Net) (s : FiledSlot) (old : List FiledSlot) → IsCountedAfter net (Opens s.number) after → AllByRecursion (λ m. (m == s.number) ≡ false) (map number_at old) → All HasDrawnNothing s.instances
     → All (AreCounted net.draws) old → All (AreCounted after.draws) (old ++ s ∷ [])
 counted-open net after s old c out fresh a =
     All-append (AreCounted after.draws) old (s ∷ [])
     (others number_at (AreCounted net.draws) (AreCounted after.draws) s.number old out
-    (λ x d b. All-weaker (λ (l : Lodging). IsTallied x.number net.draws (seat_of l)) (λ (l : Lodging). IsTallied x.number after.draws (seat_of l))
-    (λ l t. stays net after (Opens s.number) x.number (seat_of l) c (same-test s.number x.number ∙ d) (spared-none x.number l.held.node.name (source net.roster (Opens s.number)) (openings-draw net.roster s.number)) t) x.instances b)
+    (λ x d b. All-weaker (λ (l : FiledInstance). IsTallied x.number net.draws (counted_instance l)) (λ (l : FiledInstance). IsTallied x.number after.draws (counted_instance l))
+    (λ l t. stays net after (Opens s.number) x.number (counted_instance l) c (same-test s.number x.number ∙ d) (spared-none x.number l.held.node.name (source net.roster (Opens s.number)) (openings-draw net.roster s.number)) t) x.instances b)
     a)
-    (All-cons (AreCounted after.draws) s [] (All-weaker IsUncounted (λ (l : Lodging). IsTallied s.number after.draws (seat_of l)) (λ l u. fresh-tallied net after s.number l c u) s.instances fresh) (All-nil (AreCounted after.draws)))
+    (All-cons (AreCounted after.draws) s [] (All-weaker HasDrawnNothing (λ (l : FiledInstance). IsTallied s.number after.draws (counted_instance l)) (λ l u. fresh-tallied net after s.number l c u) s.instances fresh) (All-nil (AreCounted after.draws)))
 
-counted-close : (net after : Net) (i k : ℕ) (old : List Lodgings) → IsCountedAfter net (Closes i) after → All (AreCounted net.draws) old → All (AreCounted after.draws) (remove old k)
+counted-close : (net after : Net) (i k : ℕ) (old : List FiledSlot) → IsCountedAfter net (Closes i) after → All (AreCounted net.draws) old → All (AreCounted after.draws) (remove old k)
 counted-close net after i k old c a =
     let b = All-weaker (AreCounted net.draws) (AreCounted after.draws)
-    (λ x b. All-weaker (λ (l : Lodging). IsTallied x.number net.draws (seat_of l)) (λ (l : Lodging). IsTallied x.number after.draws (seat_of l))
-    (λ l t. stays net after (Closes i) x.number (seat_of l) c refl (spared-none x.number l.held.node.name (source net.roster (Closes i)) (closings-draw net.roster i)) t) x.instances b)
+    (λ x b. All-weaker (λ (l : FiledInstance). IsTallied x.number net.draws (counted_instance l)) (λ (l : FiledInstance). IsTallied x.number after.draws (counted_instance l))
+    (λ l t. stays net after (Closes i) x.number (counted_instance l) c refl (spared-none x.number l.held.node.name (source net.roster (Closes i)) (closings-draw net.roster i)) t) x.instances b)
     old a in
     All-append (AreCounted after.draws) (take k old) (drop (suc k) old) (All-take (AreCounted after.draws) k old b) (All-drop (AreCounted after.draws) (suc k) old b)
 
@@ -257,35 +257,35 @@ node-named m e k h n = go (slot_and_node_of e) refl n
     go (Some at) q n = (at.0, at.1, q, n.0, n.1)
 
 -- ---- networks without counts
-node-names : (xs : List Seat) → names_at (map node_of xs) ≡ map (λ (x : Seat). x.instance.node.name) xs
+node-names : (xs : List CountedInstance) → names_at (map node_of xs) ≡ map (λ (x : CountedInstance). x.instance.node.name) xs
 node-names [] = refl
 node-names (x ∷ xs) = ap (λ (ns : List ℕ). x.instance.node.name ∷ ns) (node-names xs)
 
-to-names : (ns : List ℕ) (ss : List Seats) → AllByRecursion (λ (s : Seats). map (λ (x : Seat). x.instance.node.name) s.seats ≡ ns) ss → AllByRecursion (λ (s : Slot). names_at s.instances ≡ ns) (map slot_of ss)
+to-names : (ns : List ℕ) (ss : List CountedSlot) → AllByRecursion (λ (s : CountedSlot). map (λ (x : CountedInstance). x.instance.node.name) s.instances ≡ ns) ss → AllByRecursion (λ (s : Slot). names_at s.instances ≡ ns) (map slot_of ss)
 to-names ns [] a = tt
-to-names ns (s ∷ ss) a = (node-names s.seats ∙ a.0, to-names ns ss a.1)
+to-names ns (s ∷ ss) a = (node-names s.instances ∙ a.0, to-names ns ss a.1)
 
-from-names : (ns : List ℕ) (ss : List Seats) → AllByRecursion (λ (s : Slot). names_at s.instances ≡ ns) (map slot_of ss) → AllByRecursion (λ (s : Seats). map (λ (x : Seat). x.instance.node.name) s.seats ≡ ns) ss
+from-names : (ns : List ℕ) (ss : List CountedSlot) → AllByRecursion (λ (s : Slot). names_at s.instances ≡ ns) (map slot_of ss) → AllByRecursion (λ (s : CountedSlot). map (λ (x : CountedInstance). x.instance.node.name) s.instances ≡ ns) ss
 from-names ns [] a = tt
-from-names ns (s ∷ ss) a = (sym (node-names s.seats) ∙ a.0, from-names ns ss a.1)
+from-names ns (s ∷ ss) a = (sym (node-names s.instances) ∙ a.0, from-names ns ss a.1)
 
-to-own-seats : (i : ℕ) (xs : List Seat) → AllByRecursion (λ (x : Seat). IsOfSlot i x.instance) xs → AllByRecursion (IsOfSlot i) (map node_of xs)
-to-own-seats i [] a = tt
-to-own-seats i (x ∷ xs) a = (a.0, to-own-seats i xs a.1)
+to-own-each : (i : ℕ) (xs : List CountedInstance) → AllByRecursion (λ (x : CountedInstance). IsOfSlot i x.instance) xs → AllByRecursion (IsOfSlot i) (map node_of xs)
+to-own-each i [] a = tt
+to-own-each i (x ∷ xs) a = (a.0, to-own-each i xs a.1)
 
-to-own : (ss : List Seats) → AllByRecursion (λ (s : Seats). AllByRecursion (λ (x : Seat). IsOfSlot s.number x.instance) s.seats) ss → AreOfSlots (map slot_of ss)
+to-own : (ss : List CountedSlot) → AllByRecursion (λ (s : CountedSlot). AllByRecursion (λ (x : CountedInstance). IsOfSlot s.number x.instance) s.instances) ss → AreOfSlots (map slot_of ss)
 to-own [] a = tt
-to-own (s ∷ ss) a = (to-own-seats s.number s.seats a.0, to-own ss a.1)
+to-own (s ∷ ss) a = (to-own-each s.number s.instances a.0, to-own ss a.1)
 
-from-own-seats : (i : ℕ) (xs : List Seat) → AllByRecursion (IsOfSlot i) (map node_of xs) → AllByRecursion (λ (x : Seat). IsOfSlot i x.instance) xs
-from-own-seats i [] a = tt
-from-own-seats i (x ∷ xs) a = (a.0, from-own-seats i xs a.1)
+from-own-each : (i : ℕ) (xs : List CountedInstance) → AllByRecursion (IsOfSlot i) (map node_of xs) → AllByRecursion (λ (x : CountedInstance). IsOfSlot i x.instance) xs
+from-own-each i [] a = tt
+from-own-each i (x ∷ xs) a = (a.0, from-own-each i xs a.1)
 
-from-own : (ss : List Seats) → AreOfSlots (map slot_of ss) → AllByRecursion (λ (s : Seats). AllByRecursion (λ (x : Seat). IsOfSlot s.number x.instance) s.seats) ss
+from-own : (ss : List CountedSlot) → AreOfSlots (map slot_of ss) → AllByRecursion (λ (s : CountedSlot). AllByRecursion (λ (x : CountedInstance). IsOfSlot s.number x.instance) s.instances) ss
 from-own [] a = tt
-from-own (s ∷ ss) a = (from-own-seats s.number s.seats a.0, from-own ss a.1)
+from-own (s ∷ ss) a = (from-own-each s.number s.instances a.0, from-own ss a.1)
 
-slots-numbers : (ss : List Seats) → slot_numbers (map slot_of ss) ≡ map (λ (s : Seats). s.number) ss
+slots-numbers : (ss : List CountedSlot) → slot_numbers (map slot_of ss) ≡ map (λ (s : CountedSlot). s.number) ss
 slots-numbers [] = refl
 slots-numbers (s ∷ ss) = ap (λ (ns : List ℕ). s.number ∷ ns) (slots-numbers ss)
 
@@ -316,8 +316,8 @@ node_where_open-at ns slots i u k h names q r = ap (λ o. node_where_open o u) (
 abbrev pub charge_of : Plan → Charge
 charge_of p = record { drawn = p.drawn; size = p.size }
 
-abbrev pub carried : Standing → Plan → List Lodgings → Machine
-carried m p new = record { config = m.config; slots = map seats_of new; events = m.events + on_budgets_of p.drawn 1; bytes = m.bytes + on_budgets_of p.drawn p.size; opens = m.opens + on_opens_of p.drawn }
+abbrev pub carried : FiledMachine → Plan → List FiledSlot → Machine
+carried m p new = record { config = m.config; slots = map counted_slot new; events = m.events + on_budgets_of p.drawn 1; bytes = m.bytes + on_budgets_of p.drawn p.size; opens = m.opens + on_opens_of p.drawn }
 
 abbrev reply_of : Net → Step → Net × Reply
 reply_of net e = (next net e, Done (effect net e).1)
@@ -334,7 +334,7 @@ close-marks : (net : Net) (i : ℕ) → [] ≡ marks_in net (Closes i)
 unfolding effect numbers_by_kind
 close-marks net i = refl
 
-module _ (m : Standing) (e : Step) (p : Plan) (t : IsStanding m) (plan : IsPlan m e p) (draws : List Draw) (tallied : AreTallied draws (map seats_of m.slots)) where
+module _ (m : FiledMachine) (e : Step) (p : Plan) (t : IsStanding m) (plan : IsPlan m e p) (draws : List Draw) (tallied : AreTallied draws (map counted_slot m.slots)) where
   abbrev net : Net
   net = net_of (machine_of m) draws
 
@@ -348,20 +348,20 @@ module _ (m : Standing) (e : Step) (p : Plan) (t : IsStanding m) (plan : IsPlan 
   counted-after = steps_are_counted net e allowed
 
   slots-index : (i k : ℕ) → index_in (map (λ (s : Slot). s.number) (slots_of m.slots)) i ≡ Some k → IsOnlyAt i k (map number_at m.slots)
-  slots-index i k q = only-at (map number_at m.slots) i k (ap (λ ns. index_in ns i) (sym (numbers-are m.slots)) ∙ q) (ap all_differ (sym (seat-numbers m.slots)) ∙ t.tidy.apart)
+  slots-index i k q = only-at (map number_at m.slots) i k (ap (λ ns. index_in ns i) (sym (numbers-are m.slots)) ∙ q) (ap all_differ (sym (counted-numbers m.slots)) ∙ t.tidy.apart)
 
   out-of : (i : ℕ) → e ≡ Opens i → AllByRecursion (λ n. (n == i) ≡ false) (map number_at m.slots)
   out-of i q =
       let f : is_open net i ≡ false = subst (IsFresh net) q (fresh-of net e allowed) in
       none-any (map number_at m.slots) i (ap (λ ns. list_any (λ w. w == i) ns) (sym (numbers-are m.slots)) ∙ absent (slots_of m.slots) i f)
 
-  module _ (new : List Lodgings) where
+  module _ (new : List FiledSlot) where
     by-deed : (d : Deed) → IsDone (charge_of p) d m.slots new → IsEventOf (machine_of m) e d → IsThere m.archive (slots_of m.slots) d → All (AreCounted (net_step net e).0.draws) new
     by-deed (Open s) dn nm th =
-        subst (λ (ss : List Lodgings). All (AreCounted (net_step net e).0.draws) ss) (sym dn)
+        subst (λ (ss : List FiledSlot). All (AreCounted (net_step net e).0.draws) ss) (sym dn)
         (counted-open net (net_step net e).0 s m.slots (subst (λ z. IsCountedAfter net z (net_step net e).0) nm counted-after) (out-of s.number nm) th.1 (counted-from draws m.slots tallied))
     by-deed (Close k) dn nm th =
-        subst (λ (ss : List Lodgings). All (AreCounted (net_step net e).0.draws) ss) (sym dn)
+        subst (λ (ss : List FiledSlot). All (AreCounted (net_step net e).0.draws) ss) (sym dn)
         (counted-close net (net_step net e).0 nm.0 k m.slots (subst (λ z. IsCountedAfter net z (net_step net e).0) nm.1 counted-after) (counted-from draws m.slots tallied))
     by-deed (Act k h x) dn nm th =
         let a = node-named (machine_of m) e k h nm in
@@ -375,7 +375,7 @@ module _ (m : Standing) (e : Step) (p : Plan) (t : IsStanding m) (plan : IsPlan 
         (names_of m.config.nodes) h k m.slots new (slots-index a.0 k a.3) (only-at (names_of m.config.nodes) a.1 h a.4 t.tidy.single) (names-all (names_of m.config.nodes) m.slots t.tidy.names) dn (counted-from draws m.slots tallied)
 
     module _ (done : IsDone (charge_of p) p.deed m.slots new) where
-      slots-are : (effect net e).0.slots ≡ map slot_of (map seats_of new)
+      slots-are : (effect net e).0.slots ≡ map slot_of (map counted_slot new)
       slots-are = sym (plan.slots net stands-for) ∙ sym (done-slots (charge_of p) p.deed m.slots new done)
 
       events-are : (effect net e).0.events + on_budgets (source net.roster e) 1 ≡ m.events + on_budgets_of p.drawn 1
@@ -406,16 +406,16 @@ module _ (m : Standing) (e : Step) (p : Plan) (t : IsStanding m) (plan : IsPlan 
         tallied = counted-to (net_step net e).0.draws new (by-deed p.deed done plan.named plan.there);
       }
 
-      pub given-after : (net_step net e).1 ≡ Done (outs_after (slots_of m.slots) p.deed)
+      pub given-after : (net_step net e).1 ≡ Done (outs_of_deed (slots_of m.slots) p.deed)
       given-after = ap (λ (z : Net × Reply). z.1) (stepped net e allowed) ∙ ap Done (sym (plan.outs net stands-for))
 
-      neat-after : Neat m.config.nodes (map slot_of (map seats_of new))
+      neat-after : Neat m.config.nodes (map slot_of (map counted_slot new))
       neat-after = subst (λ ss. Neat m.config.nodes ss) slots-are (neat net e (fresh-of net e allowed) (neat-of (machine_of m) t.tidy))
 
-      own-after : AreOfSlots (map slot_of (map seats_of new))
-      own-after = subst AreOfSlots slots-are (of-slots net e (to-own (map seats_of m.slots) t.tidy.own))
+      own-after : AreOfSlots (map slot_of (map counted_slot new))
+      own-after = subst AreOfSlots slots-are (of-slots net e (to-own (map counted_slot m.slots) t.tidy.own))
 
-  marks-by : (d : Deed) → IsEventOf (machine_of m) e d → outs_after (slots_of m.slots) d ≡ (effect net e).1 → marks_after (slots_of m.slots) d ≡ marks_in net e
+  marks-by : (d : Deed) → IsEventOf (machine_of m) e d → outs_of_deed (slots_of m.slots) d ≡ (effect net e).1 → marks_after (slots_of m.slots) d ≡ marks_in net e
   marks-by (Open s) nm os = open-marks net s.number ∙ ap (marks_in net) (sym nm)
   marks-by (Close k) nm os = close-marks net nm.0 ∙ ap (marks_in net) (sym nm.1)
   marks-by (Act k h x) nm os =
@@ -433,16 +433,16 @@ module _ (m : Standing) (e : Step) (p : Plan) (t : IsStanding m) (plan : IsPlan 
   marks-after = marks-by p.deed plan.named (plan.outs net stands-for)
 
 -- ---- for each network for which it stands
-pub steps : (m : Standing) (e : Step) (p : Plan) (new : List Lodgings) (os : List Out) → IsStanding m → IsPlan m e p → IsDone (charge_of p) p.deed m.slots new → os ≡ outs_after (slots_of m.slots) p.deed → IsStep (machine_of m) e os (carried m p new)
+pub steps : (m : FiledMachine) (e : Step) (p : Plan) (new : List FiledSlot) (os : List Out) → IsStanding m → IsPlan m e p → IsDone (charge_of p) p.deed m.slots new → os ≡ outs_of_deed (slots_of m.slots) p.deed → IsStep (machine_of m) e os (carried m p new)
 steps m e p new os t plan done is = λ net s.
     subst (λ (n : Net). StandsFor (carried m p new) (net_step n e).0 × ((net_step n e).1 ≡ Done os)) (sym s.is)
     (stands-after m e p t plan net.draws s.tallied new done, given-after m e p t plan net.draws s.tallied new done ∙ ap Done (sym is))
 
-pub marks : (m : Standing) (e : Step) (p : Plan) (ms : List ℕ) → IsStanding m → IsPlan m e p → ms ≡ marks_after (slots_of m.slots) p.deed → (net : Net) → StandsFor (machine_of m) net → ms ≡ marks_in net e
+pub marks : (m : FiledMachine) (e : Step) (p : Plan) (ms : List ℕ) → IsStanding m → IsPlan m e p → ms ≡ marks_after (slots_of m.slots) p.deed → (net : Net) → StandsFor (machine_of m) net → ms ≡ marks_in net e
 marks m e p ms t plan is net s = is ∙ subst (λ (n : Net). marks_after (slots_of m.slots) p.deed ≡ marks_in n e) (sym s.is) (marks-after m e p t plan net.draws s.tallied)
 
 -- ---- room for what is counted
-abbrev pub HaveFewShares : Standing → Type 0
+abbrev pub HaveFewShares : FiledMachine → Type 0
 HaveFewShares m = (r : Roster) → m.config.roster ≡ Some r → AreShares r.shares.own r.shares.pair r.shares.bytes r.shares.opens
 
 index-gives : (ns : List ℕ) (u k : ℕ) → index_in ns u ≡ Some k → slice_get ns k ≡ Some u
@@ -466,7 +466,7 @@ keyed key (x ∷ xs) zero u h = let q : key x ≡ u = cc in record { it = x; is 
 keyed key (x ∷ xs) (suc k) u h = let r = keyed key xs k u h in record { it = r.it; is = r.is; named = r.named }
 
 -- the network stands, the plan is one for it, and its budgets and shares keep their limits
-pub record IsCarriable (m : Standing) (e : Step) (p : Plan) : Type 0 where
+pub record IsCarriable (m : FiledMachine) (e : Step) (p : Plan) : Type 0 where
   pub standing : IsStanding m
   pub plan : IsPlan m e p
   pub events : m.config.budgets.events ≤ 2 ^ 40
@@ -474,16 +474,16 @@ pub record IsCarriable (m : Standing) (e : Step) (p : Plan) : Type 0 where
   pub shares : HaveFewShares m
 
 -- said of what the network is seen as, it holds of what it is
-pub carriable : {m s : Standing} (e : Step) (p : Plan) → m ≡ s → IsStanding m → IsPlan s e p → s.config.budgets.events ≤ 2 ^ 40 → s.config.budgets.bytes ≤ 2 ^ 40 → HaveFewShares s → IsCarriable m e p
+pub carriable : {m s : FiledMachine} (e : Step) (p : Plan) → m ≡ s → IsStanding m → IsPlan s e p → s.config.budgets.events ≤ 2 ^ 40 → s.config.budgets.bytes ≤ 2 ^ 40 → HaveFewShares s → IsCarriable m e p
 carriable e p seen t plan events bytes few = record {
   standing = t;
-  plan = subst (λ (z : Standing). IsPlan z e p) (sym seen) plan;
-  events = subst (λ (z : Standing). z.config.budgets.events ≤ 2 ^ 40) (sym seen) events;
-  bytes = subst (λ (z : Standing). z.config.budgets.bytes ≤ 2 ^ 40) (sym seen) bytes;
+  plan = subst (λ (z : FiledMachine). IsPlan z e p) (sym seen) plan;
+  events = subst (λ (z : FiledMachine). z.config.budgets.events ≤ 2 ^ 40) (sym seen) events;
+  bytes = subst (λ (z : FiledMachine). z.config.budgets.bytes ≤ 2 ^ 40) (sym seen) bytes;
   shares = subst HaveFewShares (sym seen) few;
 }
 
-module _ {m : Standing} {e : Step} {p : Plan} (known : IsCarriable m e p) where
+module _ {m : FiledMachine} {e : Step} {p : Plan} (known : IsCarriable m e p) where
   abbrev stood : Net
   stood = net_of (machine_of m) known.standing.stood.0
 
@@ -519,7 +519,7 @@ module _ {m : Standing} {e : Step} {p : Plan} (known : IsCarriable m e p) where
   pub room-on-network : HasRoomOnNetwork p.drawn p.size m.events m.bytes m.opens
   room-on-network = network-room p.drawn known.plan.drawn
 
-  node-room : (d : Drawn) (i u : ℕ) (x : Lodgings) (y : Lodging) → IsDrawn (machine_of m) d its → IsSourceOf i u its → x.number ≡ i → y.held.node.name ≡ u → IsTallied x.number known.standing.stood.0 (seat_of y) → HasRoomInCounts d p.size y.own y.heard
+  node-room : (d : Drawn) (i u : ℕ) (x : FiledSlot) (y : FiledInstance) → IsDrawn (machine_of m) d its → IsSourceOf i u its → x.number ≡ i → y.held.node.name ≡ u → IsTallied x.number known.standing.stood.0 (counted_instance y) → HasRoomInCounts d p.size y.own y.heard
   node-room ByBudgets i u x y q s xn yn tl = tt
   node-room ByOpens i u x y q s xn yn tl = tt
   node-room (ByOwn k h) i u x y q s xn yn tl =
@@ -546,37 +546,37 @@ module _ {m : Standing} {e : Step} {p : Plan} (known : IsCarriable m e p) where
         ],
       )
 
-  ready : (k h : ℕ) → IsNodeOf (machine_of m) (slot_and_node_of e) k h → IsReady (charge_of p) m.slots k h
+  ready : (k h : ℕ) → IsNodeOf (machine_of m) (slot_and_node_of e) k h → HasReadyNode (charge_of p) m.slots k h
   ready k h nm =
       let a = node-named (machine_of m) e k h nm in
       let x = keyed number_at m.slots k a.0 (index-gives (map number_at m.slots) a.0 k (ap (λ ns. index_in ns a.0) (sym (numbers-are m.slots)) ∙ a.3)) in
-      let names = all-at (λ (s : Lodgings). map name_at s.instances ≡ names_of m.config.nodes) m.slots k x.it (names-all (names_of m.config.nodes) m.slots known.standing.tidy.names) x.is in
+      let names = all-at (λ (s : FiledSlot). map name_at s.instances ≡ names_of m.config.nodes) m.slots k x.it (names-all (names_of m.config.nodes) m.slots known.standing.tidy.names) x.is in
       let y = keyed name_at x.it.instances h a.1 (index-gives (map name_at x.it.instances) a.1 h (ap (λ ns. index_in ns a.1) names ∙ a.4)) in
-      let tl = all-at (λ (l : Lodging). IsTallied x.it.number known.standing.stood.0 (seat_of l)) x.it.instances h y.it (all-at (AreCounted known.standing.stood.0) m.slots k x.it (counted-from known.standing.stood.0 m.slots known.standing.stood.1) x.is) y.is in
+      let tl = all-at (λ (l : FiledInstance). IsTallied x.it.number known.standing.stood.0 (counted_instance l)) x.it.instances h y.it (all-at (AreCounted known.standing.stood.0) m.slots k x.it (counted-from known.standing.stood.0 m.slots known.standing.stood.1) x.is) y.is in
       record { slot = x.it; instance = y.it; slot_is = x.is; instance_is = y.is; room = node-room p.drawn a.0 a.1 x.it y.it known.plan.drawn (source-of m.config.roster e a.0 a.1 a.2) x.named y.named tl }
 
   doable-by : (d : Deed) → IsEventOf (machine_of m) e d → IsThere m.archive (slots_of m.slots) d → IsDoable m.archive (charge_of p) m.slots d
   doable-by (Open s) nm th = (th.0, none-index (map number_at m.slots) s.number (out-of m e p known.standing known.plan known.standing.stood.0 known.standing.stood.1 s.number nm))
   doable-by (Close k) nm th =
-      let a = mapped-length slot_of (map seats_of m.slots) in
-      let b = mapped-length seats_of m.slots in
+      let a = mapped-length slot_of (map counted_slot m.slots) in
+      let b = mapped-length counted_slot m.slots in
       let l : k < length (slots_of m.slots) = th in
-      (omega (arith, a, b, l), ap all_differ (sym (seat-numbers m.slots)) ∙ known.standing.tidy.apart)
+      (omega (arith, a, b, l), ap all_differ (sym (counted-numbers m.slots)) ∙ known.standing.tidy.apart)
   doable-by (Act k h x) nm th = (ready k h nm, th.1)
   doable-by (Hand k h x) nm th = ready k h nm
 
   pub doable : IsDoable m.archive (charge_of p) m.slots p.deed
   doable = doable-by p.deed known.plan.named known.plan.there
 
-  module _ (new : List Lodgings) (archive : Archived) (done : IsDone (charge_of p) p.deed m.slots new) (lodged : All (λ (s : Lodgings). All (IsLodged archive) s.instances) new) where
+  module _ (new : List FiledSlot) (archive : Archived) (done : IsDone (charge_of p) p.deed m.slots new) (archived : All (λ (s : FiledSlot). All (IsInstanceFiled archive) s.instances) new) where
     tidy-after : IsTidy (carried m p new)
     tidy-after =
         let n = neat-after m e p known.standing known.plan known.standing.stood.0 known.standing.stood.1 new done in
         record {
           single = known.standing.tidy.single;
-          names = from-names (names_of m.config.nodes) (map seats_of new) n.names;
-          apart = ap all_differ (sym (slots-numbers (map seats_of new))) ∙ n.apart;
-          own = from-own (map seats_of new) (own-after m e p known.standing known.plan known.standing.stood.0 known.standing.stood.1 new done);
+          names = from-names (names_of m.config.nodes) (map counted_slot new) n.names;
+          apart = ap all_differ (sym (slots-numbers (map counted_slot new))) ∙ n.apart;
+          own = from-own (map counted_slot new) (own-after m e p known.standing known.plan known.standing.stood.0 known.standing.stood.1 new done);
           bytes = bytes-kept p.drawn known.plan.drawn;
         }
 
@@ -584,16 +584,16 @@ module _ {m : Standing} {e : Step} {p : Plan} (known : IsCarriable m e p) where
         → IsStanding (record { config = m.config; archive = archive; slots = new; events = events; bytes = bytes; opens = opens })
     standing-after events bytes opens a b c =
         subst IsStanding (λ j. record { config = m.config; archive = archive; slots = new; events = sym a j; bytes = sym b j; opens = sym c j })
-        (record { lodged = lodged; tidy = tidy-after; stood = ((net_step stood e).0.draws, (stands-after m e p known.standing known.plan known.standing.stood.0 known.standing.stood.1 new done).tallied) })
+        (record { archived = archived; tidy = tidy-after; stood = ((net_step stood e).0.draws, (stands-after m e p known.standing known.plan known.standing.stood.0 known.standing.stood.1 new done).tallied) })
 
 -- ---- what carrying out leaves
-pub applied : (m : Standing) (e : Step) (p : Plan) (new : List Lodgings) (archive : Archived) (events bytes opens count : ℕ) (a : Outcome) → IsStanding m → IsPlan m e p → IsDone (charge_of p) p.deed m.slots new
+pub applied : (m : FiledMachine) (e : Step) (p : Plan) (new : List FiledSlot) (archive : Archived) (events bytes opens count : ℕ) (a : Outcome) → IsStanding m → IsPlan m e p → IsDone (charge_of p) p.deed m.slots new
     → events ≡ m.events + on_budgets_of p.drawn 1 → bytes ≡ m.bytes + on_budgets_of p.drawn p.size → opens ≡ m.opens + on_opens_of p.drawn
-    → IsAnswer (outs_after (slots_of m.slots) p.deed) (marks_after (slots_of m.slots) p.deed) (envelope_to_file p.deed) count archive a
+    → IsDeedAnswer (outs_of_deed (slots_of m.slots) p.deed) (marks_after (slots_of m.slots) p.deed) (envelope_to_file p.deed) count archive a
     → IsApplied m e count (record { config = m.config; archive = archive; slots = new; events = events; bytes = bytes; opens = opens }) a
 applied m e p new archive events bytes opens count a t plan done x y z answer = record {
-  step = subst (λ (w : Machine). IsStep (machine_of m) e (outs_of a.outs.items) w) (λ j. record { config = m.config; slots = map seats_of new; events = sym x j; bytes = sym y j; opens = sym z j })
-      (steps m e p new (outs_of a.outs.items) t plan done answer.outs_are);
+  step = subst (λ (w : Machine). IsStep (machine_of m) e (whole_outs a.outs.items) w) (λ j. record { config = m.config; slots = map counted_slot new; events = sym x j; bytes = sym y j; opens = sym z j })
+      (steps m e p new (whole_outs a.outs.items) t plan done answer.outs_are);
   marks = marks m e p a.marks.items t plan answer.marks_are;
   copies = answer.copies ∙ ap (copies_of count) (sym answer.outs_are);
   outs = answer.outs_filed;

@@ -10,7 +10,7 @@ use Rattle.protocol.specs.Networks.Reading.{Read, Fault}
 use Rattle.protocol.specs.Networks.Step.{Opens, Closes, Proposes, Delivers, Hears, NominationTimerFires, BallotTimerFires, Reslices}
 use Rattle.network.specs.Charges.{IsCharged, on_own, on_pair}
 use Rattle.network.specs.Deeds.{IsDrawn}
-use Rattle.network.specs.Lodgings.{IsTallied, Lodging, Seat, bytes_from, events_from, seat_of}
+use Rattle.network.specs.FiledSlots.{CountedInstance, FiledInstance, IsTallied, bytes_from, counted_instance, events_from}
 use Rattle.network.specs.Marks.{slot_and_node_of}
 use Rattle.network.specs.Standing.{Machine}
 use Rattle.network.specs.declared.plan.Charge.{Charge}
@@ -132,15 +132,15 @@ agrees m (ByPair k n w) s i u q h =
     subst (Agrees i u (ByPair k n w)) (sym is) (pair-agrees q.0.shares i u q.1.number q.2.instance.node.name k n w f.0 f.1)
 
 -- ---- the counts after an event
-pub stays : (net after : Net) (e : Step) (n : ℕ) (x : Seat) → IsCountedAfter net e after → is_opening n e ≡ false → Spared n x.instance.node.name (source net.roster e) → IsTallied n net.draws x → IsTallied n after.draws x
+pub stays : (net after : Net) (e : Step) (n : ℕ) (x : CountedInstance) → IsCountedAfter net e after → is_opening n e ≡ false → Spared n x.instance.node.name (source net.roster e) → IsTallied n net.draws x → IsTallied n after.draws x
 stays net after e n x c o s t = record {
   own = let a = t.own in let b = c.share_events n (Own x.instance.node.name) o in let z = ap {B = ℕ} (λ b. if b then 1 else 0) s.own in omega (arith, a, b, z);
   events = λ u. let a = t.events u in let b = c.share_events n (Pair x.instance.node.name u) o in let z = ap {B = ℕ} (λ b. if b then 1 else 0) (s.pair u) in omega (arith, a, b, z);
   bytes = λ u. let a = t.bytes u in let b = c.share_bytes n (Pair x.instance.node.name u) o in let z = ap {B = ℕ} (λ b. if b then size_of e else 0) (s.pair u) in omega (arith, a, b, z);
 }
 
-pub moves : (net after : Net) (e : Step) (n : ℕ) (c : Charge) (x y : Lodging) → IsCountedAfter net e after → is_opening n e ≡ false → Agrees n x.held.node.name c.drawn (source net.roster e) → c.size ≡ size_of e
-    → y.held.node.name ≡ x.held.node.name → IsCharged c x y → IsTallied n net.draws (seat_of x) → IsTallied n after.draws (seat_of y)
+pub moves : (net after : Net) (e : Step) (n : ℕ) (c : Charge) (x y : FiledInstance) → IsCountedAfter net e after → is_opening n e ≡ false → Agrees n x.held.node.name c.drawn (source net.roster e) → c.size ≡ size_of e
+    → y.held.node.name ≡ x.held.node.name → IsCharged c x y → IsTallied n net.draws (counted_instance x) → IsTallied n after.draws (counted_instance y)
 moves net after e n c x y k o g size name h t = record {
   own = let a = t.own in let b = k.share_events n (Own x.held.node.name) o in let z = g.own in let w = h.own in
       subst (λ m. y.own ≡ events_drawn n (Own m) after.draws) (sym name) (omega (arith, a, b, z, w));

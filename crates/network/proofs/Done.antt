@@ -5,14 +5,14 @@ use Rattle.std.proofs.lemmas.List.Elements.{All-append, All-cons, All-drop, All-
 use Rattle.types.specs.declared.event.NodeEvent.{NodeEvent}
 use Rattle.protocol.specs.Networks.{Instance, emissions, outs_at}
 use Rattle.envstore.specs.Archives.{Archived, Keeps}
-use Rattle.network.specs.Charges.{HasRoomFor, IsReady}
+use Rattle.network.specs.Charges.{HasReadyNode, HasRoomForCharge}
 use Rattle.network.specs.Deeds.{instance_at}
 use Rattle.network.specs.Doings.{slots_of}
-use Rattle.network.specs.Lodgings.{AreLodged, IsGiven, IsLodged, Lodging, Lodgings, Seat, instance_in, seat_of}
+use Rattle.network.specs.FiledSlots.{AreOutsGiven, AreSlotsFiled, CountedInstance, FiledInstance, FiledSlot, IsInstanceFiled, counted_instance, instance_of_filed}
 use Rattle.network.specs.Marks.{numbers_by_kind, emitted_at}
 use Rattle.network.specs.declared.plan.Charge.{Charge}
 use Rattle.network.specs.declared.emission_log.NumberedOuts.{NumberedOuts}
-use Rattle.network.proofs.Placed.{lodged-still}
+use Rattle.network.proofs.Placed.{archived-still}
 
 pub at-get : {X : Type 0} (xs : List X) (k : ℕ) (x y : X) → slice_get xs k ≡ Some x → y ≡ get_or xs k y → y ≡ x
 at-get [] k x y h is = absurd (cc)
@@ -24,50 +24,50 @@ within [] k x h = absurd (cc)
 within (z ∷ zs) zero x h = omega arith
 within (z ∷ zs) (suc k) x h = let l = within zs k x h in omega (arith, l)
 
-nodes-are : (ps : List Lodging) → map (λ (x : Seat). x.instance) (map seat_of ps) ≡ map instance_in ps
+nodes-are : (ps : List FiledInstance) → map (λ (x : CountedInstance). x.instance) (map counted_instance ps) ≡ map instance_of_filed ps
 nodes-are [] = refl
-nodes-are (p ∷ ps) = ap (λ (qs : List Instance). instance_in p ∷ qs) (nodes-are ps)
+nodes-are (p ∷ ps) = ap (λ (qs : List Instance). instance_of_filed p ∷ qs) (nodes-are ps)
 
-seen-at : (items : List Lodgings) (k h : ℕ) (s : Lodgings) → slice_get items k ≡ Some s → instance_at (slice_get (slots_of items) k) h ≡ slice_get (map instance_in s.instances) h
+seen-at : (items : List FiledSlot) (k h : ℕ) (s : FiledSlot) → slice_get items k ≡ Some s → instance_at (slice_get (slots_of items) k) h ≡ slice_get (map instance_of_filed s.instances) h
 seen-at [] k h s q = absurd (cc)
-seen-at (x ∷ xs) zero h s q = let e : x ≡ s = cc in ap (λ (ps : List Instance). slice_get ps h) (nodes-are x.instances) ∙ ap (λ (y : Lodgings). slice_get (map instance_in y.instances) h) e
+seen-at (x ∷ xs) zero h s q = let e : x ≡ s = cc in ap (λ (ps : List Instance). slice_get ps h) (nodes-are x.instances) ∙ ap (λ (y : FiledSlot). slice_get (map instance_of_filed y.instances) h) e
 seen-at (x ∷ xs) (suc k) h s q = seen-at xs k h s q
 
--- what was lodged is so still
-pub all-still : (old new : Archived) (xs : List Lodging) → Keeps old new → All (IsLodged old) xs → All (IsLodged new) xs
-all-still old new xs kept all = λ k d l. lodged-still old new (get_or xs k d) kept (all k d l)
+-- what was archived is so still
+pub all-still : (old new : Archived) (xs : List FiledInstance) → Keeps old new → All (IsInstanceFiled old) xs → All (IsInstanceFiled new) xs
+all-still old new xs kept all = λ k d l. archived-still old new (get_or xs k d) kept (all k d l)
 
-pub slots-still : (old new : Archived) (ss : List Lodgings) → Keeps old new → AreLodged old ss → AreLodged new ss
+pub slots-still : (old new : Archived) (ss : List FiledSlot) → Keeps old new → AreSlotsFiled old ss → AreSlotsFiled new ss
 slots-still old new ss kept all = λ k d l. all-still old new (get_or ss k d).instances kept (all k d l)
 
-pub slots-lodged : (old new : Archived) (ss : List Lodgings) (k : ℕ) (y : Lodgings) → Keeps old new → All (IsLodged new) y.instances → AreLodged old ss → AreLodged new (set ss k y)
-slots-lodged old new ss k y kept one all = All-set (λ (s : Lodgings). All (IsLodged new) s.instances) ss k y one (slots-still old new ss kept all)
+pub slots-archived : (old new : Archived) (ss : List FiledSlot) (k : ℕ) (y : FiledSlot) → Keeps old new → All (IsInstanceFiled new) y.instances → AreSlotsFiled old ss → AreSlotsFiled new (set ss k y)
+slots-archived old new ss k y kept one all = All-set (λ (s : FiledSlot). All (IsInstanceFiled new) s.instances) ss k y one (slots-still old new ss kept all)
 
 -- without one slot, and with one more
-pub lodged-less : (archive : Archived) (ss ts : List Lodgings) (k : ℕ) → ts ≡ remove ss k → AreLodged archive ss → AreLodged archive ts
-lodged-less archive ss ts k is all =
-    let P = λ (s : Lodgings). All (IsLodged archive) s.instances in
-    subst (λ (us : List Lodgings). AreLodged archive us) (sym is) (All-append P (take k ss) (drop (suc k) ss) (All-take P k ss all) (All-drop P (suc k) ss all))
+pub archived-less : (archive : Archived) (ss ts : List FiledSlot) (k : ℕ) → ts ≡ remove ss k → AreSlotsFiled archive ss → AreSlotsFiled archive ts
+archived-less archive ss ts k is all =
+    let P = λ (s : FiledSlot). All (IsInstanceFiled archive) s.instances in
+    subst (λ (us : List FiledSlot). AreSlotsFiled archive us) (sym is) (All-append P (take k ss) (drop (suc k) ss) (All-take P k ss all) (All-drop P (suc k) ss all))
 
-pub lodged-more : (archive : Archived) (ss ts : List Lodgings) (s : Lodgings) → ts ≡ ss ++ s ∷ [] → All (IsLodged archive) s.instances → AreLodged archive ss → AreLodged archive ts
-lodged-more archive ss ts s is one all =
-    let P = λ (s : Lodgings). All (IsLodged archive) s.instances in
-    subst (λ (us : List Lodgings). AreLodged archive us) (sym is) (All-append P ss (s ∷ []) all (All-cons P s [] one (All-nil P)))
+pub archived-more : (archive : Archived) (ss ts : List FiledSlot) (s : FiledSlot) → ts ≡ ss ++ s ∷ [] → All (IsInstanceFiled archive) s.instances → AreSlotsFiled archive ss → AreSlotsFiled archive ts
+archived-more archive ss ts s is one all =
+    let P = λ (s : FiledSlot). All (IsInstanceFiled archive) s.instances in
+    subst (λ (us : List FiledSlot). AreSlotsFiled archive us) (sym is) (All-append P ss (s ∷ []) all (All-cons P s [] one (All-nil P)))
 
-pub lodged-same : (archive : Archived) (ss ts : List Lodgings) → ts ≡ ss → AreLodged archive ss → AreLodged archive ts
-lodged-same archive ss ts is all = subst (λ (us : List Lodgings). AreLodged archive us) (sym is) all
+pub archived-same : (archive : Archived) (ss ts : List FiledSlot) → ts ≡ ss → AreSlotsFiled archive ss → AreSlotsFiled archive ts
+archived-same archive ss ts is all = subst (λ (us : List FiledSlot). AreSlotsFiled archive us) (sym is) all
 
 -- the instance of a node
-pub instance-room : (c : Charge) (items : List Lodgings) (k h : ℕ) (y : Lodgings) → (r : IsReady c items k h) → y ≡ get_or items k y → IfSome (slice_get y.instances h) (HasRoomFor c)
+pub instance-room : (c : Charge) (items : List FiledSlot) (k h : ℕ) (y : FiledSlot) → (r : HasReadyNode c items k h) → y ≡ get_or items k y → IfSome (slice_get y.instances h) (HasRoomForCharge c)
 instance-room c items k h y r is =
     let q = at-get items k r.slot y r.slot_is is in
-    subst (λ (s : Lodgings). IfSome (slice_get s.instances h) (HasRoomFor c)) (sym q) (subst (λ (o : Option Lodging). IfSome o (HasRoomFor c)) (sym r.instance_is) r.room)
+    subst (λ (s : FiledSlot). IfSome (slice_get s.instances h) (HasRoomForCharge c)) (sym q) (subst (λ (o : Option FiledInstance). IfSome o (HasRoomForCharge c)) (sym r.instance_is) r.room)
 
 abbrev pub IsSeen : NodeEvent → ℕ → Option Instance → NumberedOuts → Type 0
-IsSeen e count o n = IsGiven (outs_at e o) (numbers_by_kind (emitted_at o) (emissions (outs_at e o))) count n
+IsSeen e count o n = AreOutsGiven (outs_at e o) (numbers_by_kind (emitted_at o) (emissions (outs_at e o))) count n
 
 -- what its event answers
-pub given-seen : (c : Charge) (items : List Lodgings) (k h : ℕ) (y : Lodgings) (e : NodeEvent) (count : ℕ) (n : NumberedOuts) → (r : IsReady c items k h) → y ≡ get_or items k y → IsSeen e count (slice_get (map instance_in y.instances) h) n → IsSeen e count (instance_at (slice_get (slots_of items) k) h) n
+pub given-seen : (c : Charge) (items : List FiledSlot) (k h : ℕ) (y : FiledSlot) (e : NodeEvent) (count : ℕ) (n : NumberedOuts) → (r : HasReadyNode c items k h) → y ≡ get_or items k y → IsSeen e count (slice_get (map instance_of_filed y.instances) h) n → IsSeen e count (instance_at (slice_get (slots_of items) k) h) n
 given-seen c items k h y e count n r is g =
     let q = at-get items k r.slot y r.slot_is is in
-    subst (λ (o : Option Instance). IsSeen e count o n) (ap (λ (s : Lodgings). slice_get (map instance_in s.instances) h) q ∙ sym (seen-at items k h r.slot r.slot_is)) g
+    subst (λ (o : Option Instance). IsSeen e count o n) (ap (λ (s : FiledSlot). slice_get (map instance_of_filed s.instances) h) q ∙ sym (seen-at items k h r.slot r.slot_is)) g

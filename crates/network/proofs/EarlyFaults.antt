@@ -13,7 +13,7 @@ use Rattle.codec.specs.Spelling.{version_of}
 use Rattle.codec.specs.Faults.{HasOtherKind, HasOtherVersion, version_fault, spare_fault, kind_fault, header_fault, is_among, name_fault, length_fault, count_fault, statement_fault}
 use Rattle.codec.specs.Parts.{part_names, part_before}
 use Rattle.codec.specs.Grammar.{levels_in}
-use Rattle.codec.specs.Reading.{sent_of, name_of, some_or_none, name_at, value_at, ballot_at, optional_at, new_name_at, member_at, members_at, header_at, set_with, inner_at, nested_at, slices_at, values_at, nominated_at, nominate_at, prepare_at, commit_at, externalize_at, body_at, statement_at, version_at, kind_at, parts_at, envelope_at, decoding}
+use Rattle.codec.specs.Reading.{envelope_of, name_of, some_or_none, name_at, value_at, ballot_at, optional_at, new_name_at, member_at, member_list_at, header_at, set_with, inner_at, nested_at, slices_at, values_at, nominated_at, nominate_at, prepare_at, commit_at, externalize_at, body_at, statement_at, version_at, kind_at, parts_at, envelope_at, decoding}
 use Rattle.codec.proofs.FieldLaws.{chosen, ok_is}
 use Rattle.codec.proofs.FormatLaws.{bind_err, err_is}
 
@@ -224,8 +224,8 @@ unfolding optional_at
 lately_optional = lately_as (lately_either (lately_none (tt {0})) lately_ballot 0 1 BadStatement tt) some_or_none
 
 -- ---- slices
-lately_members : (set_of : List ℕ → Reads Slices) → ((seen : List ℕ) → Lately (set_of seen)) → (n : ℕ) (seen : List ℕ) → Lately (members_at set_of n seen)
-unfolding members_at member_at new_name_at
+lately_members : (set_of : List ℕ → Reads Slices) → ((seen : List ℕ) → Lately (set_of seen)) → (n : ℕ) (seen : List ℕ) → Lately (member_list_at set_of n seen)
+unfolding member_list_at member_at new_name_at
 lately_members set_of inside zero seen = lately_none none
 lately_members set_of inside (suc n) seen =
     lately_as (lately_then (lately_either (lately_judged lately_name (name_fault seen) (name_late seen)) (inside seen) 0 1 BadSlices tt) (λ m. lately_members set_of inside n (seen ++ part_names m))) (λ x. part_before x.0 x.1)
@@ -334,7 +334,7 @@ behind_version text a f e h =
 in_envelope : (text : List ℕ) (f : Fault) → envelope_at text ≡ Err f → IsPlaced text f
 unfolding envelope_at
 in_envelope text f e =
-    elim (bind_err (read_then version_at behind text) (λ x. Ok (sent_of x.0, x.1)) f e) [
+    elim (bind_err (read_then version_at behind text) (λ x. Ok (envelope_of x.0, x.1)) f e) [
       | inl h ↦ elim (bind_err (version_at text) (λ (v : ℕ × List ℕ). behind v.0 v.1 >>= λ b. Ok ((v.0, b.0), b.1)) f h) [
         | inl v ↦ in_version text f v
         | inr v ↦ elim (bind_err (behind v.0.0 v.0.1) (λ b. Ok ((v.0.0, b.0), b.1)) f v.2) [
@@ -342,7 +342,7 @@ in_envelope text f e =
           | inr b ↦ absurd (not_both ((v.0.0, b.0.0), b.0.1) f b.2)
         ]
       ]
-      | inr h ↦ absurd (not_both (sent_of h.0.0, h.0.1) f h.2)
+      | inr h ↦ absurd (not_both (envelope_of h.0.0, h.0.1) f h.2)
     ]
 
 -- what was read, where nothing is left

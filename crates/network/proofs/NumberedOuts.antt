@@ -13,11 +13,11 @@ use Rattle.envstore.specs.Archives.{sent_of, sents_of}
 use Rattle.protocol.specs.Rows.{is_kind}
 use Rattle.network.specs.Marks.{numbers_by_kind}
 use Rattle.protocol.specs.Networks.{emissions}
-use Rattle.slot.specs.Filings.{outs_of}
+use Rattle.slot.specs.Filings.{whole_outs}
 use Rattle.slot.specs.declared.filed.FiledOut.{FiledOut}
 use Rattle.slot.specs.declared.filed.FiledOut.TheVariants.{ArmNomination, ArmBallot, Emit, Externalized}
 use Rattle.std.proofs.Math.Seq.{drop-cons}
-use Rattle.network.specs.Lodgings.{HaveRoom}
+use Rattle.network.specs.FiledSlots.{HaveRoom}
 use Rattle.network.specs.EmissionsByKind.{AreByKind, places_of_kind}
 use Rattle.network.specs.declared.emission_log.PlacesByKind.{PlacesByKind}
 use Rattle.network.proofs.EmissionsByKind.{count_of_kind, of_kind, places_next}
@@ -82,29 +82,29 @@ sent-at None q e = ap (option_map sent_of) e
 sent-at (Some f) q e = ap (option_map sent_of) e
 
 -- ---- outs one after another
-first-out : (x : FiledOut) (xs : List FiledOut) → emissions (outs_of (x ∷ xs)) ≡ emissions (outs_of (x ∷ [])) ++ emissions (outs_of xs)
+first-out : (x : FiledOut) (xs : List FiledOut) → emissions (whole_outs (x ∷ xs)) ≡ emissions (whole_outs (x ∷ [])) ++ emissions (whole_outs xs)
 first-out (ArmNomination r) xs = refl
 first-out (ArmBallot n) xs = refl
 first-out (Emit f) xs = refl
 first-out (Externalized v) xs = refl
 
-next-out : (outs : List FiledOut) (i : ℕ) (x : FiledOut) → i < length outs → x ≡ get_or outs i x → emissions (outs_of (drop i outs)) ≡ emissions (outs_of (x ∷ [])) ++ emissions (outs_of (drop (i + 1) outs))
+next-out : (outs : List FiledOut) (i : ℕ) (x : FiledOut) → i < length outs → x ≡ get_or outs i x → emissions (whole_outs (drop i outs)) ≡ emissions (whole_outs (x ∷ [])) ++ emissions (whole_outs (drop (i + 1) outs))
 next-out outs i x l is =
     let z : suc i ≡ i + 1 = omega arith in
-    ap (λ (os : List FiledOut). emissions (outs_of os)) (drop-cons outs i x l ∙ (λ j. sym is j ∷ drop (z j) outs)) ∙ first-out x (drop (i + 1) outs)
+    ap (λ (os : List FiledOut). emissions (whole_outs os)) (drop-cons outs i x l ∙ (λ j. sym is j ∷ drop (z j) outs)) ∙ first-out x (drop (i + 1) outs)
 
 pub emitted-more : (so sn start : List Sent) (outs : List FiledOut) (i : ℕ) (x : FiledOut) → i < length outs → x ≡ get_or outs i x
-    → sn ≡ so ++ emissions (outs_of (x ∷ [])) → so ++ emissions (outs_of (drop i outs)) ≡ start → sn ++ emissions (outs_of (drop (i + 1) outs)) ≡ start
+    → sn ≡ so ++ emissions (whole_outs (x ∷ [])) → so ++ emissions (whole_outs (drop i outs)) ≡ start → sn ++ emissions (whole_outs (drop (i + 1) outs)) ≡ start
 emitted-more so sn start outs i x l is more before =
-    let rest = emissions (outs_of (drop (i + 1) outs)) in
-    ap (λ ts. ts ++ rest) more ∙ append_assoc so (emissions (outs_of (x ∷ []))) rest ∙ sym (ap (λ ts. so ++ ts) (next-out outs i x l is)) ∙ before
+    let rest = emissions (whole_outs (drop (i + 1) outs)) in
+    ap (λ ts. ts ++ rest) more ∙ append_assoc so (emissions (whole_outs (x ∷ []))) rest ∙ sym (ap (λ ts. so ++ ts) (next-out outs i x l is)) ∙ before
 
 pub marks-more : (so sn : List Sent) (mo mn start : List ℕ) (outs : List FiledOut) (i : ℕ) (x : FiledOut) → i < length outs → x ≡ get_or outs i x
-    → sn ≡ so ++ emissions (outs_of (x ∷ [])) → mn ≡ mo ++ numbers_by_kind so (emissions (outs_of (x ∷ []))) → mo ++ numbers_by_kind so (emissions (outs_of (drop i outs))) ≡ start
-    → mn ++ numbers_by_kind sn (emissions (outs_of (drop (i + 1) outs))) ≡ start
+    → sn ≡ so ++ emissions (whole_outs (x ∷ [])) → mn ≡ mo ++ numbers_by_kind so (emissions (whole_outs (x ∷ []))) → mo ++ numbers_by_kind so (emissions (whole_outs (drop i outs))) ≡ start
+    → mn ++ numbers_by_kind sn (emissions (whole_outs (drop (i + 1) outs))) ≡ start
 marks-more so sn mo mn start outs i x l is more marked before =
-    let first = emissions (outs_of (x ∷ [])) in
-    let rest = emissions (outs_of (drop (i + 1) outs)) in
+    let first = emissions (whole_outs (x ∷ [])) in
+    let rest = emissions (whole_outs (drop (i + 1) outs)) in
     (λ j. marked j ++ numbers_by_kind (more j) rest)
     ∙ append_assoc mo (numbers_by_kind so first) (numbers_by_kind (so ++ first) rest)
     ∙ sym (ap (λ ms. mo ++ ms) (ap (numbers_by_kind so) (next-out outs i x l is) ∙ numbered-joined so first rest))
@@ -114,8 +114,8 @@ sents-joined : (xs ys : List Sent) → length (xs ++ ys) ≡ length xs + length 
 sents-joined [] ys = omega arith
 sents-joined (x ∷ xs) ys = let h = sents-joined xs ys in omega (arith, h)
 
-pub fewer : (outs : List FiledOut) (i : ℕ) (x : FiledOut) → i < length outs → x ≡ get_or outs i x → length (emissions (outs_of (drop i outs))) ≡ length (emissions (outs_of (x ∷ []))) + length (emissions (outs_of (drop (i + 1) outs)))
-fewer outs i x l is = ap length (next-out outs i x l is) ∙ sents-joined (emissions (outs_of (x ∷ []))) (emissions (outs_of (drop (i + 1) outs)))
+pub fewer : (outs : List FiledOut) (i : ℕ) (x : FiledOut) → i < length outs → x ≡ get_or outs i x → length (emissions (whole_outs (drop i outs))) ≡ length (emissions (whole_outs (x ∷ []))) + length (emissions (whole_outs (drop (i + 1) outs)))
+fewer outs i x l is = ap length (next-out outs i x l is) ∙ sents-joined (emissions (whole_outs (x ∷ []))) (emissions (whole_outs (drop (i + 1) outs)))
 
 -- room for some of them
 pub room-for : (count some rest : ℕ) (emitted : Vec Filed Global) (places : PlacesByKind) (marks : Vec ℕ Global) → count ≡ some + rest → HaveRoom count emitted places marks → HaveRoom some emitted places marks

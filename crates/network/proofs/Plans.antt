@@ -8,8 +8,8 @@ use Rattle.types.specs.declared.event.NodeEvent.{NodeEvent}
 use Rattle.protocol.specs.Networks.{HostedNode, Net, Instance, Slot, act, act_in, node_where_open, after_event, outs_at, node_named, instances_at, slices_of}
 use Rattle.configuration.specs.Configs.{index_in, index_of_name, names_of}
 use Rattle.network.specs.Changes.{changed_at}
-use Rattle.network.specs.Deeds.{IsNodeThere, IsSeat, slots_after_event, index_of_slot, instance_at}
-use Rattle.network.specs.Lodgings.{Seat, Seats, slot_of}
+use Rattle.network.specs.Deeds.{IsNodeThere, IsCountedInstance, slots_after_event, index_of_slot, instance_at}
+use Rattle.network.specs.FiledSlots.{CountedInstance, CountedSlot, slot_of}
 use Rattle.network.specs.Standing.{IsTidy, Machine, StandsFor}
 use Rattle.network.specs.Keyed.{at_key}
 use Rattle.network.proofs.Indexes.{at-index, changed-map}
@@ -24,8 +24,8 @@ places_of s = s.instances
 abbrev name_of : Instance → ℕ
 name_of p = p.node.name
 
-abbrev seat_name : Seat → ℕ
-seat_name x = x.instance.node.name
+abbrev instance_name : CountedInstance → ℕ
+instance_name x = x.instance.node.name
 
 -- ---- looking up
 -- what stands at the place of a key has it
@@ -67,17 +67,17 @@ pub record IsNeat (nodes : List HostedNode) (slots : List Slot) : Type 0 where
   pub names : AllByRecursion (λ s. map name_of s.instances ≡ names_of nodes) slots
   pub apart : all_differ (map number_of slots) ≡ true
 
-pub numbers-same : (slots : List Seats) → map number_of (map slot_of slots) ≡ map (λ s. s.number) slots
+pub numbers-same : (slots : List CountedSlot) → map number_of (map slot_of slots) ≡ map (λ s. s.number) slots
 numbers-same [] = refl
 numbers-same (s ∷ ss) = ap (λ (ns : List ℕ). s.number ∷ ns) (numbers-same ss)
 
-names-same : (seats : List Seat) → map name_of (map (λ x. x.instance) seats) ≡ map seat_name seats
+names-same : (is : List CountedInstance) → map name_of (map (λ x. x.instance) is) ≡ map instance_name is
 names-same [] = refl
 names-same (x ∷ xs) = ap (λ (ns : List ℕ). x.instance.node.name ∷ ns) (names-same xs)
 
-all-names : (ns : List ℕ) (slots : List Seats) → AllByRecursion (λ s. map seat_name s.seats ≡ ns) slots → AllByRecursion (λ s. map name_of s.instances ≡ ns) (map slot_of slots)
+all-names : (ns : List ℕ) (slots : List CountedSlot) → AllByRecursion (λ s. map instance_name s.instances ≡ ns) slots → AllByRecursion (λ s. map name_of s.instances ≡ ns) (map slot_of slots)
 all-names ns [] a = tt
-all-names ns (s ∷ ss) a = (names-same s.seats ∙ a.0, all-names ns ss a.1)
+all-names ns (s ∷ ss) a = (names-same s.instances ∙ a.0, all-names ns ss a.1)
 
 pub neat-machine : (m : Machine) → IsTidy m → IsNeat m.config.nodes (map slot_of m.slots)
 neat-machine m t = record {
@@ -90,24 +90,24 @@ pub neat-net : (m : Machine) (net : Net) → IsTidy m → StandsFor m net → Is
 neat-net m net t s = subst (λ (n : Net). IsNeat n.nodes n.slots) (sym s.is) (neat-machine m t)
 
 -- the node at the place of a hosted name and an open slot
-pub seat-there : (m : Machine) (i u k h : ℕ) → IsTidy m → index_of_slot (map slot_of m.slots) i ≡ Some k → index_of_name m.config.nodes u ≡ Some h
-    → (x : Seats) × (y : Seat) × (slice_get m.slots k ≡ Some x) × (slice_get x.seats h ≡ Some y) × (x.number ≡ i) × (y.instance.node.name ≡ u)
-seat-there m i u k h t q r =
-    let a = index-get (λ (s : Seats). s.number) m.slots i k (ap (λ ns. index_in ns i) (sym (numbers-same m.slots)) ∙ q) in
-    let b = index-get seat_name a.0.seats u h (ap (λ ns. index_in ns u) (at-place (λ (s : Seats). map seat_name s.seats ≡ names_of m.config.nodes) m.slots k a.0 t.names a.1) ∙ r) in
+pub instance-there : (m : Machine) (i u k h : ℕ) → IsTidy m → index_of_slot (map slot_of m.slots) i ≡ Some k → index_of_name m.config.nodes u ≡ Some h
+    → (x : CountedSlot) × (y : CountedInstance) × (slice_get m.slots k ≡ Some x) × (slice_get x.instances h ≡ Some y) × (x.number ≡ i) × (y.instance.node.name ≡ u)
+instance-there m i u k h t q r =
+    let a = index-get (λ (s : CountedSlot). s.number) m.slots i k (ap (λ ns. index_in ns i) (sym (numbers-same m.slots)) ∙ q) in
+    let b = index-get instance_name a.0.instances u h (ap (λ ns. index_in ns u) (at-place (λ (s : CountedSlot). map instance_name s.instances ≡ names_of m.config.nodes) m.slots k a.0 t.names a.1) ∙ r) in
     (a.0, b.0, a.1, b.1, a.2, b.2)
 
--- a seat is an instance of the slot
-pub seat-instance : (m : Machine) (k h : ℕ) (y : Seat) → IsSeat m k h y → instance_at (slice_get (map slot_of m.slots) k) h ≡ Some y.instance
-seat-instance m k h y is =
+-- a counted instance is an instance of the slot
+pub counted-instance : (m : Machine) (k h : ℕ) (y : CountedInstance) → IsCountedInstance m k h y → instance_at (slice_get (map slot_of m.slots) k) h ≡ Some y.instance
+counted-instance m k h y is =
     ap (λ o. instance_at o h) (slice_get-map slot_of m.slots k ∙ ap (option_map slot_of) is.1)
-    ∙ slice_get-map (λ (x : Seat). x.instance) is.0.seats h ∙ ap (option_map (λ (x : Seat). x.instance)) is.2
+    ∙ slice_get-map (λ (x : CountedInstance). x.instance) is.0.instances h ∙ ap (option_map (λ (x : CountedInstance). x.instance)) is.2
 
-pub node-there : (m : Machine) (k h : ℕ) (y : Seat) → IsSeat m k h y → IsNodeThere (map slot_of m.slots) k h
+pub node-there : (m : Machine) (k h : ℕ) (y : CountedInstance) → IsCountedInstance m k h y → IsNodeThere (map slot_of m.slots) k h
 node-there m k h y is =
-    let e = seat-instance m k h y is in
+    let e = counted-instance m k h y is in
     let at : slice_get (map slot_of m.slots) k ≡ Some (slot_of is.0) = slice_get-map slot_of m.slots k ∙ ap (option_map slot_of) is.1 in
-    (slot_of is.0, at, slice_get_within (map (λ (x : Seat). x.instance) is.0.seats) h y.instance (slice_get-map (λ (x : Seat). x.instance) is.0.seats h ∙ ap (option_map (λ (x : Seat). x.instance)) is.2))
+    (slot_of is.0, at, slice_get_within (map (λ (x : CountedInstance). x.instance) is.0.instances) h y.instance (slice_get-map (λ (x : CountedInstance). x.instance) is.0.instances h ∙ ap (option_map (λ (x : CountedInstance). x.instance)) is.2))
 
 -- ---- the node of a name at a slot
 pub known-instance : (nodes : List HostedNode) (ps : List Instance) (u h : ℕ) → map name_of ps ≡ names_of nodes → index_in (names_of nodes) u ≡ Some h → node_named ps u ≡ slice_get ps h

@@ -15,7 +15,7 @@ use Rattle.codec.specs.Spelling.{name, value, ballot, optional, nominated_values
 use Rattle.codec.specs.Faults.{version_fault, spare_fault, kind_fault, header_fault, name_fault, length_fault, count_fault, statement_fault}
 use Rattle.codec.specs.Parts.{Part, part_names, part_before}
 use Rattle.codec.specs.Grammar.{levels_in}
-use Rattle.codec.specs.Reading.{sent_of, name_of, some_or_none, name_at, value_at, ballot_at, optional_at, new_name_at, member_at, members_at, header_at, set_with, inner_at, nested_at, slices_at, values_at, nominated_at, nominate_at, prepare_at, commit_at, externalize_at, body_at, statement_at, version_at, kind_at, parts_at, envelope_at, decoding}
+use Rattle.codec.specs.Reading.{envelope_of, name_of, some_or_none, name_at, value_at, ballot_at, optional_at, new_name_at, member_at, member_list_at, header_at, set_with, inner_at, nested_at, slices_at, values_at, nominated_at, nominate_at, prepare_at, commit_at, externalize_at, body_at, statement_at, version_at, kind_at, parts_at, envelope_at, decoding}
 use Rattle.codec.proofs.FieldLaws.{bind_ok, passed, passed_true, chosen, ok_is}
 
 -- ---- reading in parts
@@ -175,8 +175,8 @@ length-put (inl u, ms) = omega (arith, length-append (name u) (members ms))
 length-put (inr q, ms) = omega (arith, length-append (members q.members) (members ms))
 
 measures-members : (set_of : List ℕ → Reads Slices) → ((seen : List ℕ) → Measures (set_of seen) (λ q. length (slices q))) → (n : ℕ) (seen : List ℕ)
-    → Measures (members_at set_of n seen) (λ ms. length (members ms))
-unfolding members_at member_at new_name_at
+    → Measures (member_list_at set_of n seen) (λ ms. length (members ms))
+unfolding member_list_at member_at new_name_at
 measures-members set_of inside zero seen = measures-none none (λ ms. length (members ms)) refl
 measures-members set_of inside (suc n) seen =
     measures-as (measures-then (measures-either (measures-judged measures-name (name_fault seen)) (inside seen) 0 1 BadSlices) (λ m. measures-members set_of inside n (seen ++ part_names m))) (λ x. part_before x.0 x.1) (λ ms. length (members ms)) length-put
@@ -243,7 +243,7 @@ measures-envelope : Measures envelope_at (λ e. length (spelling e))
 unfolding envelope_at version_at kind_at parts_at
 measures-envelope =
     measures-as (measures-then (measures-judged measures-byte version_fault) (λ v. measures-then (measures-judged measures-byte kind_fault) (λ k. measures-then measures-name (λ u. measures-then (measures-number w64) (λ n. measures-then (measures-slices v) (λ q. measures-statement k))))))
-    sent_of (λ e. length (spelling e)) (λ x. simp length-append (omega arith))
+    envelope_of (λ e. length (spelling e)) (λ x. simp length-append (omega arith))
 
 -- what was read, where nothing is left
 abbrev ended : Sent × List ℕ → Result Sent Fault

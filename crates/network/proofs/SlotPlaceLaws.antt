@@ -13,8 +13,8 @@ use Rattle.configuration.specs.Configs.{index_in}
 use Rattle.network.specs.Changes.{IsChangedAt}
 use Rattle.network.specs.Charges.{IsSlotActed}
 use Rattle.network.specs.Doings.{slots_of}
-use Rattle.network.specs.Lodgings.{Lodgings}
-use Rattle.network.specs.SlotPlaces.{AreIndexed, slot_places_without, place_without, kept_for, kept_with, kept_without, number_kept, numbers_of}
+use Rattle.network.specs.FiledSlots.{FiledSlot}
+use Rattle.network.specs.SlotPlaces.{AreSlotsIndexed, slot_places_without, place_without, kept_for, kept_with, kept_without, number_kept, slot_numbers}
 use Rattle.network.specs.declared.plan.Charge.{Charge}
 use Rattle.network.specs.declared.slot_index.SlotPlace.{SlotPlace}
 use Rattle.network.proofs.Indexes.{another, at-index, at-none}
@@ -225,50 +225,50 @@ kept-so es n at h l none =
     absurd (cc)
 
 -- ---- the index of open slots
-abbrev number_at : Lodgings → ℕ
+abbrev number_at : FiledSlot → ℕ
 number_at s = s.number
 
-pub numbers-are : (ss : List Lodgings) → map (λ (s : Slot). s.number) (slots_of ss) ≡ numbers_of ss
+pub numbers-are : (ss : List FiledSlot) → map (λ (s : Slot). s.number) (slots_of ss) ≡ slot_numbers ss
 numbers-are [] = refl
 numbers-are (s ∷ ss) = ap (λ (ns : List ℕ). s.number ∷ ns) (numbers-are ss)
 
-pub stands-at : (slots : List Lodgings) (k : ℕ) (x : Lodgings) → all_differ (numbers_of slots) ≡ true → k < length slots
-    → x ≡ get_or slots k x → index_in (numbers_of slots) x.number ≡ Some k
+pub stands-at : (slots : List FiledSlot) (k : ℕ) (x : FiledSlot) → all_differ (slot_numbers slots) ≡ true → k < length slots
+    → x ≡ get_or slots k x → index_in (slot_numbers slots) x.number ≡ Some k
 stands-at slots k x d l is =
-    index-at (numbers_of slots) k x.number d (subst (λ n. k < n) (sym (length-map slots number_at)) l)
+    index-at (slot_numbers slots) k x.number d (subst (λ n. k < n) (sym (length-map slots number_at)) l)
     (get_or-map number_at slots k x 0 l ∙ sym (ap number_at is))
 
-pub indexed-more : (slots : List Lodgings) (s : Lodgings) (old new : List SlotPlace)
-    → index_in (numbers_of slots) s.number ≡ None → AreIndexed slots old
-    → ((i : ℕ) → kept_for new i ≡ kept_with s.number (length slots) old i) → AreIndexed (slots ++ s ∷ []) new
+pub indexed-more : (slots : List FiledSlot) (s : FiledSlot) (old new : List SlotPlace)
+    → index_in (slot_numbers slots) s.number ≡ None → AreSlotsIndexed slots old
+    → ((i : ℕ) → kept_for new i ≡ kept_with s.number (length slots) old i) → AreSlotsIndexed (slots ++ s ∷ []) new
 indexed-more slots s old new none indexed noted = record {
   finds = λ i. noted i
       ∙ ap₂ (λ (n : ℕ) (o : Option ℕ). if s.number == i then Some n else o) (sym (length-map slots number_at)) (indexed.finds i)
-      ∙ sym (index-pushed (numbers_of slots) s.number i none)
+      ∙ sym (index-pushed (slot_numbers slots) s.number i none)
       ∙ ap (λ ns. index_in ns i) (sym (map-append number_at slots (s ∷ [])));
 }
 
-pub indexed-less : (slots : List Lodgings) (k : ℕ) (x : Lodgings) (old new : List SlotPlace)
-    → all_differ (numbers_of slots) ≡ true → k < length slots → x ≡ get_or slots k x → AreIndexed slots old
+pub indexed-less : (slots : List FiledSlot) (k : ℕ) (x : FiledSlot) (old new : List SlotPlace)
+    → all_differ (slot_numbers slots) ≡ true → k < length slots → x ≡ get_or slots k x → AreSlotsIndexed slots old
     → ((i : ℕ) → kept_for new i ≡ kept_without x.number k old i)
-    → AreIndexed (remove slots k) new
+    → AreSlotsIndexed (remove slots k) new
 indexed-less slots k x old new d l is indexed forgotten = record {
   finds = λ i. forgotten i
       ∙ ap (λ (o : Option ℕ). if x.number == i then None else option_map (place_without k) o) (indexed.finds i)
-      ∙ sym (index-removed (numbers_of slots) x.number k i d (stands-at slots k x d l is))
+      ∙ sym (index-removed (slot_numbers slots) x.number k i d (stands-at slots k x d l is))
       ∙ ap (λ ns. index_in ns i) (sym (map-remove number_at slots k));
 }
 
 -- an event of a node leaves the numbers
-numbers-acted : (c : Charge) (h k : ℕ) (e : NodeEvent) (old new : List Lodgings)
-    → IsChangedAt (IsSlotActed c h e) k old new → numbers_of new ≡ numbers_of old
+numbers-acted : (c : Charge) (h k : ℕ) (e : NodeEvent) (old new : List FiledSlot)
+    → IsChangedAt (IsSlotActed c h e) k old new → slot_numbers new ≡ slot_numbers old
 numbers-acted c h k e [] new r = absurd r
 numbers-acted c h k e (x ∷ xs) [] r = absurd r
-numbers-acted c h zero e (x ∷ xs) (y ∷ ys) r = ap₂ (λ (n : ℕ) (ns : List ℕ). n ∷ ns) r.0.number (sym (ap numbers_of r.1))
+numbers-acted c h zero e (x ∷ xs) (y ∷ ys) r = ap₂ (λ (n : ℕ) (ns : List ℕ). n ∷ ns) r.0.number (sym (ap slot_numbers r.1))
 numbers-acted c h (suc k) e (x ∷ xs) (y ∷ ys) r = ap₂ (λ (n : ℕ) (ns : List ℕ). n ∷ ns) (sym (ap number_at r.0)) (numbers-acted c h k e xs ys r.1)
 
-pub indexed-acted : {A E : Type 0} (result : Result A E) (c : Charge) (h k : ℕ) (e : NodeEvent) (old new : List Lodgings) (index : List SlotPlace)
+pub indexed-acted : {A E : Type 0} (result : Result A E) (c : Charge) (h k : ℕ) (e : NodeEvent) (old new : List FiledSlot) (index : List SlotPlace)
     → OnOk result (IsChangedAt (IsSlotActed c h e) k old new) → OnErr result (new ≡ old)
-    → AreIndexed old index → AreIndexed new index
+    → AreSlotsIndexed old index → AreSlotsIndexed new index
 indexed-acted (Ok a) c h k e old new index done err indexed = record { finds = λ i. indexed.finds i ∙ ap (λ ns. index_in ns i) (sym (numbers-acted c h k e old new done)) }
-indexed-acted (Err a) c h k e old new index done err indexed = subst (λ (ss : List Lodgings). AreIndexed ss index) (sym err) indexed
+indexed-acted (Err a) c h k e old new index done err indexed = subst (λ (ss : List FiledSlot). AreSlotsIndexed ss index) (sym err) indexed

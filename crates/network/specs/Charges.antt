@@ -3,7 +3,7 @@ use Rattle.std.specs.Prelude.{◌≡◌, ◌⊎◌, ℕ, ◌<◌, ◌≤◌, ◌
 use Rattle.types.specs.declared.event.NodeEvent.{NodeEvent}
 use Rattle.protocol.specs.Networks.{after_event}
 use Rattle.network.specs.Changes.{IsChangedAt}
-use Rattle.network.specs.Lodgings.{Lodging, Lodgings, bytes_from, events_from, instance_in}
+use Rattle.network.specs.FiledSlots.{FiledInstance, FiledSlot, bytes_from, events_from, instance_of_filed}
 use Rattle.network.specs.TallyBooks.{TallyBook}
 use Rattle.network.specs.declared.plan.Charge.{Charge}
 use Rattle.network.specs.declared.plan.Drawn.{Drawn}
@@ -31,7 +31,7 @@ abbrev pub on_opens_of : Drawn → ℕ
 on_opens_of Opens = 1
 on_opens_of _ = 0
 
--- the counts of the network stay below their widths with what an event draws on them
+-- with what an event draws on them, the counts of the network stay at most 2^40
 abbrev pub HasRoomOnNetwork : Drawn → ℕ → ℕ → ℕ → ℕ → Type 0
 HasRoomOnNetwork Budgets n events bytes opens = (events < 2 ^ 40) × (bytes + n ≤ 2 ^ 40)
 HasRoomOnNetwork Opens n events bytes opens = opens < 2 ^ 40
@@ -39,24 +39,24 @@ HasRoomOnNetwork _ n events bytes opens = ⊤
 
 -- ---- at a node
 -- its counts are those of before and what is counted
-pub record IsCharged (c : Charge) (old new : Lodging) : Type 0 where
+pub record IsCharged (c : Charge) (old new : FiledInstance) : Type 0 where
   pub own : new.own ≡ old.own + on_own c.drawn
   pub events : (u : ℕ) → events_from new.heard u ≡ events_from old.heard u + on_pair c.drawn 1 u
   pub bytes : (u : ℕ) → bytes_from new.heard u ≡ bytes_from old.heard u + on_pair c.drawn c.size u
 
--- so many bytes more stay below the width, or there are none
+-- with n bytes more the count stays at most 2^40, or n is 0
 abbrev pub FitsOrNone : ℕ → ℕ → Type 0
 FitsOrNone bytes n = (bytes + n ≤ 2 ^ 40) ⊎ (n ≡ 0)
 
--- the counts of a node stay below their widths with what an event draws on them
+-- with what an event draws on them, the counts of a node stay at most 2^40
 abbrev pub HasRoomInCounts : Drawn → ℕ → ℕ → List Tally → Type 0
 HasRoomInCounts (Own k h) n own heard = own < 2 ^ 40
 HasRoomInCounts (Pair k h u) n own heard = (events_from heard u < 2 ^ 40) × FitsOrNone (bytes_from heard u) n
 HasRoomInCounts _ n own heard = ⊤
 
--- the counts of a node at a slot stay below their widths with what an event draws on them
-abbrev pub HasRoomFor : Charge → Lodging → Type 0
-HasRoomFor c l = HasRoomInCounts c.drawn c.size l.own l.heard
+-- with what an event draws on them, the counts of a node at a slot stay at most 2^40
+abbrev pub HasRoomForCharge : Charge → FiledInstance → Type 0
+HasRoomForCharge c l = HasRoomInCounts c.drawn c.size l.own l.heard
 
 -- there is room for the tally of one more name, where an event draws on what comes from one
 abbrev pub HasRoomToTally : Drawn → TallyBook → Type 0
@@ -64,20 +64,20 @@ HasRoomToTally (Pair k h u) b = 0 < b.room
 HasRoomToTally _ b = ⊤
 
 -- a node took one event, which is counted at it
-pub record IsActed (c : Charge) (e : NodeEvent) (old new : Lodging) : Type 0 where
-  pub instance : instance_in new ≡ after_event e (instance_in old)
+pub record IsActed (c : Charge) (e : NodeEvent) (old new : FiledInstance) : Type 0 where
+  pub instance : instance_of_filed new ≡ after_event e (instance_of_filed old)
   pub charged : IsCharged c old new
 
 -- ---- at the open slots
 -- the node at this place of a slot took one event, which is counted at it
-pub record IsSlotActed (c : Charge) (h : ℕ) (e : NodeEvent) (old new : Lodgings) : Type 0 where
+pub record IsSlotActed (c : Charge) (h : ℕ) (e : NodeEvent) (old new : FiledSlot) : Type 0 where
   pub number : new.number ≡ old.number
   pub instances : IsChangedAt (IsActed c e) h old.instances new.instances
 
--- there is a node at these places, whose counts stay below their widths
-pub record IsReady (c : Charge) (slots : List Lodgings) (k h : ℕ) : Type 0 where
-  pub slot : Lodgings
-  pub instance : Lodging
+-- there is a node at these places, whose counts stay at most 2^40 with what is counted
+pub record HasReadyNode (c : Charge) (slots : List FiledSlot) (k h : ℕ) : Type 0 where
+  pub slot : FiledSlot
+  pub instance : FiledInstance
   pub slot_is : slice_get slots k ≡ Some slot
   pub instance_is : slice_get slot.instances h ≡ Some instance
-  pub room : HasRoomFor c instance
+  pub room : HasRoomForCharge c instance

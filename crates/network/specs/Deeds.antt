@@ -15,10 +15,10 @@ use Rattle.protocol.specs.Rosters.Source.{OfBudgets, OfOpens, OfShare}
 use Rattle.slot.specs.Filings.{IsFiledEvent, event_of}
 use Rattle.network.specs.Changes.{changed_at}
 use Rattle.configuration.specs.Configs.{index_in, index_of_name}
-use Rattle.network.specs.Lodgings.{IsLodged, IsUncounted, Seat, Seats, seats_of, slot_of}
+use Rattle.network.specs.FiledSlots.{CountedInstance, CountedSlot, IsInstanceFiled, HasDrawnNothing, counted_slot, slot_of}
 use Rattle.network.specs.Answers.{delivered_of}
 use Rattle.network.specs.Marks.{slot_and_node_of}
-use Rattle.network.specs.Standing.{IsAllowed, IsFirstRefusal, IsRefusal, Machine, Standing, StandsFor, machine_of}
+use Rattle.network.specs.Standing.{IsAllowed, IsFirstRefusal, IsRefusal, Machine, FiledMachine, StandsFor, machine_of}
 use Rattle.network.specs.declared.plan.Deed.{Deed}
 use Rattle.network.specs.declared.plan.Deed.TheVariants.{Open, Close, Act, Hand}
 use Rattle.network.specs.declared.plan.Drawn.{Drawn}
@@ -41,25 +41,25 @@ slots_after_event slots k h e =
     changed_at {X = Slot} k (λ (s : Slot). record s { instances = changed_at h (after_event e) s.instances }) slots
 
 abbrev pub slots_after : List Slot → Deed → List Slot
-slots_after slots (Open s) = slots ++ slot_of (seats_of s) ∷ []
+slots_after slots (Open s) = slots ++ slot_of (counted_slot s) ∷ []
 slots_after slots (Close k) = remove slots k
 slots_after slots (Act k h e) = slots_after_event slots k h (event_of e)
 slots_after slots (Hand k h e) = slots_after_event slots k h (NodeEvent.Take e)
 
 -- what a deed, which is told by places, gives out
-abbrev pub outs_after : List Slot → Deed → List Out
-outs_after slots (Open s) = []
-outs_after slots (Close k) = []
-outs_after slots (Act k h e) = outs_at (event_of e) (instance_at (slice_get slots k) h)
-outs_after slots (Hand k h e) = outs_at (NodeEvent.Take e) (instance_at (slice_get slots k) h)
+abbrev pub outs_of_deed : List Slot → Deed → List Out
+outs_of_deed slots (Open s) = []
+outs_of_deed slots (Close k) = []
+outs_of_deed slots (Act k h e) = outs_at (event_of e) (instance_at (slice_get slots k) h)
+outs_of_deed slots (Hand k h e) = outs_at (NodeEvent.Take e) (instance_at (slice_get slots k) h)
 
 -- there is a node at these places
 abbrev pub IsNodeThere : List Slot → ℕ → ℕ → Type 0
 IsNodeThere slots k h = (s : Slot) × (slice_get slots k ≡ Some s) × (h < length s.instances)
 
--- the places are there; the nodes of a slot that is opened have drawn nothing
+-- the places are there, and the archive has the envelopes; the nodes of a slot that is opened have drawn nothing
 abbrev pub IsThere : Archived → List Slot → Deed → Type 0
-IsThere archive slots (Open s) = All (IsLodged archive) s.instances × All IsUncounted s.instances
+IsThere archive slots (Open s) = All (IsInstanceFiled archive) s.instances × All HasDrawnNothing s.instances
 IsThere archive slots (Close k) = k < length slots
 IsThere archive slots (Act k h e) = IsNodeThere slots k h × IsFiledEvent archive e
 IsThere archive slots (Hand k h e) = IsNodeThere slots k h
@@ -86,12 +86,12 @@ envelope_to_file (Act k h x) = None
 envelope_to_file (Hand k h x) = Some x
 
 -- the node at a place of an open slot, with its counts
-abbrev pub IsSeat : Machine → ℕ → ℕ → Seat → Type 0
-IsSeat m k h y = (x : Seats) × (slice_get m.slots k ≡ Some x) × (slice_get x.seats h ≡ Some y)
+abbrev pub IsCountedInstance : Machine → ℕ → ℕ → CountedInstance → Type 0
+IsCountedInstance m k h y = (x : CountedSlot) × (slice_get m.slots k ≡ Some x) × (slice_get x.instances h ≡ Some y)
 
 -- there is a node at this place of an open slot
-abbrev pub IsSeatThere : Machine → ℕ → ℕ → Type 0
-IsSeatThere m k h = (y : Seat) × IsSeat m k h y
+abbrev pub IsInstanceThere : Machine → ℕ → ℕ → Type 0
+IsInstanceThere m k h = (y : CountedInstance) × IsCountedInstance m k h y
 
 -- ---- on what it draws, by places
 -- what is drawn on by places is this source of the definitions
@@ -99,18 +99,18 @@ abbrev pub IsDrawn : Machine → Drawn → Source → Type 0
 IsDrawn m Budgets s = s ≡ OfBudgets
 IsDrawn m Opens s = (r : Roster) × (m.config.roster ≡ Some r) × (s ≡ OfOpens r.shares)
 IsDrawn m (Own k h) s =
-    (r : Roster) × (x : Seats) × (y : Seat) × (m.config.roster ≡ Some r) × (slice_get m.slots k ≡ Some x)
-    × (slice_get x.seats h ≡ Some y) × (s ≡ OfShare r.shares x.number (OwnShare y.instance.node.name))
+    (r : Roster) × (x : CountedSlot) × (y : CountedInstance) × (m.config.roster ≡ Some r) × (slice_get m.slots k ≡ Some x)
+    × (slice_get x.instances h ≡ Some y) × (s ≡ OfShare r.shares x.number (OwnShare y.instance.node.name))
 IsDrawn m (Pair k h u) s =
-    (r : Roster) × (x : Seats) × (y : Seat) × (m.config.roster ≡ Some r) × (slice_get m.slots k ≡ Some x)
-    × (slice_get x.seats h ≡ Some y) × (s ≡ OfShare r.shares x.number (PairShare y.instance.node.name u))
+    (r : Roster) × (x : CountedSlot) × (y : CountedInstance) × (m.config.roster ≡ Some r) × (slice_get m.slots k ≡ Some x)
+    × (slice_get x.instances h ≡ Some y) × (s ≡ OfShare r.shares x.number (PairShare y.instance.node.name u))
 
 -- a plan for an event that nothing refuses: what is done by places is what the event does, whatever network the machine
 -- stands for
-pub record IsPlan (m : Standing) (e : Step) (plan : Plan) : Type 0 where
+pub record IsPlan (m : FiledMachine) (e : Step) (plan : Plan) : Type 0 where
   pub allowed : IsAllowed (machine_of m) e
   pub slots : (net : Net) → StandsFor (machine_of m) net → slots_after net.slots plan.deed ≡ (effect net e).0.slots
-  pub outs : (net : Net) → StandsFor (machine_of m) net → outs_after net.slots plan.deed ≡ (effect net e).1
+  pub outs : (net : Net) → StandsFor (machine_of m) net → outs_of_deed net.slots plan.deed ≡ (effect net e).1
   pub named : IsEventOf (machine_of m) e plan.deed
   pub handed : envelope_to_file plan.deed ≡ delivered_of e
   pub drawn : IsDrawn (machine_of m) plan.drawn (source m.config.roster e)
@@ -118,12 +118,12 @@ pub record IsPlan (m : Standing) (e : Step) (plan : Plan) : Type 0 where
   pub there : IsThere m.archive (map slot_of (machine_of m).slots) plan.deed
 
 -- a plan for an event, or a refusal of it
-abbrev pub IsPlanned : Standing → Step → Result Plan Refusal → Type 0
+abbrev pub IsPlanned : FiledMachine → Step → Result Plan Refusal → Type 0
 IsPlanned m e (Ok plan) = IsPlan m e plan
 IsPlanned m e (Err r) = IsRefusal (machine_of m) e r
 
 -- a plan for an event that takes no memory, or the first refusal that applies
-abbrev pub IsPlannedSurely : Standing → Step → Result Plan Refusal → Type 0
+abbrev pub IsPlannedSurely : FiledMachine → Step → Result Plan Refusal → Type 0
 IsPlannedSurely m e (Ok plan) = IsPlan m e plan
 IsPlannedSurely m e (Err r) = IsFirstRefusal (machine_of m) e r
 
@@ -132,8 +132,8 @@ abbrev pub IsDrawnThere : Machine → Drawn → Type 0
 IsDrawnThere m d = (s : Source) × IsDrawn m d s
 
 -- there is room for one more event on what is drawn on, whatever network the machine stands for
-abbrev pub HasRoom : Machine → Drawn → Type 0
-HasRoom m d = (s : Source) (net : Net) → IsDrawn m d s → StandsFor m net → (room_test net s).0 ≡ false
+abbrev pub HasRoomForEvent : Machine → Drawn → Type 0
+HasRoomForEvent m d = (s : Source) (net : Net) → IsDrawn m d s → StandsFor m net → (room_test net s).0 ≡ false
 
 -- there is no room for one more event on what is drawn on, and this is the refusal, whatever network the machine stands
 -- for
@@ -141,8 +141,8 @@ abbrev pub HasNoRoom : Machine → Drawn → Refusal → Type 0
 HasNoRoom m d r = (s : Source) (net : Net) → IsDrawn m d s → StandsFor m net → room_test net s ≡ (true, r)
 
 -- there is room for so many bytes more on what is drawn on, whatever network the machine stands for
-abbrev pub HasRoomForBytes : Machine → Drawn → ℕ → Type 0
-HasRoomForBytes m d size =
+abbrev pub HasRoomForDrawnBytes : Machine → Drawn → ℕ → Type 0
+HasRoomForDrawnBytes m d size =
     (s : Source) (net : Net) → IsDrawn m d s → StandsFor m net → (bytes_test net s size).0 ≡ false
 
 -- there is no room for so many bytes more on what is drawn on, and this is the refusal
@@ -151,11 +151,11 @@ HasNoRoomForBytes m d size r =
     (s : Source) (net : Net) → IsDrawn m d s → StandsFor m net → bytes_test net s size ≡ (true, r)
 
 -- what comes to a node draws on the budgets or on what it gets from a name
-abbrev pub IsPaired : Drawn → Type 0
-IsPaired Budgets = ⊤
-IsPaired Opens = ⊥
-IsPaired (Own k h) = ⊥
-IsPaired (Pair k h u) = ⊤
+abbrev pub IsOfBudgetsOrPair : Drawn → Type 0
+IsOfBudgetsOrPair Budgets = ⊤
+IsOfBudgetsOrPair Opens = ⊥
+IsOfBudgetsOrPair (Own k h) = ⊥
+IsOfBudgetsOrPair (Pair k h u) = ⊤
 
 -- ---- what an event of a node draws on
 -- what an event of a node's own draws on
@@ -169,41 +169,41 @@ pair_source None i u from = OfBudgets
 pair_source (Some r) i u from = share_or_budgets r i (PairShare u from)
 
 -- on what is drawn, where there is room on it for one more event, or the refusal where there is none
-abbrev pub IsRoom : Standing → (Option Roster → Source) → Result Drawn Refusal → Type 0
+abbrev pub IsRoom : FiledMachine → (Option Roster → Source) → Result Drawn Refusal → Type 0
 IsRoom m of (Ok d) =
     IsDrawn (machine_of m) d (of m.config.roster)
     × ((net : Net) → StandsFor (machine_of m) net → (room_test net (of net.roster)).0 ≡ false)
 IsRoom m of (Err r) = (net : Net) → StandsFor (machine_of m) net → room_test net (of net.roster) ≡ (true, r)
 
 -- the open slot of this number stands at this place
-abbrev pub IsSlotThere : Standing → ℕ → ℕ → Type 0
+abbrev pub IsSlotThere : FiledMachine → ℕ → ℕ → Type 0
 IsSlotThere m i k = index_of_slot (map slot_of (machine_of m).slots) i ≡ Some k
 
 -- on what a node's own event draws, where there is room for one more, or the refusal where there is none
-abbrev pub IsOwnRoom : Standing → Spot → ℕ → Result Drawn Refusal → Type 0
+abbrev pub IsOwnRoom : FiledMachine → Spot → ℕ → Result Drawn Refusal → Type 0
 IsOwnRoom m s u result = (i : ℕ) → IsSlotThere m i s.slot_at → IsRoom m (λ o. own_source o i u) result
 
 -- on what an event from a name draws, where there is room for one more, or the refusal where there is none
-abbrev pub IsPairRoom : Standing → Spot → ℕ → ℕ → Result Drawn Refusal → Type 0
+abbrev pub IsPairRoom : FiledMachine → Spot → ℕ → ℕ → Result Drawn Refusal → Type 0
 IsPairRoom m s u from result = (i : ℕ) → IsSlotThere m i s.slot_at → IsRoom m (λ o. pair_source o i u from) result
 
 -- ---- the tests that all events of a node's own share
 -- the places of a hosted node at an open slot
-pub record IsSpot (m : Standing) (i u : ℕ) (s : Spot) : Type 0 where
+pub record IsSpot (m : FiledMachine) (i u : ℕ) (s : Spot) : Type 0 where
   pub slot : IsSlotThere m i s.slot_at
   pub node : index_of_name m.config.nodes u ≡ Some s.node_at
 
 -- the node is not hosted, or the slot is not open
-abbrev pub IsSpotRefused : Standing → ℕ → ℕ → Refusal → Type 0
+abbrev pub IsSpotRefused : FiledMachine → ℕ → ℕ → Refusal → Type 0
 IsSpotRefused m i u r =
     (net : Net) → StandsFor (machine_of m) net → (ts : List (Bool × Refusal))
     → first_that (hosted_test net u ∷ open_test net i ∷ ts) ≡ Some r
 
--- all of them, in their order
+-- the tests of an event of a node's own, in their order
 abbrev pub own_tests : Net → ℕ → ℕ → List (Bool × Refusal)
 own_tests net i u = hosted_test net u ∷ open_test net i ∷ room_test net (own_source net.roster i u) ∷ []
 
--- an event of a node's own that nothing else refuses
+-- an event of a node's own that has no test beside those that all of these share
 pub record IsOwnEvent (i u : ℕ) (x : FiledEvent) (e : Step) : Type 0 where
   pub tests_are : (net : Net) → tests net e ≡ own_tests net i u
   pub effect_is : (net : Net) → effect net e ≡ act net i u (event_of x)
@@ -212,6 +212,6 @@ pub record IsOwnEvent (i u : ℕ) (x : FiledEvent) (e : Step) : Type 0 where
   pub named_is : slot_and_node_of e ≡ Some (i, u)
   pub none_is : delivered_of e ≡ None
 
--- a plan for an event of a node's own that nothing else refuses, or the first refusal that applies
-abbrev pub IsPlannedOwn : Standing → ℕ → ℕ → FiledEvent → Result Plan Refusal → Type 0
+-- a plan for such an event of a node's own, or the first refusal that applies
+abbrev pub IsPlannedOwn : FiledMachine → ℕ → ℕ → FiledEvent → Result Plan Refusal → Type 0
 IsPlannedOwn m i u x result = (e : Step) → IsOwnEvent i u x e → IsPlannedSurely m e result

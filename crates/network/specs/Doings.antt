@@ -7,32 +7,32 @@ use Rattle.types.specs.declared.event.NodeEvent.{NodeEvent}
 use Rattle.types.specs.declared.event.Out.{Out}
 use Rattle.protocol.specs.Networks.{Slot, emissions}
 use Rattle.envstore.specs.Archives.{Archived, IsFiled, sent_of}
-use Rattle.slot.specs.Filings.{AreFiledOuts, IsFiledEvent, copies_of, event_of, outs_of}
+use Rattle.slot.specs.Filings.{AreFiledOuts, IsFiledEvent, copies_of, event_of, whole_outs}
 use Rattle.configuration.specs.Configs.{index_in}
-use Rattle.network.specs.Charges.{IsReady, IsSlotActed}
+use Rattle.network.specs.Charges.{HasReadyNode, IsSlotActed}
 use Rattle.network.specs.Changes.{IsChangedAt}
-use Rattle.network.specs.Deeds.{instance_at, outs_after}
-use Rattle.network.specs.Lodgings.{IsLodged, Lodgings, seats_of, slot_of}
+use Rattle.network.specs.Deeds.{instance_at, outs_of_deed}
+use Rattle.network.specs.FiledSlots.{FiledSlot, IsInstanceFiled, counted_slot, slot_of}
 use Rattle.network.specs.Marks.{numbers_by_kind, emitted_at}
-use Rattle.network.specs.SlotPlaces.{numbers_of}
+use Rattle.network.specs.SlotPlaces.{slot_numbers}
 use Rattle.network.specs.declared.applied.Outcome.{Outcome}
 use Rattle.network.specs.declared.plan.Charge.{Charge}
 use Rattle.network.specs.declared.plan.Deed.{Deed}
 use Rattle.network.specs.declared.plan.Deed.TheVariants.{Open, Close, Act, Hand}
 
 -- open slots of the definitions: their envelopes whole, and no counts
-abbrev pub slots_of : List Lodgings → List Slot
-slots_of slots = map slot_of (map seats_of slots)
+abbrev pub slots_of : List FiledSlot → List Slot
+slots_of slots = map slot_of (map counted_slot slots)
 
 -- a deed can be done: its places are there, the archive has its envelope, and no number of a slot would stand twice
-abbrev pub IsDoable : Archived → Charge → List Lodgings → Deed → Type 0
-IsDoable archive c slots (Open s) = All (IsLodged archive) s.instances × (index_in (numbers_of slots) s.number ≡ None)
-IsDoable archive c slots (Close k) = (k < length slots) × (all_differ (numbers_of slots) ≡ true)
-IsDoable archive c slots (Act k h e) = IsReady c slots k h × IsFiledEvent archive e
-IsDoable archive c slots (Hand k h e) = IsReady c slots k h
+abbrev pub IsDoable : Archived → Charge → List FiledSlot → Deed → Type 0
+IsDoable archive c slots (Open s) = All (IsInstanceFiled archive) s.instances × (index_in (slot_numbers slots) s.number ≡ None)
+IsDoable archive c slots (Close k) = (k < length slots) × (all_differ (slot_numbers slots) ≡ true)
+IsDoable archive c slots (Act k h e) = HasReadyNode c slots k h × IsFiledEvent archive e
+IsDoable archive c slots (Hand k h e) = HasReadyNode c slots k h
 
 -- the open slots after a deed, with what is counted at a node
-abbrev pub IsDone : Charge → Deed → List Lodgings → List Lodgings → Type 0
+abbrev pub IsDone : Charge → Deed → List FiledSlot → List FiledSlot → Type 0
 IsDone c (Open s) old new = new ≡ old ++ s ∷ []
 IsDone c (Close k) old new = new ≡ remove old k
 IsDone c (Act k h e) old new = IsChangedAt (IsSlotActed c h (event_of e)) k old new
@@ -43,14 +43,14 @@ abbrev pub marks_after : List Slot → Deed → List ℕ
 marks_after slots (Open s) = []
 marks_after slots (Close k) = []
 marks_after slots (Act k h e) =
-    numbers_by_kind (emitted_at (instance_at (slice_get slots k) h)) (emissions (outs_after slots (Act k h e)))
+    numbers_by_kind (emitted_at (instance_at (slice_get slots k) h)) (emissions (outs_of_deed slots (Act k h e)))
 marks_after slots (Hand k h e) =
-    numbers_by_kind (emitted_at (instance_at (slice_get slots k) h)) (emissions (outs_after slots (Hand k h e)))
+    numbers_by_kind (emitted_at (instance_at (slice_get slots k) h)) (emissions (outs_of_deed slots (Hand k h e)))
 
 -- what a deed gives out, its marks, so many whole copies, and what was filed
-pub record IsAnswer (outs : List Out) (marks : List ℕ) (delivered : Option Sent) (count : ℕ) (archive : Archived)
+pub record IsDeedAnswer (outs : List Out) (marks : List ℕ) (delivered : Option Sent) (count : ℕ) (archive : Archived)
     (a : Outcome) : Type 0 where
-  pub outs_are : outs_of a.outs.items ≡ outs
+  pub outs_are : whole_outs a.outs.items ≡ outs
   pub marks_are : a.marks.items ≡ marks
   pub copies : map (λ v. v.items) a.copies.items ≡ copies_of count outs
   pub outs_filed : AreFiledOuts archive a.outs.items

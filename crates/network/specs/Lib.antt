@@ -4,7 +4,7 @@ pub mod Marks
 pub mod Decoding
 pub mod EmissionsByKind
 pub mod TallyBooks
-pub mod Lodgings
+pub mod FiledSlots
 pub mod SlotPlaces
 pub mod Charges
 pub mod Standing

@@ -2,7 +2,7 @@
 use Rattle.std.specs.Prelude.{◌≡◌, ℕ, ◌-◌, ◌==◌, nat_lt, List, map, Option, None, Some, option_map, if◌then◌else◌}
 use Rattle.configuration.specs.Configs.{index_in}
 use Rattle.network.specs.Keyed.{at_key}
-use Rattle.network.specs.Lodgings.{Lodgings}
+use Rattle.network.specs.FiledSlots.{FiledSlot}
 use Rattle.network.specs.declared.slot_index.SlotPlace.{SlotPlace}
 
 -- ---- places that are kept by number
@@ -32,9 +32,9 @@ kept_without number place es i = if number == i then None else option_map (place
 
 -- ---- the open slots
 -- the numbers of open slots, in order
-abbrev pub numbers_of : List Lodgings → List ℕ
-numbers_of slots = map (λ s. s.number) slots
+abbrev pub slot_numbers : List FiledSlot → List ℕ
+slot_numbers slots = map (λ s. s.number) slots
 
 -- for each number the place of its slot is kept, and none where no open slot has it
-pub record AreIndexed (slots : List Lodgings) (index : List SlotPlace) : Type 0 where
-  pub finds : (i : ℕ) → kept_for index i ≡ index_in (numbers_of slots) i
+pub record AreSlotsIndexed (slots : List FiledSlot) (index : List SlotPlace) : Type 0 where
+  pub finds : (i : ℕ) → kept_for index i ≡ index_in (slot_numbers slots) i

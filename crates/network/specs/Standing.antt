@@ -17,29 +17,29 @@ use Rattle.protocol.specs.Networks.Reply.{Done}
 use Rattle.protocol.specs.Networks.Step.{Delivers}
 use Rattle.protocol.specs.Rosters.{Draw}
 use Rattle.configuration.specs.Configs.{index_of_name, names_of}
-use Rattle.network.specs.Lodgings.{AreLodged, AreTallied, Lodgings, Seats, seats_of, slot_of}
+use Rattle.network.specs.FiledSlots.{AreSlotsFiled, AreTallied, CountedSlot, FiledSlot, counted_slot, slot_of}
 
--- a network with what each node drew on its shares; the list of all that was ever drawn is not kept
+-- a network as the host counts it: what each node drew on its shares, and no list of all that was ever drawn
 pub record Machine : Type 0 where
   pub config : Config
-  pub slots : List Seats
+  pub slots : List CountedSlot
   pub events : ℕ
   pub bytes : ℕ
   pub opens : ℕ
 
--- a network with what each node drew on its shares, with its archive and its envelopes as they lie there
-pub record Standing : Type 0 where
+-- the same as the host keeps it, with its archive and its envelopes as they lie there
+pub record FiledMachine : Type 0 where
   pub config : Config
   pub archive : Archived
-  pub slots : List Lodgings
+  pub slots : List FiledSlot
   pub events : ℕ
   pub bytes : ℕ
   pub opens : ℕ
 
 -- a network without its archive: its envelopes whole
-abbrev pub machine_of : Standing → Machine
+abbrev pub machine_of : FiledMachine → Machine
 machine_of m =
-    record { config = m.config; slots = map seats_of m.slots; events = m.events; bytes = m.bytes; opens = m.opens }
+    record { config = m.config; slots = map counted_slot m.slots; events = m.events; bytes = m.bytes; opens = m.opens }
 
 -- the network, where this was drawn
 abbrev pub net_of : Machine → List Draw → Net
@@ -71,18 +71,18 @@ pub record IsOfSlot (i : ℕ) (p : Instance) : Type 0 where
 -- node is of its slot; the bytes keep the budget
 pub record IsTidy (m : Machine) : Type 0 where
   pub single : all_differ (names_of m.config.nodes) ≡ true
-  pub names : AllByRecursion (λ s. map (λ x. x.instance.node.name) s.seats ≡ names_of m.config.nodes) m.slots
+  pub names : AllByRecursion (λ s. map (λ x. x.instance.node.name) s.instances ≡ names_of m.config.nodes) m.slots
   pub apart : all_differ (map (λ s. s.number) m.slots) ≡ true
-  pub own : AllByRecursion (λ s. AllByRecursion (λ x. IsOfSlot s.number x.instance) s.seats) m.slots
+  pub own : AllByRecursion (λ s. AllByRecursion (λ x. IsOfSlot s.number x.instance) s.instances) m.slots
   pub bytes : m.bytes ≤ m.config.budgets.bytes
 
 -- it stands for some network
 abbrev pub IsStood : Machine → Type 0
 IsStood m = (draws : List Draw) × AreTallied draws m.slots
 
--- a machine stands for a network of the definitions, is tidy, and its archive has all its envelopes
-pub record IsStanding (m : Standing) : Type 0 where
-  pub lodged : AreLodged m.archive m.slots
+-- its archive has all its envelopes; and as a machine it is tidy, and stands for a network of the definitions
+pub record IsStanding (m : FiledMachine) : Type 0 where
+  pub archived : AreSlotsFiled m.archive m.slots
   pub tidy : IsTidy (machine_of m)
   pub stood : IsStood (machine_of m)
 
@@ -93,8 +93,8 @@ node_at net i u = option_map (λ p. p.node) (node_where_open (instances_at net.s
 
 -- the slices of a node at a slot of a network, as they are now; there are none where the slot is not open, and where
 -- the node is not hosted
-abbrev pub slices_at : Net → ℕ → ℕ → Option Slices
-slices_at net i u = option_map (λ p. p.node.slices) (node_where_open (instances_at net.slots i) u)
+abbrev pub slices_of_node : Net → ℕ → ℕ → Option Slices
+slices_of_node net i u = option_map (λ p. p.node.slices) (node_where_open (instances_at net.slots i) u)
 
 -- ---- what an event is answered
 -- the answer to an event is the network's step, for each network for which the machine stands
@@ -119,11 +119,11 @@ is_found_early (Fault n) = n == fault_number Version || n == fault_number Kind
 abbrev pub MayTakeMemory : ℕ → Reading → Type 0
 MayTakeMemory size said = (size ≤ most_bytes) × (is_found_early said ≡ false)
 
--- such bytes come to a hosted node: they are read before all that the order of refusals has behind them
-abbrev pub AreBytesRead : List HostedNode → Step → Type 0
-AreBytesRead nodes (Delivers u size said) = ((h : ℕ) × (index_of_name nodes u ≡ Some h)) × MayTakeMemory size said
-AreBytesRead nodes _ = ⊥
+-- the event delivers bytes to a hosted node, and reading them may take memory
+abbrev pub IsDeliveryThatTakesMemory : List HostedNode → Step → Type 0
+IsDeliveryThatTakesMemory nodes (Delivers u size said) = ((h : ℕ) × (index_of_name nodes u ≡ Some h)) × MayTakeMemory size said
+IsDeliveryThatTakesMemory nodes _ = ⊥
 
 -- the first refusal that applies; or memory is wanting, and none applies, save that bytes were being read
 abbrev pub IsRefusal : Machine → Step → Refusal → Type 0
-IsRefusal m e r = ((r ≡ NoMemory) × (IsAllowed m e ⊎ AreBytesRead m.config.nodes e)) ⊎ IsFirstRefusal m e r
+IsRefusal m e r = ((r ≡ NoMemory) × (IsAllowed m e ⊎ IsDeliveryThatTakesMemory m.config.nodes e)) ⊎ IsFirstRefusal m e r

@@ -9,8 +9,8 @@ pub record TallyBook : Type 0 where
   pub room : ℕ
 
 -- the names of which there are tallies
-abbrev pub names_in : List Tally → List ℕ
-names_in ts = map (λ t. t.from) ts
+abbrev pub tallied_names : List Tally → List ℕ
+tallied_names ts = map (λ t. t.from) ts
 
 -- the place of a name's tally; or it has none, and this is where one would keep the names ascending
 abbrev pub IsTallyPlace : List Tally → ℕ → Result ℕ ℕ → Type 0

@@ -12,14 +12,14 @@ ghost use Rattle.envstore.specs.Archives.{Keeps};
 ghost use Rattle.protocol.specs.Rosters.{Roster as Names};
 ghost use Rattle.slot.specs.Filings.{IsFiledEvent, event_of};
 ghost use Rattle.types.specs.declared.event.NodeEvent.{NodeEvent};
-ghost use Rattle.network.specs.Answers.{IsApplied, IsLeft};
+ghost use Rattle.network.specs.Answers.{IsApplied, IsLeftOrOutOfMemory};
 ghost use Rattle.network.specs.Changes.{IsChangedAt};
-ghost use Rattle.network.specs.Charges.{HasRoomOnNetwork, IsReady, IsSlotActed, on_budgets_of, on_opens_of};
+ghost use Rattle.network.specs.Charges.{HasReadyNode, HasRoomOnNetwork, IsSlotActed, on_budgets_of, on_opens_of};
 ghost use Rattle.network.specs.Decoding.{step_of};
-ghost use Rattle.network.specs.Deeds.{IsPlan, envelope_to_file, instance_at, outs_after};
-ghost use Rattle.network.specs.Doings.{IsAnswer, IsDoable, IsDone, marks_after, slots_of};
-ghost use Rattle.network.specs.Lodgings.{AreLodged, IsLodged};
-ghost use Rattle.network.specs.SlotPlaces.{numbers_of};
+ghost use Rattle.network.specs.Deeds.{IsPlan, envelope_to_file, instance_at, outs_of_deed};
+ghost use Rattle.network.specs.Doings.{IsDeedAnswer, IsDoable, IsDone, marks_after, slots_of};
+ghost use Rattle.network.specs.FiledSlots.{AreSlotsFiled, IsInstanceFiled};
+ghost use Rattle.network.specs.SlotPlaces.{slot_numbers};
 ghost use Rattle.network.specs.Standing.{IsRefusal, machine_of};
 
 use crate::applied::Outcome;
@@ -46,7 +46,7 @@ impl<S: Shelf> Network<S> {
         ensures applied { IfOk result (IsApplied self.old (step_of event.now) copies self.new) }
         ensures err { IfErr result (IsRefusal (machine_of self.old) (step_of event.now)) }
         ensures same { OnErr result (machine_of self.new ≡ machine_of self.old) }
-        ensures left { IfErr result (IsLeft self.old (step_of event.now) self.new) }
+        ensures left { IfErr result (IsLeftOrOutOfMemory self.old (step_of event.now) self.new) }
         ensures config { self.new.config ≡ self.old.config }
         ensures kept { Keeps self.old.archive self.new.archive }
     {
@@ -126,12 +126,12 @@ fn perform<S: Shelf>(
     deed: Deed,
     terms: &Terms,
 ) -> Result<Outcome, AllocError>
-    requires lodged { AreLodged archive.old slots.old }
+    requires archived { AreSlotsFiled archive.old slots.old }
     requires doable { IsDoable archive.old terms.now.charge slots.old deed }
     ensures done { OnOk result (IsDone terms.now.charge deed slots.old slots.new) }
-    ensures answer { IfOk result (IsAnswer (outs_after (slots_of slots.old) deed) (marks_after (slots_of slots.old) deed) (envelope_to_file deed) terms.now.copies archive.new) }
+    ensures answer { IfOk result (IsDeedAnswer (outs_of_deed (slots_of slots.old) deed) (marks_after (slots_of slots.old) deed) (envelope_to_file deed) terms.now.copies archive.new) }
     ensures err { OnErr result (slots.new ≡ slots.old) }
-    ensures lodged { AreLodged archive.new slots.new }
+    ensures archived { AreSlotsFiled archive.new slots.new }
     ensures kept { Keeps archive.old archive.new }
 {
     match deed {
@@ -162,13 +162,13 @@ fn open<S: Shelf>(
     slots: &mut OpenSlots,
     slot: OpenSlot,
 ) -> Result<Outcome, AllocError>
-    requires lodged { AreLodged archive.now slots.old }
-    requires slot { All (IsLodged archive.now) slot.instances }
-    requires fresh { index_in (numbers_of slots.old) slot.number ≡ None }
+    requires archived { AreSlotsFiled archive.now slots.old }
+    requires slot { All (IsInstanceFiled archive.now) slot.instances }
+    requires fresh { index_in (slot_numbers slots.old) slot.number ≡ None }
     ensures done { OnOk result (slots.new ≡ slots.old ++ slot ∷ []) }
-    ensures answer { (count : ℕ) → IfOk result (IsAnswer [] [] None count archive.now) }
+    ensures answer { (count : ℕ) → IfOk result (IsDeedAnswer [] [] None count archive.now) }
     ensures err { OnErr result (slots.new ≡ slots.old) }
-    ensures lodged { AreLodged archive.now slots.new }
+    ensures archived { AreSlotsFiled archive.now slots.new }
 {
     slots.open(slot)?;
     Ok(nothing(alloc, archive))
@@ -181,12 +181,12 @@ fn close<S: Shelf>(
     slots: &mut OpenSlots,
     slot_at: usize,
 ) -> Outcome
-    requires lodged { AreLodged archive.now slots.old }
+    requires archived { AreSlotsFiled archive.now slots.old }
     requires at { slot_at < length slots.old }
-    requires apart { all_differ (numbers_of slots.old) ≡ true }
+    requires apart { all_differ (slot_numbers slots.old) ≡ true }
     ensures done { slots.new ≡ remove slots.old slot_at }
-    ensures answer { (count : ℕ) → IsAnswer [] [] None count archive.now result }
-    ensures lodged { AreLodged archive.now slots.new }
+    ensures answer { (count : ℕ) → IsDeedAnswer [] [] None count archive.now result }
+    ensures archived { AreSlotsFiled archive.now slots.new }
 {
     slots.close(slot_at);
     nothing(alloc, archive)
@@ -199,13 +199,13 @@ fn act<S: Shelf>(
     event: FiledEvent,
     terms: &Terms,
 ) -> Result<Outcome, AllocError>
-    requires lodged { AreLodged archive.old slots.old.items }
-    requires ready { IsReady terms.now.charge slots.old.items spot.now.slot_at spot.now.node_at }
+    requires archived { AreSlotsFiled archive.old slots.old.items }
+    requires ready { HasReadyNode terms.now.charge slots.old.items spot.now.slot_at spot.now.node_at }
     requires event { IsFiledEvent archive.old event }
     ensures done { OnOk result (IsChangedAt (IsSlotActed terms.now.charge spot.now.node_at (event_of event)) spot.now.slot_at slots.old.items slots.new.items) }
-    ensures answer { IfOk result (IsAnswer (outs_after (slots_of slots.old.items) (Deed.Act spot.now.slot_at spot.now.node_at event)) (marks_after (slots_of slots.old.items) (Deed.Act spot.now.slot_at spot.now.node_at event)) None terms.now.copies archive.new) }
+    ensures answer { IfOk result (IsDeedAnswer (outs_of_deed (slots_of slots.old.items) (Deed.Act spot.now.slot_at spot.now.node_at event)) (marks_after (slots_of slots.old.items) (Deed.Act spot.now.slot_at spot.now.node_at event)) None terms.now.copies archive.new) }
     ensures err { OnErr result (slots.new.items ≡ slots.old.items) }
-    ensures lodged { AreLodged archive.new slots.new.items }
+    ensures archived { AreSlotsFiled archive.new slots.new.items }
     ensures kept { Keeps archive.old archive.new }
 {
     let noted = slots[spot.slot_at].act(archive, spot.node_at, event, terms)?;
@@ -225,12 +225,12 @@ fn hand<S: Shelf>(
     envelope: Envelope,
     terms: &Terms,
 ) -> Result<Outcome, AllocError>
-    requires lodged { AreLodged archive.old slots.old.items }
-    requires ready { IsReady terms.now.charge slots.old.items spot.now.slot_at spot.now.node_at }
+    requires archived { AreSlotsFiled archive.old slots.old.items }
+    requires ready { HasReadyNode terms.now.charge slots.old.items spot.now.slot_at spot.now.node_at }
     ensures done { OnOk result (IsChangedAt (IsSlotActed terms.now.charge spot.now.node_at (NodeEvent.Take envelope)) spot.now.slot_at slots.old.items slots.new.items) }
-    ensures answer { IfOk result (IsAnswer (outs_after (slots_of slots.old.items) (Deed.Hand spot.now.slot_at spot.now.node_at envelope)) (marks_after (slots_of slots.old.items) (Deed.Hand spot.now.slot_at spot.now.node_at envelope)) (Some envelope) terms.now.copies archive.new) }
+    ensures answer { IfOk result (IsDeedAnswer (outs_of_deed (slots_of slots.old.items) (Deed.Hand spot.now.slot_at spot.now.node_at envelope)) (marks_after (slots_of slots.old.items) (Deed.Hand spot.now.slot_at spot.now.node_at envelope)) (Some envelope) terms.now.copies archive.new) }
     ensures err { OnErr result (slots.new.items ≡ slots.old.items) }
-    ensures lodged { AreLodged archive.new slots.new.items }
+    ensures archived { AreSlotsFiled archive.new slots.new.items }
     ensures kept { Keeps archive.old archive.new }
 {
     let delivered = archive.put(envelope)?;
@@ -246,7 +246,7 @@ fn hand<S: Shelf>(
 
 /// Nothing is given out, whatever number of copies was asked for. It takes no memory.
 fn nothing<S: Shelf>(alloc: Global, archive: &Archive<S>) -> Outcome
-    ensures { (count : ℕ) → IsAnswer [] [] None count archive.now result }
+    ensures { (count : ℕ) → IsDeedAnswer [] [] None count archive.now result }
 {
     Outcome {
         outs: Vec::new(alloc),

@@ -9,8 +9,8 @@ ghost use Rattle.protocol.specs.Networks.{emissions};
 ghost use Rattle.protocol.specs.Nodes.{step};
 ghost use Rattle.protocol.specs.Rows.{is_kind};
 ghost use Rattle.network.specs.Marks.{numbers_by_kind};
-ghost use Rattle.slot.specs.Filings.{AreFiledOuts, IsFiledEvent, IsFiledOut, event_of, outs_of};
-ghost use Rattle.network.specs.Lodgings.{HaveRoom, IsGiven};
+ghost use Rattle.slot.specs.Filings.{AreFiledOuts, IsFiledEvent, IsFiledOut, event_of, whole_outs};
+ghost use Rattle.network.specs.FiledSlots.{AreOutsGiven, HaveRoom};
 ghost use Rattle.network.specs.EmissionsByKind.{AreByKind, nth_of, places_of_kind};
 
 use envstore::{Archive, Filed, Shelf};
@@ -123,7 +123,7 @@ impl EmissionLog {
         requires event { IsFiledEvent archive.old event }
         ensures node { OnOk result (node.new.node ≡ (step node.old.node (event_of event)).0) }
         ensures emitted { OnOk result (sents_of self.new ≡ sents_of self.old ++ emissions (step node.old.node (event_of event)).1) }
-        ensures applied { IfOk result (IsGiven (step node.old.node (event_of event)).1 (numbers_by_kind (sents_of self.old) (emissions (step node.old.node (event_of event)).1)) copies) }
+        ensures applied { IfOk result (AreOutsGiven (step node.old.node (event_of event)).1 (numbers_by_kind (sents_of self.old) (emissions (step node.old.node (event_of event)).1)) copies) }
         ensures node_err { OnErr result (node.new ≡ node.old) }
         ensures log_err { OnErr result (self.new ≡ self.old) }
         ensures rows { AreFiled archive.new node.new.rows }
@@ -195,10 +195,10 @@ fn log_outs<S: Shelf>(
     requires outs { AreFiledOuts archive.now outs.now }
     requires emitted { AreFiled archive.now emitted.old.items }
     requires places { AreByKind places.old (sents_of emitted.old.items) }
-    requires room { HaveRoom (length (emissions (outs_of outs.now))) emitted.old places.old marks.old }
-    ensures emitted { sents_of emitted.new.items ≡ sents_of emitted.old.items ++ emissions (outs_of outs.now) }
+    requires room { HaveRoom (length (emissions (whole_outs outs.now))) emitted.old places.old marks.old }
+    ensures emitted { sents_of emitted.new.items ≡ sents_of emitted.old.items ++ emissions (whole_outs outs.now) }
     ensures places { AreByKind places.new (sents_of emitted.new.items) }
-    ensures marks { marks.new.items ≡ marks.old.items ++ numbers_by_kind (sents_of emitted.old.items) (emissions (outs_of outs.now)) }
+    ensures marks { marks.new.items ≡ marks.old.items ++ numbers_by_kind (sents_of emitted.old.items) (emissions (whole_outs outs.now)) }
     ensures filed { AreFiled archive.now emitted.new.items }
 {
     for out in outs {
@@ -218,11 +218,11 @@ fn log_out<S: Shelf>(
     requires out { IsFiledOut archive.now out.now }
     requires emitted { AreFiled archive.now emitted.old.items }
     requires places { AreByKind places.old (sents_of emitted.old.items) }
-    requires room { HaveRoom (length (emissions (outs_of (out.now ∷ [])))) emitted.old places.old marks.old }
-    ensures emitted { sents_of emitted.new.items ≡ sents_of emitted.old.items ++ emissions (outs_of (out.now ∷ [])) }
+    requires room { HaveRoom (length (emissions (whole_outs (out.now ∷ [])))) emitted.old places.old marks.old }
+    ensures emitted { sents_of emitted.new.items ≡ sents_of emitted.old.items ++ emissions (whole_outs (out.now ∷ [])) }
     ensures places { AreByKind places.new (sents_of emitted.new.items) }
-    ensures marks { marks.new.items ≡ marks.old.items ++ numbers_by_kind (sents_of emitted.old.items) (emissions (outs_of (out.now ∷ []))) }
-    ensures room { (count : ℕ) → HaveRoom (length (emissions (outs_of (out.now ∷ []))) + count) emitted.old places.old marks.old → HaveRoom count emitted.new places.new marks.new }
+    ensures marks { marks.new.items ≡ marks.old.items ++ numbers_by_kind (sents_of emitted.old.items) (emissions (whole_outs (out.now ∷ []))) }
+    ensures room { (count : ℕ) → HaveRoom (length (emissions (whole_outs (out.now ∷ []))) + count) emitted.old places.old marks.old → HaveRoom count emitted.new places.new marks.new }
     ensures filed { AreFiled archive.now emitted.new.items }
 {
     match out {

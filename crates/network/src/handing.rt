@@ -5,7 +5,7 @@ ghost use Rattle.protocol.specs.Networks.Reading.{Read};
 ghost use Rattle.protocol.specs.Networks.Step.{Delivers, Hears};
 ghost use Rattle.configuration.specs.Configs.{index_of_name};
 ghost use Rattle.network.specs.Decoding.{reading, said_by};
-ghost use Rattle.network.specs.Deeds.{IsPairRoom, IsPaired, IsPlan, IsPlanned, IsPlannedSurely, IsSlotThere};
+ghost use Rattle.network.specs.Deeds.{IsPairRoom, IsOfBudgetsOrPair, IsPlan, IsPlanned, IsPlannedSurely, IsSlotThere};
 ghost use Rattle.network.specs.Standing.{IsFirstRefusal, machine_of};
 ghost use Rattle.network.specs.declared.plan.Deed.TheVariants.{Hand};
 
@@ -125,7 +125,7 @@ impl<S: Shelf> Network<S> {
         requires slot { (i : ℕ) × IsSlotThere self.now i spot.now.slot_at }
         requires node { index_of_name self.now.config.nodes node.now ≡ Some spot.now.node_at }
         ensures room { IsPairRoom self.now spot.now node.now from.now result }
-        ensures paired { IfOk result IsPaired }
+        ensures paired { IfOk result IsOfBudgetsOrPair }
     {
         let drawn = self.pair(spot.slot_at, spot.node_at, node, from);
         self.has_room(&drawn)?;

@@ -6,8 +6,8 @@ ghost use Rattle.protocol.specs.Networks.{emissions, has_proposal, after_event};
 ghost use Rattle.protocol.specs.Nodes.{fresh, step};
 ghost use Rattle.network.specs.Marks.{numbers_by_kind};
 ghost use Rattle.slot.specs.Filings.{AreFiledOuts, IsFiledEvent, event_of};
-ghost use Rattle.network.specs.Charges.{HasRoomFor, IsActed};
-ghost use Rattle.network.specs.Lodgings.{IsGiven, IsLodged, bytes_from, events_from, instance_in};
+ghost use Rattle.network.specs.Charges.{HasRoomForCharge, IsActed};
+ghost use Rattle.network.specs.FiledSlots.{AreOutsGiven, IsInstanceFiled, bytes_from, events_from, instance_of_filed};
 ghost use Rattle.network.specs.EmissionsByKind.{nth_of};
 
 use crate::emission_log::{EmissionLog, NumberedOuts};
@@ -31,9 +31,9 @@ pub(crate) struct Instance {
 impl Model for Instance {
     ghost use Rattle.std.specs.Coded.{codes};
     ghost use Rattle.types.specs.Trees.{members_code};
-    ghost use Rattle.network.specs.Lodgings.{Lodging};
+    ghost use Rattle.network.specs.FiledSlots.{FiledInstance};
 
-    ghost Value = { Lodging };
+    ghost Value = { FiledInstance };
 
     ghost coded = { Prim.hlevel (codes, members_code) };
 
@@ -43,7 +43,7 @@ impl Model for Instance {
 impl Instance {
     /// A node to which nothing has happened. It takes no memory.
     pub(crate) fn new(alloc: Global, name: NodeId, slot: u64, slices: Nested) -> Instance
-        ensures instance { instance_in result ≡ record { node = fresh slot name slices; emitted = [] } }
+        ensures instance { instance_of_filed result ≡ record { node = fresh slot name slices; emitted = [] } }
         ensures rows { result.held.rows ≡ [] }
         ensures emitted { result.emitted ≡ [] }
         ensures own { result.own ≡ 0 }
@@ -59,7 +59,7 @@ impl Instance {
 
     /// Whether the node has been told to propose a value.
     pub(crate) fn has_proposal(&self) -> bool
-        ensures { result ≡ has_proposal (Some (instance_in self.now)) }
+        ensures { result ≡ has_proposal (Some (instance_of_filed self.now)) }
     {
         self.node.inputs().proposal.is_some()
     }
@@ -73,15 +73,15 @@ impl Instance {
 
     /// The slices of the node, as they are now.
     pub(crate) fn slices(&self) -> &Nested
-        ensures { result.now ≡ (instance_in self.now).node.slices }
+        ensures { result.now ≡ (instance_of_filed self.now).node.slices }
     {
         self.node.slices()
     }
 
     /// The node's emission of a kind with this number, which counts from 1.
     pub(crate) fn emission(&self, kind: Kind, number: u64) -> Option<&Filed>
-        ensures sent { option_map (λ f. sent_of f.now) result ≡ nth_of kind number (instance_in self.now).emitted }
-        ensures filed { (archive : Archived) → IsLodged archive self.now → IfSome result (λ f. IsFiled archive f.now) }
+        ensures sent { option_map (λ f. sent_of f.now) result ≡ nth_of kind number (instance_of_filed self.now).emitted }
+        ensures filed { (archive : Archived) → IsInstanceFiled archive self.now → IfSome result (λ f. IsFiled archive f.now) }
     {
         self.emitted.emission(kind, number)
     }
@@ -116,13 +116,13 @@ impl Instance {
         event: FiledEvent,
         terms: &Terms,
     ) -> Result<NumberedOuts, AllocError>
-        requires lodged { IsLodged archive.old self.old }
+        requires archived { IsInstanceFiled archive.old self.old }
         requires event { IsFiledEvent archive.old event }
-        requires room { HasRoomFor terms.now.charge self.old }
+        requires room { HasRoomForCharge terms.now.charge self.old }
         ensures acted { OnOk result (IsActed terms.now.charge (event_of event) self.old self.new) }
-        ensures applied { IfOk result (IsGiven (step (instance_in self.old).node (event_of event)).1 (numbers_by_kind (instance_in self.old).emitted (emissions (step (instance_in self.old).node (event_of event)).1)) terms.now.copies) }
+        ensures applied { IfOk result (AreOutsGiven (step (instance_of_filed self.old).node (event_of event)).1 (numbers_by_kind (instance_of_filed self.old).emitted (emissions (step (instance_of_filed self.old).node (event_of event)).1)) terms.now.copies) }
         ensures err { OnErr result (self.new ≡ self.old) }
-        ensures lodged { IsLodged archive.new self.new }
+        ensures archived { IsInstanceFiled archive.new self.new }
         ensures filed { IfOk result (λ a. AreFiledOuts archive.new a.outs.items) }
         ensures kept { Keeps archive.old archive.new }
     {

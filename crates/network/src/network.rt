@@ -4,9 +4,9 @@ ghost use Rattle.std.specs.Prelude.{◌≡◌, ◌&&◌, [], IfSome, MatchResult
 ghost use Rattle.protocol.specs.Networks.{Net, instances_at, is_open, node_where_open, slices_of};
 ghost use Rattle.configuration.specs.Configs.{index_of_name};
 ghost use Rattle.envstore.specs.Archives.{AreFiled, IsFiled, sent_of};
-ghost use Rattle.network.specs.Deeds.{IsSeat, IsSeatThere, index_of_slot};
-ghost use Rattle.network.specs.Lodgings.{IsLodged, instance_in, seat_of, slot_of};
-ghost use Rattle.network.specs.Standing.{StandsFor, machine_of, node_at, slices_at};
+ghost use Rattle.network.specs.Deeds.{IsCountedInstance, IsInstanceThere, index_of_slot};
+ghost use Rattle.network.specs.FiledSlots.{IsInstanceFiled, counted_instance, instance_of_filed, slot_of};
+ghost use Rattle.network.specs.Standing.{StandsFor, machine_of, node_at, slices_of_node};
 
 use crate::instance::Instance;
 use crate::open_slots::OpenSlots;
@@ -50,9 +50,9 @@ pub struct Network<S: Shelf> {
 impl<S: Shelf> Model for Network<S> {
     ghost use Rattle.std.specs.Coded.{codes};
     ghost use Rattle.types.specs.Trees.{members_code};
-    ghost use Rattle.network.specs.Standing.{IsStanding, Standing};
+    ghost use Rattle.network.specs.Standing.{IsStanding, FiledMachine};
 
-    ghost Value = { Standing };
+    ghost Value = { FiledMachine };
 
     ghost coded = { Prim.hlevel (codes, members_code) };
 
@@ -150,7 +150,7 @@ impl<S: Shelf> Network<S> {
     /// The slices of a hosted node at an open slot, as they are now; `None` if the slot is not open or the node is not
     /// hosted. It takes no memory.
     pub fn slices(&self, slot: u64, node: &NodeId) -> Option<&Nested>
-        ensures value { (net : Net) → StandsFor (machine_of self.now) net → option_map (λ q. q.now) result ≡ slices_at net slot node.now }
+        ensures value { (net : Net) → StandsFor (machine_of self.now) net → option_map (λ q. q.now) result ≡ slices_of_node net slot node.now }
         ensures there { (net : Net) → StandsFor (machine_of self.now) net → is_some result ≡ (is_open net slot && is_some (slices_of self.now.config.nodes node.now)) }
     {
         match self.hosted(slot, node) {
@@ -162,9 +162,9 @@ impl<S: Shelf> Network<S> {
     /// A hosted node at an open slot with what it has emitted and drawn; `None` if the slot is not open or the node is
     /// not hosted. It takes no memory.
     fn hosted(&self, slot: u64, node: &NodeId) -> Option<&Instance>
-        ensures value { (net : Net) → StandsFor (machine_of self.now) net → option_map (λ p. instance_in p.now) result ≡ node_where_open (instances_at net.slots slot) node.now }
+        ensures value { (net : Net) → StandsFor (machine_of self.now) net → option_map (λ p. instance_of_filed p.now) result ≡ node_where_open (instances_at net.slots slot) node.now }
         ensures there { (net : Net) → StandsFor (machine_of self.now) net → is_some result ≡ (is_open net slot && is_some (slices_of self.now.config.nodes node.now)) }
-        ensures lodged { IfSome result (λ p. IsLodged self.now.archive p.now) }
+        ensures archived { IfSome result (λ p. IsInstanceFiled self.now.archive p.now) }
     {
         match self.slot_at(slot) {
             None => None,
@@ -198,9 +198,9 @@ impl<S: Shelf> Network<S> {
 
     /// The node at these places.
     pub(crate) fn instance(&self, slot_at: usize, node_at: usize) -> &Instance
-        requires { IsSeatThere (machine_of self.now) slot_at node_at }
-        ensures seat { IsSeat (machine_of self.now) slot_at node_at (seat_of result.now) }
-        ensures lodged { IsLodged self.now.archive result.now }
+        requires { IsInstanceThere (machine_of self.now) slot_at node_at }
+        ensures counted { IsCountedInstance (machine_of self.now) slot_at node_at (counted_instance result.now) }
+        ensures archived { IsInstanceFiled self.now.archive result.now }
     {
         &self.slots.slot(slot_at).instances()[node_at]
     }

@@ -7,8 +7,8 @@ ghost use Rattle.protocol.specs.Networks.{emissions, instances_of_new_slot, outs
 ghost use Rattle.network.specs.Marks.{numbers_by_kind, emitted_at};
 ghost use Rattle.slot.specs.Filings.{AreFiledOuts, IsFiledEvent, event_of};
 ghost use Rattle.network.specs.Changes.{IsChangedAt};
-ghost use Rattle.network.specs.Charges.{HasRoomFor, IsActed};
-ghost use Rattle.network.specs.Lodgings.{IsGiven, IsLodged, IsUncounted, instance_in};
+ghost use Rattle.network.specs.Charges.{HasRoomForCharge, IsActed};
+ghost use Rattle.network.specs.FiledSlots.{AreOutsGiven, IsInstanceFiled, HasDrawnNothing, instance_of_filed};
 
 use crate::emission_log::NumberedOuts;
 use crate::instance::Instance;
@@ -29,9 +29,9 @@ pub(crate) struct OpenSlot {
 impl Model for OpenSlot {
     ghost use Rattle.std.specs.Coded.{codes};
     ghost use Rattle.types.specs.Trees.{members_code};
-    ghost use Rattle.network.specs.Lodgings.{Lodgings};
+    ghost use Rattle.network.specs.FiledSlots.{FiledSlot};
 
-    ghost Value = { Lodgings };
+    ghost Value = { FiledSlot };
 
     ghost coded = { Prim.hlevel (codes, members_code) };
 
@@ -47,9 +47,9 @@ impl OpenSlot {
         config: &NetConfig,
     ) -> Result<OpenSlot, AllocError>
         ensures number { IfOk result (λ s. s.number ≡ number) }
-        ensures instances { IfOk result (λ s. map instance_in s.instances ≡ instances_of_new_slot config.now.nodes number) }
-        ensures lodged { IfOk result (λ s. (archive : Archived) → All (IsLodged archive) s.instances) }
-        ensures counts { IfOk result (λ s. All IsUncounted s.instances) }
+        ensures instances { IfOk result (λ s. map instance_of_filed s.instances ≡ instances_of_new_slot config.now.nodes number) }
+        ensures archived { IfOk result (λ s. (archive : Archived) → All (IsInstanceFiled archive) s.instances) }
+        ensures counts { IfOk result (λ s. All HasDrawnNothing s.instances) }
     {
         let instances = fresh_instances(alloc, number, config.nodes())?;
         Ok(OpenSlot { number, instances })
@@ -78,14 +78,14 @@ impl OpenSlot {
         terms: &Terms,
     ) -> Result<NumberedOuts, AllocError>
         requires at { at < length self.old.instances }
-        requires lodged { All (IsLodged archive.old) self.old.instances }
+        requires archived { All (IsInstanceFiled archive.old) self.old.instances }
         requires event { IsFiledEvent archive.old event }
-        requires room { IfSome (slice_get self.old.instances at) (HasRoomFor terms.now.charge) }
+        requires room { IfSome (slice_get self.old.instances at) (HasRoomForCharge terms.now.charge) }
         ensures acted { OnOk result (IsChangedAt (IsActed terms.now.charge (event_of event)) at self.old.instances self.new.instances) }
-        ensures applied { IfOk result (IsGiven (outs_at (event_of event) (slice_get (map instance_in self.old.instances) at)) (numbers_by_kind (emitted_at (slice_get (map instance_in self.old.instances) at)) (emissions (outs_at (event_of event) (slice_get (map instance_in self.old.instances) at)))) terms.now.copies) }
+        ensures applied { IfOk result (AreOutsGiven (outs_at (event_of event) (slice_get (map instance_of_filed self.old.instances) at)) (numbers_by_kind (emitted_at (slice_get (map instance_of_filed self.old.instances) at)) (emissions (outs_at (event_of event) (slice_get (map instance_of_filed self.old.instances) at)))) terms.now.copies) }
         ensures err { OnErr result (self.new ≡ self.old) }
         ensures number { self.new.number ≡ self.old.number }
-        ensures lodged { All (IsLodged archive.new) self.new.instances }
+        ensures archived { All (IsInstanceFiled archive.new) self.new.instances }
         ensures filed { IfOk result (λ a. AreFiledOuts archive.new a.outs.items) }
         ensures kept { Keeps archive.old archive.new }
     {
@@ -99,9 +99,9 @@ fn fresh_instances(
     number: u64,
     nodes: &[HostedNode],
 ) -> Result<Vec<Instance>, AllocError>
-    ensures instances { IfOk result (λ v. map instance_in v.items ≡ instances_of_new_slot nodes.now number) }
-    ensures lodged { IfOk result (λ v. (archive : Archived) → All (IsLodged archive) v.items) }
-    ensures counts { IfOk result (λ v. All IsUncounted v.items) }
+    ensures instances { IfOk result (λ v. map instance_of_filed v.items ≡ instances_of_new_slot nodes.now number) }
+    ensures archived { IfOk result (λ v. (archive : Archived) → All (IsInstanceFiled archive) v.items) }
+    ensures counts { IfOk result (λ v. All HasDrawnNothing v.items) }
 {
     let mut instances = Vec::with_capacity(alloc, nodes.len())?;
     for hosted in nodes {

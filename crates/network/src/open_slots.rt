@@ -4,7 +4,7 @@ ghost use Rattle.std.specs.Prelude.{◌≡◌, ◌<◌, ◌++◌, ◌∷◌, [],
 ghost use Rattle.std.specs.List.{remove};
 ghost use Rattle.types.specs.Trees.{all_differ};
 ghost use Rattle.configuration.specs.Configs.{index_in};
-ghost use Rattle.network.specs.SlotPlaces.{numbers_of};
+ghost use Rattle.network.specs.SlotPlaces.{slot_numbers};
 
 use crate::open_slot::OpenSlot;
 use crate::slot_index::SlotIndex;
@@ -29,24 +29,24 @@ impl Model for OpenSlots {
     ghost use Rattle.std.specs.Prelude.{List};
     ghost use Rattle.std.specs.Coded.{codes};
     ghost use Rattle.types.specs.Trees.{members_code};
-    ghost use Rattle.network.specs.Lodgings.{Lodgings};
-    ghost use Rattle.network.specs.SlotPlaces.{AreIndexed};
+    ghost use Rattle.network.specs.FiledSlots.{FiledSlot};
+    ghost use Rattle.network.specs.SlotPlaces.{AreSlotsIndexed};
 
-    ghost Value = { List Lodgings };
+    ghost Value = { List FiledSlot };
 
     ghost coded = { Prim.hlevel (codes, members_code) };
 
     ghost view = { λ s. s.slots.items };
 
-    ghost invariant = { λ s. AreIndexed s.slots.items s.index };
+    ghost invariant = { λ s. AreSlotsIndexed s.slots.items s.index };
 }
 
 impl Slots for OpenSlots {
     ghost use Rattle.std.specs.Prelude.{is_some};
     ghost use Rattle.configuration.specs.Configs.{index_in};
-    ghost use Rattle.network.specs.SlotPlaces.{numbers_of};
+    ghost use Rattle.network.specs.SlotPlaces.{slot_numbers};
 
-    ghost is_among = { λ s i. is_some (index_in (numbers_of s) i) };
+    ghost is_among = { λ s i. is_some (index_in (slot_numbers s) i) };
 
     fn contains(&self, slot: u64) -> bool {
         self.place(slot).is_some()
@@ -81,7 +81,7 @@ impl OpenSlots {
 
     /// The place of the slot of this number, by a binary search.
     pub(crate) fn place(&self, number: u64) -> Option<usize>
-        ensures { result ≡ index_in (numbers_of self.now) number }
+        ensures { result ≡ index_in (slot_numbers self.now) number }
     {
         self.index.place(number)
     }
@@ -89,7 +89,7 @@ impl OpenSlots {
     /// Adds an open slot, of a number that none of them has. An error says that it is out of memory; then nothing
     /// changed.
     pub(crate) fn open(&mut self, slot: OpenSlot) -> Result<(), AllocError>
-        requires { index_in (numbers_of self.old) slot.number ≡ None }
+        requires { index_in (slot_numbers self.old) slot.number ≡ None }
         ensures open { OnOk result (self.new ≡ self.old ++ slot ∷ []) }
         ensures err { OnErr result (self.new ≡ self.old) }
     {
@@ -102,7 +102,7 @@ impl OpenSlots {
     /// Lets the slot at this place go. It takes no memory.
     pub(crate) fn close(&mut self, place: usize)
         requires at { place < length self.old }
-        requires apart { all_differ (numbers_of self.old) ≡ true }
+        requires apart { all_differ (slot_numbers self.old) ≡ true }
         ensures { self.new ≡ remove self.old place }
     {
         let closed = self.slots.remove(place);

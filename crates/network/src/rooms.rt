@@ -4,8 +4,8 @@ ghost use Rattle.std.specs.Prelude.{◌≡◌, ◌≤◌, ◌<◌, ◌+◌, ℕ,
 ghost use Rattle.protocol.specs.Networks.{source};
 ghost use Rattle.protocol.specs.Networks.Step.{Opens, Closes};
 ghost use Rattle.configuration.specs.Configs.{index_of_name};
-ghost use Rattle.network.specs.Deeds.{HasNoRoomForBytes, HasNoRoom, HasRoomForBytes, HasRoom, IsDrawn, IsDrawnThere, IsNodeThere, IsPaired, index_of_slot, own_source, pair_source};
-ghost use Rattle.network.specs.Lodgings.{slot_of};
+ghost use Rattle.network.specs.Deeds.{HasNoRoomForBytes, HasNoRoom, HasRoomForDrawnBytes, HasRoomForEvent, IsDrawn, IsDrawnThere, IsNodeThere, IsOfBudgetsOrPair, index_of_slot, own_source, pair_source};
+ghost use Rattle.network.specs.FiledSlots.{slot_of};
 ghost use Rattle.network.specs.Standing.{machine_of};
 
 use crate::network::Network;
@@ -47,7 +47,7 @@ impl<S: Shelf> Network<S> {
     pub(crate) fn pair(&self, slot_at: usize, node_at: usize, node: &NodeId, from: &NodeId) -> Drawn
         requires node { index_of_name self.now.config.nodes node.now ≡ Some node_at }
         ensures drawn { (i : ℕ) → index_of_slot (map slot_of (machine_of self.now).slots) i ≡ Some slot_at → IsDrawn (machine_of self.now) result (pair_source self.now.config.roster i node.now from.now) }
-        ensures paired { IsPaired result }
+        ensures paired { IsOfBudgetsOrPair result }
     {
         match self.config.roster() {
             None => Drawn::Budgets,
@@ -68,7 +68,7 @@ impl<S: Shelf> Network<S> {
     /// Whether what is drawn on has room for one more event, or why not.
     pub(crate) fn has_room(&self, drawn: &Drawn) -> Result<(), Refusal>
         requires { IsDrawnThere (machine_of self.now) drawn.now }
-        ensures { MatchResult result (λ _. HasRoom (machine_of self.now) drawn.now) (λ r. HasNoRoom (machine_of self.now) drawn.now r) }
+        ensures { MatchResult result (λ _. HasRoomForEvent (machine_of self.now) drawn.now) (λ r. HasNoRoom (machine_of self.now) drawn.now r) }
     {
         match drawn {
             Drawn::Budgets => {
@@ -98,8 +98,8 @@ impl<S: Shelf> Network<S> {
     /// Whether what an event from a name to a node draws on has room for `size` more bytes, or why not.
     pub(crate) fn has_room_for_bytes(&self, drawn: &Drawn, size: u64) -> Result<(), Refusal>
         requires drawn { IsDrawnThere (machine_of self.now) drawn.now }
-        requires paired { IsPaired drawn.now }
-        ensures { MatchResult result (λ _. HasRoomForBytes (machine_of self.now) drawn.now size) (λ r. HasNoRoomForBytes (machine_of self.now) drawn.now size r) }
+        requires paired { IsOfBudgetsOrPair drawn.now }
+        ensures { MatchResult result (λ _. HasRoomForDrawnBytes (machine_of self.now) drawn.now size) (λ r. HasNoRoomForBytes (machine_of self.now) drawn.now size r) }
     {
         match drawn {
             Drawn::Budgets => {

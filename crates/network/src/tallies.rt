@@ -2,7 +2,7 @@
 
 ghost use Rattle.std.specs.Prelude.{◌≡◌, ◌<◌, ◌+◌, ◌^◌, ◌==◌, OnOk, if◌then◌else◌, ℕ, []};
 ghost use Rattle.network.specs.Charges.{FitsOrNone, HasRoomInCounts, HasRoomToTally, on_own, on_pair};
-ghost use Rattle.network.specs.Lodgings.{bytes_from, events_from};
+ghost use Rattle.network.specs.FiledSlots.{bytes_from, events_from};
 ghost use Rattle.network.specs.TallyBooks.{IsTallyPlace};
 
 use crate::plan::{Charge, Drawn};
@@ -34,7 +34,7 @@ impl Model for Tallies {
     ghost use Rattle.std.specs.Coded.{codes};
     ghost use Rattle.std.specs.Vec.{vec_capacity, vec_len};
     ghost use Rattle.protocol.specs.Sets.{IsAscending};
-    ghost use Rattle.network.specs.TallyBooks.{TallyBook, names_in};
+    ghost use Rattle.network.specs.TallyBooks.{TallyBook, tallied_names};
 
     ghost Value = { TallyBook };
 
@@ -42,7 +42,7 @@ impl Model for Tallies {
 
     ghost view = { λ b. record { tallies = b.entries.items; room = vec_capacity b.entries - vec_len b.entries } };
 
-    ghost invariant = { λ b. IsAscending (names_in b.entries.items) };
+    ghost invariant = { λ b. IsAscending (tallied_names b.entries.items) };
 }
 
 impl Tallies {

@@ -21,11 +21,11 @@ pub trait ValueTest {
 
 /// Whether a value is not in a set.
 #[derive(Drop)]
-pub struct IsNew<'a> {
+pub struct NotYetVoted<'a> {
     pub set: &'a SharedValues,
 }
 
-impl<'a> ValueTest for IsNew<'a> {
+impl<'a> ValueTest for NotYetVoted<'a> {
     ghost passes = { λ t x. not (has_value t.set.now x) };
 
     fn test(&self, _alloc: Global, value: &Value) -> Result<bool, AllocError> {

@@ -10,8 +10,8 @@ ghost use Rattle.protocol.specs.Candidates.{all_with, as_set, values_by};
 ghost use Rattle.protocol.specs.Sets.{among};
 ghost use Rattle.protocol.specs.Nominating.{accept_values, confirm_values, echo, nominate, own_proposal};
 
-use crate::choosing::{IsNew, choose, larger_set, with_all};
-use crate::voting::{IsConfirmed, IsNewlyAccepted};
+use crate::choosing::{NotYetVoted, choose, larger_set, with_all};
+use crate::voting::{NewlyAccepted, NewlyConfirmed};
 use drafts::Draft;
 use fedvote::Sight;
 use std::alloc::{AllocError, Global};
@@ -69,7 +69,7 @@ fn values_to_vote_for<S: Sight>(
         return Ok(None);
     }
     let proposed = proposed_values(alloc, own, sight, inputs)?;
-    let is_new = IsNew { set: &votes.voted };
+    let is_new = NotYetVoted { set: &votes.voted };
     let new = choose(alloc, proposed.as_slice(), room_in(&votes.voted), &is_new)?;
     let larger = larger_set(alloc, &votes.voted, new.as_slice())?;
     Ok(larger)
@@ -100,7 +100,7 @@ fn values_to_accept<'a, S: Sight>(
     ensures { IfOk result (λ o. record votes.now { accepts = unwrap_or o votes.now.accepts } ≡ accept_values (S.seen sight.now) votes.now) }
 {
     let candidates = candidates(alloc, sight, votes)?;
-    let is_accepted = IsNewlyAccepted { sight, votes };
+    let is_accepted = NewlyAccepted { sight, votes };
     let room = room_in(&votes.accepts);
     let new = choose(alloc, candidates.as_slice(), room, &is_accepted)?;
     let larger = larger_set(alloc, &votes.accepts, new.as_slice())?;
@@ -139,7 +139,7 @@ fn values_to_confirm<'a, S: Sight>(
 ) -> Result<Option<SharedValues>, AllocError>
     ensures { IfOk result (λ o. record votes.now { confirms = unwrap_or o votes.now.confirms } ≡ confirm_values (S.seen sight.now) votes.now) }
 {
-    let is_confirmed = IsConfirmed { sight, votes };
+    let is_confirmed = NewlyConfirmed { sight, votes };
     let accepted = votes.accepts.as_slice();
     let new = choose(alloc, accepted, accepted.len(), &is_confirmed)?;
     let larger = larger_set(alloc, &votes.confirms, new.as_slice())?;

@@ -55,12 +55,12 @@ fn is_accepted_by(votes: &Votes, claim: &Claim) -> bool
 
 /// Whether nominating a value is accepted, and was not before.
 #[derive(Drop)]
-pub struct IsNewlyAccepted<'a, S> {
+pub struct NewlyAccepted<'a, S> {
     pub sight: &'a S,
     pub votes: &'a Votes,
 }
 
-impl<'a, S: Sight> ValueTest for IsNewlyAccepted<'a, S> {
+impl<'a, S: Sight> ValueTest for NewlyAccepted<'a, S> {
     ghost passes = { λ t x. not (has_value t.votes.now.accepts x) && is_value_accepted (S.seen t.sight.now) t.votes.now x };
 
     fn test(&self, alloc: Global, value: &Value) -> Result<bool, AllocError> {
@@ -73,12 +73,12 @@ impl<'a, S: Sight> ValueTest for IsNewlyAccepted<'a, S> {
 
 /// Whether nominating a value is confirmed.
 #[derive(Drop)]
-pub struct IsConfirmed<'a, S> {
+pub struct NewlyConfirmed<'a, S> {
     pub sight: &'a S,
     pub votes: &'a Votes,
 }
 
-impl<'a, S: Sight> ValueTest for IsConfirmed<'a, S> {
+impl<'a, S: Sight> ValueTest for NewlyConfirmed<'a, S> {
     ghost passes = { λ t x. is_value_confirmed (S.seen t.sight.now) t.votes.now x };
 
     fn test(&self, alloc: Global, value: &Value) -> Result<bool, AllocError> {

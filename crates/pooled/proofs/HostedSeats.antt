@@ -3,7 +3,7 @@ use Rattle.std.proofs.Common.{◌≡◌, ◌∙◌, ℕ, List, [], ◌∷◌, le
 use Rattle.protocol.specs.Hosts.{Config}
 use Rattle.cells.specs.Cells.{AllFresh}
 use Rattle.cells.specs.Sights.{CellSight, SeatSight}
-use Rattle.pooled.specs.Opening.{HaveAsked, IsReady}
+use Rattle.pooled.specs.Opening.{HaveAsked, IsReadyNetwork}
 
 pub first_is : (old : List SeatSight) (x d : SeatSight) → x ≡ get_or old 0 x → slice_get old 0 ≡ Some d → x ≡ d
 first_is [] x d is e = cc
@@ -11,7 +11,7 @@ first_is (a ∷ rest) x d is e = let a_is : a ≡ d = cc in is ∙ a_is
 
 pub ready : (config : Config) (n : ℕ) (c : CellSight) (old : List SeatSight) (x s : SeatSight) (given slots : List ℕ) → c.config ≡ config → c.seats ≡ n → length old ≡ n
     → AllFresh c.cell config n old → x ≡ get_or old 0 x → HaveAsked c given x s → given ≡ slots
-    → IsReady config n slots (record { cell = c; seats = slice_set old 0 s })
+    → IsReadyNetwork config n slots (record { cell = c; seats = slice_set old 0 s })
 ready config n c old x s given slots config_is seats many fresh is asked same = record {
   config = config_is;
   count = seats;

@@ -4,13 +4,13 @@ use Rattle.std.specs.List.{AllZip}
 use Rattle.std.proofs.lemmas.List.{append-nil, append_assoc, drop_all, drop_more}
 use Rattle.protocol.specs.Hosts.{Config}
 use Rattle.cells.specs.Sights.{CellSight, SeatSight}
-use Rattle.workers.specs.NetSights.{Net}
+use Rattle.workers.specs.NetSights.{NetSight}
 use Rattle.workers.specs.Nets.{NoNet, nets_with}
 use Rattle.workers.proofs.Pairs.{zip-append}
-use Rattle.pooled.specs.Opening.{AreGiven, AreHosted, AreReady, HasAsked, HaveAsked, JoinInTurn, IsReady, slots_of}
+use Rattle.pooled.specs.Opening.{AreGiven, HaveJoinedWithSlots, AreReady, HasAsked, HaveAsked, JoinInTurn, IsReadyNetwork, slots_to_open}
 use Rattle.pooled.specs.declared.hosting.UnopenedNetwork.{UnopenedNetwork}
 use Rattle.pooled.specs.Opening.HaveAsked.{none as asked_none, more as asked_more}
-use Rattle.pooled.specs.Opening.AreHosted.{none as hosted_none, more as hosted_more}
+use Rattle.pooled.specs.Opening.HaveJoinedWithSlots.{none as hosted_none, more as hosted_more}
 
 -- one slot more
 pub asked_on : (c : CellSight) (slots : List ℕ) (i d : ℕ) (old seat next : SeatSight) → i < length slots → HasAsked c (get_or slots i d) seat next
@@ -43,39 +43,39 @@ module _ {A B : Type 0} (R : A → B → Type 0) where
   makes_all all (x ∷ xs) made few whole = absurd (omega (arith, few))
 
 -- of one half of the networks, and of the other
-pub ready_halves : (many : ℕ) (all low high : List UnopenedNetwork) (ns ms nets : List Net) → all ≡ low ++ high → nets ≡ ns ++ ms
+pub ready_halves : (many : ℕ) (all low high : List UnopenedNetwork) (ns ms nets : List NetSight) → all ≡ low ++ high → nets ≡ ns ++ ms
     → AreReady many low ns → AreReady many high ms → AreReady many all nets
 ready_halves many all low high ns ms nets all_is nets_is one other =
-    subst (λ (z : List UnopenedNetwork × List Net). AreReady many z.0 z.1) (λ i. (sym all_is i, sym nets_is i)) (zip-append _ low high ns ms one other)
+    subst (λ (z : List UnopenedNetwork × List NetSight). AreReady many z.0 z.1) (λ i. (sym all_is i, sym nets_is i)) (zip-append _ low high ns ms one other)
 
 -- with as many seats they are ready likewise
-pub ready_likewise : (m n : ℕ) (us : List UnopenedNetwork) (nets : List Net) → m ≡ n → AreReady m us nets → AreReady n us nets
+pub ready_likewise : (m n : ℕ) (us : List UnopenedNetwork) (nets : List NetSight) → m ≡ n → AreReady m us nets → AreReady n us nets
 ready_likewise m n us nets seats h = subst (λ k. AreReady k us nets) seats h
 
 -- ---- networks that join, one after the other
 
 -- whatever the host will be when those that are left have joined this one, they all have joined then
-abbrev pub Joins : List Net → List Net → List Net → Type 0
-Joins all left host = (new : List Net) → JoinInTurn left host new → JoinInTurn all [] new
+abbrev pub Joins : List NetSight → List NetSight → List NetSight → Type 0
+Joins all left host = (new : List NetSight) → JoinInTurn left host new → JoinInTurn all [] new
 
-pub joins_more : (all left rest host next : List Net) (n : Net) → left ≡ n ∷ rest → NoNet host n.cell.config.number → next ≡ nets_with n host → Joins all left host → Joins all rest next
+pub joins_more : (all left rest host next : List NetSight) (n : NetSight) → left ≡ n ∷ rest → NoNet host n.cell.config.number → next ≡ nets_with n host → Joins all left host → Joins all rest next
 joins_more all left rest host next n is fresh next_is whole new h =
     whole new (subst (λ ns. JoinInTurn ns host new) (sym is) (fresh, subst (λ ns. JoinInTurn rest ns new) next_is h))
 
-pub all_joined : (all left host : List Net) → length left ≡ 0 → Joins all left host → JoinInTurn all [] host
+pub all_joined : (all left host : List NetSight) → length left ≡ 0 → Joins all left host → JoinInTurn all [] host
 all_joined all [] host few whole = whole host refl
 all_joined all (n ∷ ns) host few whole = absurd (omega (arith, few))
 
 -- networks that are ready have joined, with the slots in another order of all
-pub hosted : (many : ℕ) (opens sorted : List (ℕ × ℕ)) (cs : List Config) (us : List UnopenedNetwork) (ns old new : List Net) → ((g : ℕ) → slots_of g sorted ≡ slots_of g opens)
-    → AreGiven sorted cs us → AreReady many us ns → JoinInTurn ns old new → AreHosted many opens old cs new
-hosted many opens sorted [] [] [] old new kept given ready joined = subst (AreHosted many opens old []) (sym joined) hosted_none
+pub hosted : (many : ℕ) (opens sorted : List (ℕ × ℕ)) (cs : List Config) (us : List UnopenedNetwork) (ns old new : List NetSight) → ((g : ℕ) → slots_to_open g sorted ≡ slots_to_open g opens)
+    → AreGiven sorted cs us → AreReady many us ns → JoinInTurn ns old new → HaveJoinedWithSlots many opens old cs new
+hosted many opens sorted [] [] [] old new kept given ready joined = subst (HaveJoinedWithSlots many opens old []) (sym joined) hosted_none
 hosted many opens sorted [] [] (n ∷ ns) old new kept given ready joined = absurd ready
 hosted many opens sorted [] (u ∷ us) ns old new kept given ready joined = absurd given
 hosted many opens sorted (c ∷ cs) [] ns old new kept given ready joined = absurd given
 hosted many opens sorted (c ∷ cs) (u ∷ us) [] old new kept given ready joined = absurd ready
 hosted many opens sorted (c ∷ cs) (u ∷ us) (n ∷ ns) old new kept given ready joined =
-    let slots : u.slots.items ≡ slots_of c.number opens = given.0.1 ∙ kept c.number in
-    let one : IsReady c many (slots_of c.number opens) n = subst (λ (z : Config × List ℕ). IsReady z.0 many z.1 n) (λ i. (given.0.0 i, slots i)) ready.0 in
+    let slots : u.slots.items ≡ slots_to_open c.number opens = given.0.1 ∙ kept c.number in
+    let one : IsReadyNetwork c many (slots_to_open c.number opens) n = subst (λ (z : Config × List ℕ). IsReadyNetwork z.0 many z.1 n) (λ i. (given.0.0 i, slots i)) ready.0 in
     hosted_more n one (subst (NoNet old) (ap (λ (k : Config). k.number) one.config) joined.0)
     (hosted many opens sorted cs us ns (nets_with n old) new kept given.1 ready.1 joined.1)

@@ -1,19 +1,19 @@
 -- The openings of one network, in a list that ascends by network.
-use Rattle.std.proofs.Common.{◌≡◌, ◌∙◌, ◌==◌, ◌&&◌, ◌≤◌, ◌<◌, ◌+◌, ◌-◌, ℕ, zero, suc, Bool, true, false, not, List, [], ◌∷◌, ◌++◌, drop, filter, get_or, length, map, nat_le, nat_lt, take, refl, sym, ap, ap₂, subst, arith}
+use Rattle.std.proofs.Common.{◌≡◌, ◌∙◌, ◌==◌, ◌&&◌, ◌≤◌, ◌<◌, ◌+◌, ◌-◌, ℕ, suc, Bool, true, false, List, [], ◌∷◌, ◌++◌, drop, filter, get_or, length, map, nat_le, nat_lt, take, refl, sym, ap, ap₂, arith}
 use Rattle.std.specs.List.{AllWithin}
 use Rattle.std.specs.List.Sorted.{IsStableByKey, ties}
 use Rattle.std.specs.Ordering.{is_lt, nat_cmp}
 use Rattle.std.proofs.lemmas.Bool.Decides.{nat_tests}
 use Rattle.std.proofs.lemmas.List.{append-nil, get_or-drop, get_or-take, length-drop, length-take-le, take-append-drop}
 use Rattle.std.proofs.lemmas.List.Elements.{filter-append, filter_agree}
-use Rattle.pooled.specs.Opening.{slots_of}
+use Rattle.pooled.specs.Opening.{slots_to_open}
 
 -- ---- a stable sort by network
 
 tied : (g s n m : ℕ) → ties {X = ℕ × ℕ} (λ x y. is_lt (nat_cmp x.0 y.0)) (g, s) (n, m) ≡ (n == g)
 tied g s n m = grind (arith, nat_tests)
 
-pub same_slots : (old new : List (ℕ × ℕ)) → IsStableByKey (λ o. o.0) nat_cmp old new → (g : ℕ) → slots_of g new ≡ slots_of g old
+pub same_slots : (old new : List (ℕ × ℕ)) → IsStableByKey (λ o. o.0) nat_cmp old new → (g : ℕ) → slots_to_open g new ≡ slots_to_open g old
 same_slots old new stable g =
     let p : ℕ × ℕ → Bool = ties (λ x y. is_lt (nat_cmp x.0 y.0)) (g, 0) in
     let same = filter_agree p (λ o. o.0 == g) (λ o. tied g 0 o.0 o.1) in

@@ -1,5 +1,5 @@
 -- What is sorted by slot and name.
-use Rattle.std.proofs.Common.{◌≡◌, ◌∙◌, ◌==◌, ◌+◌, get_or, ℕ, Bool, List, nat_lt, if◌then◌else◌, sym, ap, arith}
+use Rattle.std.proofs.Common.{◌≡◌, ◌∙◌, ◌==◌, ◌+◌, get_or, ℕ, List, nat_lt, if◌then◌else◌, sym, ap, arith}
 use denote.Ref.{Bor}
 use denote.Param.Members.{Mut}
 use Rattle.std.specs.Fn.{Called, ComputesKey}

@@ -1,18 +1,17 @@
 -- What stands of what was externalized, after one entry more.
-use Rattle.std.proofs.Common.{◌≡◌, ◌∙◌, ◌==◌, ◌&&◌, ◌||◌, ◌<◌, ◌+◌, ◌++◌, ℕ, zero, suc, Bool, true, false, not, List, [], ◌∷◌, Option, Some, None, filter, get_or, length, slice_get, take, if◌then◌else◌, refl, sym, ap, ap₂, arith}
+use Rattle.std.proofs.Common.{◌≡◌, ◌∙◌, ◌==◌, ◌&&◌, ◌||◌, ◌<◌, ◌+◌, ◌++◌, ℕ, zero, suc, Bool, true, false, not, List, [], ◌∷◌, Option, Some, None, filter, length, slice_get, take, if◌then◌else◌, refl, sym, ap, ap₂, arith}
 use Rattle.std.specs.List.{list_any}
 use Rattle.std.proofs.lemmas.List.{append-nil, append_assoc}
 use Rattle.std.proofs.lemmas.List.Elements.{filter-append}
-use Rattle.std.proofs.lemmas.Option.{slice_get-get_or}
 use Rattle.protocol.specs.Hosts.{Entry}
 use Rattle.hoststep.specs.Deciding.{ExternalizedValue, decisions_in}
-use Rattle.pooled.specs.Decisions.{closed_by, closes, closes_it, decided_next, decided_past, left_by, standing_in}
+use Rattle.pooled.specs.Decisions.{closed_by, closes, closes_it, decided_next, decided_past, left_after_close, standing_in}
 
-left_of_none : (o : Option ℕ) → left_by o [] ≡ []
+left_of_none : (o : Option ℕ) → left_after_close o [] ≡ []
 left_of_none None = refl
 left_of_none (Some i) = refl
 
-left_of_both : (o : Option ℕ) (ds es : List ExternalizedValue) → left_by o (ds ++ es) ≡ left_by o ds ++ left_by o es
+left_of_both : (o : Option ℕ) (ds es : List ExternalizedValue) → left_after_close o (ds ++ es) ≡ left_after_close o ds ++ left_after_close o es
 left_of_both None ds es = refl
 left_of_both (Some i) ds es = filter-append (λ d. not (d.slot == i)) ds es
 
@@ -30,14 +29,14 @@ any_more d (y ∷ ys) x = ap (λ b. closes_it d y || b) (any_more d ys x) ∙ pa
 
 -- one decision, kept or not
 kept_one : (d : ExternalizedValue) (o : Option ℕ) (b : Bool) (rest : List ExternalizedValue)
-    → (if not (b || closes d.slot o) then d ∷ left_by o rest else left_by o rest) ≡ left_by o (if not b then d ∷ rest else rest)
+    → (if not (b || closes d.slot o) then d ∷ left_after_close o rest else left_after_close o rest) ≡ left_after_close o (if not b then d ∷ rest else rest)
 kept_one d None true rest = refl
 kept_one d None false rest = refl
 kept_one d (Some i) true rest = refl
 kept_one d (Some i) false rest = elim (d.slot == i) as (λ c. (if not c then d ∷ filter (λ d. not (d.slot == i)) rest else filter (λ d. not (d.slot == i)) rest) ≡ (if not c then d ∷ filter (λ d. not (d.slot == i)) rest else filter (λ d. not (d.slot == i)) rest)) [ true ↦ refl | false ↦ refl ]
 
 left_of_standing : (xs : List Entry) (x : Entry) (ds : List ExternalizedValue)
-    → filter (λ d. not (list_any (closes_it d) (xs ++ x ∷ []))) ds ≡ left_by (closed_by x.event) (filter (λ d. not (list_any (closes_it d) xs)) ds)
+    → filter (λ d. not (list_any (closes_it d) (xs ++ x ∷ []))) ds ≡ left_after_close (closed_by x.event) (filter (λ d. not (list_any (closes_it d) xs)) ds)
 left_of_standing xs x [] = sym (left_of_none (closed_by x.event))
 left_of_standing xs x (d ∷ ds) =
     ap₂ (λ b rest. if not b then d ∷ rest else rest) (any_more d xs x) (left_of_standing xs x ds)
@@ -53,7 +52,7 @@ standing_more (y ∷ ys) x =
     let o = closed_by x.event in
     let first = filter (λ d. not (list_any (closes_it d) ys)) (decisions_in y) in
     ap₂ (λ a b. a ++ b) (left_of_standing ys x (decisions_in y)) (standing_more ys x)
-    ∙ sym (append_assoc (left_by o first) (left_by o (standing_in ys)) (decisions_in x))
+    ∙ sym (append_assoc (left_after_close o first) (left_after_close o (standing_in ys)) (decisions_in x))
     ∙ ap (λ l. l ++ decisions_in x) (sym (left_of_both o first (standing_in ys)))
 
 one_more : (entries : List Entry) (n : ℕ) (x : Entry) → slice_get entries n ≡ Some x → take (suc n) entries ≡ take n entries ++ x ∷ []

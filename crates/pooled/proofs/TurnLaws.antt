@@ -6,19 +6,19 @@ use Rattle.work.specs.Hands.{weigh}
 use Rattle.work.proofs.Balances.{weigh-append}
 use Rattle.cells.specs.Sights.{CellSight, SeatSight}
 use Rattle.cells.specs.Views.{Knowledge}
-use Rattle.workers.specs.NetSights.{Net}
-use Rattle.workers.specs.Nets.{AllElsewhere, AllGrownNets, IsDone, NoNet, denials_gained, done_since, heard_since, over_nets, receipts_gained}
+use Rattle.workers.specs.NetSights.{NetSight}
+use Rattle.workers.specs.Nets.{AllElsewhere, AllGrownNets, AreJobsDone, NoNet, denials_gained, done_since, heard_since, over_nets, receipts_gained}
 use Rattle.workers.specs.Sums.{AllGrown, IsLater, seat_applied, seat_done, seat_heard, seat_refused}
 use Rattle.workers.specs.declared.running.Report.{Report}
 use Rattle.workers.proofs.Nets.{gains_seats, nets_same, one_applied, one_done, one_heard, one_refused}
 use Rattle.workers.proofs.Pairs.{zip-then}
 use Rattle.workers.proofs.Sums.{later_both}
-use Rattle.pooled.specs.Pooling.{AreDone, IsTurn}
+use Rattle.pooled.specs.Pooling.{AreDone, AreSomeDone}
 
-grown_both : (xs ys zs : List Net) → AllGrownNets xs ys → AllGrownNets ys zs → AllGrownNets xs zs
+grown_both : (xs ys zs : List NetSight) → AllGrownNets xs ys → AllGrownNets ys zs → AllGrownNets xs zs
 grown_both xs ys zs p q =
     zip-then _ _ _
-    (λ (a b c : Net) (r : (b.cell ≡ a.cell) × AllGrown a.seats b.seats) (s : (c.cell ≡ b.cell) × AllGrown b.seats c.seats). (
+    (λ (a b c : NetSight) (r : (b.cell ≡ a.cell) × AllGrown a.seats b.seats) (s : (c.cell ≡ b.cell) × AllGrown b.seats c.seats). (
       s.0 ∙ r.0,
       zip-then IsLater IsLater IsLater later_both a.seats b.seats c.seats r.1 s.1,
     ))
@@ -26,29 +26,29 @@ grown_both xs ys zs p q =
 
 -- what a weight of the seats has gained is added up
 module _ (f : Knowledge → ℕ) (g : SeatSight → SeatSight → ℕ) (one : (a b : SeatSight) → IsLater a b → f b.me ≡ f a.me + g a b) where
-  gains_nets : (xs ys : List Net) → AllGrownNets xs ys → weigh (λ (n : Net). weigh (λ (s : SeatSight). f s.me) n.seats) ys ≡ weigh (λ (n : Net). weigh (λ (s : SeatSight). f s.me) n.seats) xs + over_nets g xs ys
+  gains_nets : (xs ys : List NetSight) → AllGrownNets xs ys → weigh (λ (n : NetSight). weigh (λ (s : SeatSight). f s.me) n.seats) ys ≡ weigh (λ (n : NetSight). weigh (λ (s : SeatSight). f s.me) n.seats) xs + over_nets g xs ys
   gains_nets [] [] all = refl
   gains_nets [] (y ∷ ys) all = absurd all
   gains_nets (x ∷ xs) [] all = absurd all
   gains_nets (x ∷ xs) (y ∷ ys) all = let a = gains_seats f g one x.seats y.seats all.0.1 in let r = gains_nets xs ys all.1 in omega arith
 
-  adds_up : (xs ys zs : List Net) → AllGrownNets xs ys → AllGrownNets ys zs → over_nets g xs zs ≡ over_nets g xs ys + over_nets g ys zs
+  adds_up : (xs ys zs : List NetSight) → AllGrownNets xs ys → AllGrownNets ys zs → over_nets g xs zs ≡ over_nets g xs ys + over_nets g ys zs
   adds_up xs ys zs p q = let a = gains_nets xs ys p in let b = gains_nets ys zs q in let c = gains_nets xs zs (grown_both xs ys zs p q) in omega arith
 
-  none_gained : (ns : List Net) → over_nets g ns ns ≡ 0
+  none_gained : (ns : List NetSight) → over_nets g ns ns ≡ 0
   none_gained ns = let a = gains_nets ns ns (nets_same ns) in omega arith
 
 -- networks have the same numbers later
-no_net : (xs ys : List Net) (number : ℕ) → AllGrownNets xs ys → NoNet ys number → NoNet xs number
+no_net : (xs ys : List NetSight) (number : ℕ) → AllGrownNets xs ys → NoNet ys number → NoNet xs number
 no_net [] ys number all none = tt
 no_net (x ∷ xs) [] number all none = absurd all
 no_net (x ∷ xs) (y ∷ ys) number all none = ((λ e. none.0 (e ∙ sym (ap (λ (c : CellSight). c.config.number) all.0.0))), no_net xs ys number all.1 none.1)
 
-elsewhere : (xs ys : List Net) (js : List Job) → AllGrownNets xs ys → AllElsewhere ys js → AllElsewhere xs js
+elsewhere : (xs ys : List NetSight) (js : List Job) → AllGrownNets xs ys → AllElsewhere ys js → AllElsewhere xs js
 elsewhere xs ys js grown all k d lt = no_net xs ys (get_or js k d).network grown (all k d lt)
 
 -- the same, however what came in and what went out are said
-pub done_as : (xs ys : List Net) (came went comes goes : (Job → ℕ) → ℕ) (r : Report) → ((h : Job → ℕ) → came h + goes h ≡ went h + comes h) → IsDone xs ys came went r → IsDone xs ys comes goes r
+pub done_as : (xs ys : List NetSight) (came went comes goes : (Job → ℕ) → ℕ) (r : Report) → ((h : Job → ℕ) → came h + goes h ≡ went h + comes h) → AreJobsDone xs ys came went r → AreJobsDone xs ys comes goes r
 done_as xs ys came went comes goes r same d = record {
   lacking = d.lacking;
   elsewhere = d.elsewhere;
@@ -58,7 +58,7 @@ done_as xs ys came went comes goes r same d = record {
   unrun = d.unrun;
 }
 
-pub none_done : (ns : List Net) (r : Report) → (r.applied ≡ 0) × (r.refused ≡ 0) × (r.unrun ≡ 0) → AreDone [] ns ns r
+pub none_done : (ns : List NetSight) (r : Report) → (r.applied ≡ 0) × (r.refused ≡ 0) × (r.unrun ≡ 0) → AreDone [] ns ns r
 none_done ns r none =
     let n0 = none.0 in let n1 = none.1 in
     record {
@@ -74,7 +74,7 @@ none_done ns r none =
     }
 
 -- a turn more
-pub done_both : (xs ys zs : List Net) (js ks : List Job) (r s t : Report) → (t.applied ≡ r.applied + s.applied) × (t.refused ≡ r.refused + s.refused) × (t.unrun ≡ r.unrun + s.unrun)
+pub done_both : (xs ys zs : List NetSight) (js ks : List Job) (r s t : Report) → (t.applied ≡ r.applied + s.applied) × (t.refused ≡ r.refused + s.refused) × (t.unrun ≡ r.unrun + s.unrun)
     → AreDone js xs ys r → AreDone ks ys zs s → AreDone (js ++ ks) xs zs t
 done_both xs ys zs js ks r s t sums a b =
     let p = a.grown in let q = b.grown in
@@ -102,8 +102,8 @@ done_both xs ys zs js ks r s t sums a b =
     }
 
 -- of all jobs some were done, and of the others some in one turn more
-pub turn_more : (all left rest : List Job) (xs ys zs : List Net) (r s t : Report) → (t.applied ≡ r.applied + s.applied) × (t.refused ≡ r.refused + s.refused) × (t.unrun ≡ r.unrun + s.unrun)
-    → IsTurn all left xs ys r → IsTurn left rest ys zs s → IsTurn all rest xs zs t
+pub turn_more : (all left rest : List Job) (xs ys zs : List NetSight) (r s t : Report) → (t.applied ≡ r.applied + s.applied) × (t.refused ≡ r.refused + s.refused) × (t.unrun ≡ r.unrun + s.unrun)
+    → AreSomeDone all left xs ys r → AreSomeDone left rest ys zs s → AreSomeDone all rest xs zs t
 turn_more all left rest xs ys zs r s t sums a b = (
   a.0 ++ b.0,
   (λ h. let u = a.1 h in let v = b.1 h in let w = weigh-append h a.0 b.0 in omega arith),
@@ -111,7 +111,7 @@ turn_more all left rest xs ys zs r s t sums a b = (
 )
 
 -- none is left
-pub turns_done : (all left : List Job) (xs ys : List Net) (r : Report) → left ≡ [] → IsTurn all left xs ys r → AreDone all xs ys r
+pub turns_done : (all left : List Job) (xs ys : List NetSight) (r : Report) → left ≡ [] → AreSomeDone all left xs ys r → AreDone all xs ys r
 turns_done all left xs ys r none a = record {
   grown = a.2.grown;
   done = done_as xs ys (λ h. weigh h a.0) (λ h. 0) (λ h. weigh h all) (λ h. 0) r (λ h. let s = a.1 h in let n : weigh h left ≡ 0 = ap (weigh h) none in omega arith) a.2.done;

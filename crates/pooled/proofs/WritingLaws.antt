@@ -8,7 +8,7 @@ use Rattle.protocol.specs.Runs.{IsRun as Replays}
 use Rattle.scripts.specs.Script.{Bytes}
 use Rattle.hoststep.specs.Logs.{Log}
 use Rattle.cells.specs.Sights.{SeatSight}
-use Rattle.workers.specs.NetSights.{Net}
+use Rattle.workers.specs.NetSights.{NetSight}
 use Rattle.workers.specs.Nets.{IsClosedNet}
 use Rattle.workers.proofs.Pairs.{zip-append}
 use Rattle.pooled.specs.Pooling.{AreJournals, AreJournalLines, AddsJournalLines}
@@ -17,7 +17,7 @@ use Rattle.pooled.specs.PoolLines.AreAllDecidedLines.{none, more}
 
 -- ---- networks are closed, and their journals written, one after the other
 -- the journals of networks, in their order: each is one history of its network's seats
-abbrev AreClosed : List Net → List Log → Type 0
+abbrev AreClosed : List NetSight → List Log → Type 0
 AreClosed ns ls = AllZip (λ n l. (seats : List SeatSight) × IsClosedNet n l seats) ns ls
 
 -- each is a run
@@ -26,14 +26,14 @@ AreRuns ls = All (λ (l : Log). Replays l.config l.entries) ls
 
 -- some networks were closed and their journals written, and those are left: whatever their journals will be, these and
 -- they are the journals of all
-pub record IsPartWritten (nets left : List Net) (decided lengths : Bytes) : Type 0 where
+pub record IsPartWritten (nets left : List NetSight) (decided lengths : Bytes) : Type 0 where
   pub written : List Log
   pub closed : (ls : List Log) → AreClosed left ls → AreClosed nets (written ++ ls)
   pub runs : AreRuns written
   pub lines : AreAllDecidedLines written decided
   pub long : lengths ≡ length_lines written
 
-pub part_none : (nets : List Net) (decided lengths : Bytes) → decided ≡ [] → lengths ≡ [] → IsPartWritten nets nets decided lengths
+pub part_none : (nets : List NetSight) (decided lengths : Bytes) → decided ≡ [] → lengths ≡ [] → IsPartWritten nets nets decided lengths
 part_none nets decided lengths e f = record {
   written = [];
   closed = λ ls h. h;
@@ -57,7 +57,7 @@ lengths_more : (ls : List Log) (l : Log) → length_lines (ls ++ l ∷ []) ≡ l
 lengths_more ls l = lengths_both ls (l ∷ []) ∙ ap (λ s. length_lines ls ++ s) (append-nil (length_line l.config.number (length l.entries)))
 
 -- the first of those that are left is closed, and its journal written
-pub part_more : (nets left rest : List Net) (n : Net) (l : Log) (seats : List SeatSight) (decided lengths wider longer : Bytes) → left ≡ n ∷ rest → IsClosedNet n l seats → AddsJournalLines l decided lengths wider longer
+pub part_more : (nets left rest : List NetSight) (n : NetSight) (l : Log) (seats : List SeatSight) (decided lengths wider longer : Bytes) → left ≡ n ∷ rest → IsClosedNet n l seats → AddsJournalLines l decided lengths wider longer
     → IsPartWritten nets left decided lengths → IsPartWritten nets rest wider longer
 part_more nets left rest n l seats decided lengths wider longer is done next part = record {
   written = part.written ++ l ∷ [];
@@ -67,14 +67,14 @@ part_more nets left rest n l seats decided lengths wider longer is done next par
   long = next.2 ∙ ap (λ s. s ++ length_line l.config.number (length l.entries)) part.long ∙ sym (lengths_more part.written l);
 }
 
-journals_of : (ns : List Net) (ls : List Log) → AreClosed ns ls → AreRuns ls → AreJournals ns ls
+journals_of : (ns : List NetSight) (ls : List Log) → AreClosed ns ls → AreRuns ls → AreJournals ns ls
 journals_of [] [] closed runs = tt
 journals_of [] (l ∷ ls) closed runs = absurd closed
 journals_of (n ∷ ns) [] closed runs = absurd closed
 journals_of (n ∷ ns) (l ∷ ls) closed runs = ((closed.0, runs 0 l (omega arith)), journals_of ns ls closed.1 (λ k d lt. runs (suc k) d (omega arith)))
 
 -- when none is left, all have been written
-pub all_written : (nets left : List Net) (decided lengths : Bytes) → left ≡ [] → IsPartWritten nets left decided lengths → AreJournalLines nets decided lengths
+pub all_written : (nets left : List NetSight) (decided lengths : Bytes) → left ≡ [] → IsPartWritten nets left decided lengths → AreJournalLines nets decided lengths
 all_written nets left decided lengths empty part = record {
   logs = part.written;
   journals = journals_of nets part.written (subst (AreClosed nets) (append-nil part.written) (part.closed [] (subst (λ ns. AreClosed ns []) (sym empty) tt))) part.runs;
@@ -84,7 +84,7 @@ all_written nets left decided lengths empty part = record {
 
 -- ---- some networks have been written, and the others
 
-written_all : (ns ms : List Net) (decided lines lengths longer : Bytes) → AreJournalLines ns decided lengths → AreJournalLines ms lines longer → AreJournalLines (ns ++ ms) (decided ++ lines) (lengths ++ longer)
+written_all : (ns ms : List NetSight) (decided lines lengths longer : Bytes) → AreJournalLines ns decided lengths → AreJournalLines ms lines longer → AreJournalLines (ns ++ ms) (decided ++ lines) (lengths ++ longer)
 written_all ns ms decided lines lengths longer one other = record {
   logs = one.logs ++ other.logs;
   journals = zip-append _ ns ms one.logs other.logs one.journals other.journals;
@@ -93,9 +93,9 @@ written_all ns ms decided lines lengths longer one other = record {
 }
 
 -- of the first so many networks, and of those behind
-pub written_both : (nets low high : List Net) (count : ℕ) (decided lines lengths longer all whole : Bytes) → low ≡ take count nets → high ≡ drop count nets
+pub written_both : (nets low high : List NetSight) (count : ℕ) (decided lines lengths longer all whole : Bytes) → low ≡ take count nets → high ≡ drop count nets
     → AreJournalLines low decided lengths → AreJournalLines high lines longer → all ≡ decided ++ lines → whole ≡ lengths ++ longer → AreJournalLines nets all whole
 written_both nets low high count decided lines lengths longer all whole low_is high_is one other all_is whole_is =
     let nets_are : low ++ high ≡ nets = ap₂ (λ a b. a ++ b) low_is high_is ∙ take-append-drop count nets in
-    subst (λ (ns : List Net). AreJournalLines ns all whole) nets_are
+    subst (λ (ns : List NetSight). AreJournalLines ns all whole) nets_are
     (subst (λ (z : Bytes × Bytes). AreJournalLines (low ++ high) z.0 z.1) (λ i. (sym all_is i, sym whole_is i)) (written_all low high decided lines lengths longer one other))

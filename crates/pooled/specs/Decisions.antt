@@ -36,13 +36,13 @@ IsDecided entries ds = IsPermutation (standing_in entries) ds × IsSortedBy is_l
 -- ---- as it is found
 
 -- what is left when a slot is closed, or none is
-abbrev pub left_by : Option ℕ → List ExternalizedValue → List ExternalizedValue
-left_by (Some i) ds = filter (λ d. not (d.slot == i)) ds
-left_by None ds = ds
+abbrev pub left_after_close : Option ℕ → List ExternalizedValue → List ExternalizedValue
+left_after_close (Some i) ds = filter (λ d. not (d.slot == i)) ds
+left_after_close None ds = ds
 
 -- what stands after one entry more
 abbrev pub decided_next : List ExternalizedValue → Entry → List ExternalizedValue
-decided_next ds x = left_by (closed_by x.event) ds ++ decisions_in x
+decided_next ds x = left_after_close (closed_by x.event) ds ++ decisions_in x
 
 -- what stands of decisions after one entry more, where there is one
 abbrev pub decided_past : List ExternalizedValue → Option Entry → List ExternalizedValue

@@ -4,21 +4,21 @@ use Rattle.std.specs.List.{AllZip}
 use Rattle.types.specs.declared.event.Event.TheVariants.{OpenSlot}
 use Rattle.protocol.specs.Hosts.{Config}
 use Rattle.cells.specs.declared.refusal.CellRefusal.{CellRefusal}
-use Rattle.cells.specs.Cells.{AllFresh, IsApplied, IsDenial}
+use Rattle.cells.specs.Cells.{AllFresh, HasGainedReceipt, IsDenial}
 use Rattle.cells.specs.Sights.{CellSight, SeatSight}
 use Rattle.cells.specs.Sounds.{IsWhy}
-use Rattle.workers.specs.NetSights.{Net}
+use Rattle.workers.specs.NetSights.{NetSight}
 use Rattle.workers.specs.Nets.{NoNet, nets_with}
 use Rattle.pooled.specs.declared.hosting.UnopenedNetwork.{UnopenedNetwork}
 
 -- the slots of one network among those that are opened first, in order
-abbrev pub slots_of : ℕ → List (ℕ × ℕ) → List ℕ
-slots_of g opens = map (λ o. o.1) (filter (λ o. o.0 == g) opens)
+abbrev pub slots_to_open : ℕ → List (ℕ × ℕ) → List ℕ
+slots_to_open g opens = map (λ o. o.1) (filter (λ o. o.0 == g) opens)
 
 -- a seat has asked to open a slot: this was applied, or it was refused
 abbrev pub HasAsked : CellSight → ℕ → SeatSight → SeatSight → Type 0
 HasAsked c slot old new =
-    IsApplied c (OpenSlot slot) old new
+    HasGainedReceipt c (OpenSlot slot) old new
     ⊎ ((r : CellRefusal) × IsDenial (OpenSlot slot) r old new × IsWhy c.config new.me.seen new.me.stopped (OpenSlot slot) r)
 
 -- a seat has asked to open slots, one after the other
@@ -29,7 +29,7 @@ pub data HaveAsked (c : CellSight) : List ℕ → SeatSight → SeatSight → Ty
 
 -- a network of this configuration with so many seats, of which none has done anything, save that the first has asked to
 -- open these slots
-pub record IsReady (given : Config) (many : ℕ) (slots : List ℕ) (n : Net) : Type 0 where
+pub record IsReadyNetwork (given : Config) (many : ℕ) (slots : List ℕ) (n : NetSight) : Type 0 where
   pub config : n.cell.config ≡ given
   pub count : n.cell.seats ≡ many
   pub made : List SeatSight
@@ -40,22 +40,22 @@ pub record IsReady (given : Config) (many : ℕ) (slots : List ℕ) (n : Net) : 
   pub seats : n.seats ≡ slice_set made 0 first
 
 -- networks of these configurations have joined those that are hosted, one after the other, each with its first slots
-pub data AreHosted (many : ℕ) (opens : List (ℕ × ℕ)) : List Net → List Config → List Net → Type 0 where
-  none : {ns : List Net} → AreHosted many opens ns [] ns
-  more : {c : Config} {cs : List Config} {ns ms : List Net} (n : Net) → IsReady c many (slots_of c.number opens) n
+pub data HaveJoinedWithSlots (many : ℕ) (opens : List (ℕ × ℕ)) : List NetSight → List Config → List NetSight → Type 0 where
+  none : {ns : List NetSight} → HaveJoinedWithSlots many opens ns [] ns
+  more : {c : Config} {cs : List Config} {ns ms : List NetSight} (n : NetSight) → IsReadyNetwork c many (slots_to_open c.number opens) n
       → NoNet ns c.number
-      → AreHosted many opens (nets_with n ns) cs ms → AreHosted many opens ns (c ∷ cs) ms
+      → HaveJoinedWithSlots many opens (nets_with n ns) cs ms → HaveJoinedWithSlots many opens ns (c ∷ cs) ms
 
 -- networks of these configurations, in their order, each with its first slots, are to be opened
 abbrev pub AreGiven : List (ℕ × ℕ) → List Config → List UnopenedNetwork → Type 0
 AreGiven opens cs us =
-    AllZip (λ (c : Config) (u : UnopenedNetwork). (u.config ≡ c) × (u.slots.items ≡ slots_of c.number opens)) cs us
+    AllZip (λ (c : Config) (u : UnopenedNetwork). (u.config ≡ c) × (u.slots.items ≡ slots_to_open c.number opens)) cs us
 
 -- networks that were to be opened, in their order, each ready with its first slots
-abbrev pub AreReady : ℕ → List UnopenedNetwork → List Net → Type 0
-AreReady many us ns = AllZip (λ (u : UnopenedNetwork) n. IsReady u.config many u.slots.items n) us ns
+abbrev pub AreReady : ℕ → List UnopenedNetwork → List NetSight → Type 0
+AreReady many us ns = AllZip (λ (u : UnopenedNetwork) n. IsReadyNetwork u.config many u.slots.items n) us ns
 
 -- networks have joined those that are hosted, one after the other
-abbrev pub JoinInTurn : List Net → List Net → List Net → Type 0
+abbrev pub JoinInTurn : List NetSight → List NetSight → List NetSight → Type 0
 JoinInTurn [] old new = new ≡ old
 JoinInTurn (n ∷ ns) old new = NoNet old n.cell.config.number × JoinInTurn ns (nets_with n old) new

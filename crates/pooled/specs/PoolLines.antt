@@ -5,13 +5,10 @@ use Rattle.std.specs.Fmt.{decimal}
 use Rattle.scripts.specs.Script.{Bytes}
 use Rattle.scripts.specs.Names.{text_of_name}
 use Rattle.scripts.specs.Values.{text_of_value}
+use Rattle.scripts.specs.Words.{space_between}
 use Rattle.hoststep.specs.Deciding.{ExternalizedValue}
 use Rattle.hoststep.specs.Logs.{Log}
 use Rattle.pooled.specs.Decisions.{IsDecided}
-
--- two words with a space (32) between
-abbrev pub space_between : Bytes → Bytes → Bytes
-space_between one other = one ++ 32 ∷ other
 
 -- the line of what a node of a network has externalized, with its line feed (10)
 abbrev pub decided_line : ℕ → ExternalizedValue → Bytes

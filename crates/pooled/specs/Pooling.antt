@@ -9,10 +9,10 @@ use Rattle.hoststep.specs.Logs.{Log}
 use Rattle.work.specs.Hands.{weigh}
 use Rattle.work.specs.declared.rule.Job.{Job}
 use Rattle.cells.specs.Sights.{SeatSight}
-use Rattle.workers.specs.NetSights.{Net}
-use Rattle.workers.specs.Nets.{AllGrownNets, IsClosedNet, IsDone}
+use Rattle.workers.specs.NetSights.{NetSight}
+use Rattle.workers.specs.Nets.{AllGrownNets, AreJobsDone, IsClosedNet}
 use Rattle.workers.specs.declared.running.Report.{Report}
-use Rattle.pooled.specs.Opening.{AreHosted}
+use Rattle.pooled.specs.Opening.{HaveJoinedWithSlots}
 use Rattle.pooled.specs.PoolLines.{AreAllDecidedLines, AreDecidedLines, length_line, length_lines, report_line}
 
 -- the event as a job of its network
@@ -24,7 +24,7 @@ abbrev pub jobs_of : List (ℕ × Event) → List Job
 jobs_of calls = map job_of calls
 
 -- the journals of networks, in their order: each is one history of its network's seats, and a run
-abbrev pub AreJournals : List Net → List Log → Type 0
+abbrev pub AreJournals : List NetSight → List Log → Type 0
 AreJournals ns ls =
     AllZip (λ n (l : Log). ((seats : List SeatSight) × IsClosedNet n l seats) × Replays l.config l.entries) ns ls
 
@@ -36,7 +36,7 @@ AddsJournalLines l decided lengths more longer =
     × (longer ≡ lengths ++ length_line l.config.number (length l.entries))
 
 -- what is written of networks: what their nodes have externalized, and how long their journals are
-pub record AreJournalLines (nets : List Net) (decided lengths : Bytes) : Type 0 where
+pub record AreJournalLines (nets : List NetSight) (decided lengths : Bytes) : Type 0 where
   pub logs : List Log
   pub journals : AreJournals nets logs
   pub lines : AreAllDecidedLines logs decided
@@ -44,7 +44,7 @@ pub record AreJournalLines (nets : List Net) (decided lengths : Bytes) : Type 0 
 
 -- what is printed of networks: what the nodes of each have externalized, then the length of each journal, then the
 -- counts of jobs
-pub record IsTextOfNets (nets : List Net) (report : Report) (text : Bytes) : Type 0 where
+pub record IsTextOfNets (nets : List NetSight) (report : Report) (text : Bytes) : Type 0 where
   pub decided : Bytes
   pub lengths : Bytes
   pub written : AreJournalLines nets decided lengths
@@ -53,22 +53,22 @@ pub record IsTextOfNets (nets : List Net) (report : Report) (text : Bytes) : Typ
 -- The jobs were done, and what follows from them. However jobs are weighed: these, and one for each emission that was
 -- gained and each other hosted node of its network, are the events that were gained as receipts and as denials, and
 -- those of networks that are not here; and the report has the numbers of these.
-pub record AreDone (jobs : List Job) (ready ended : List Net) (report : Report) : Type 0 where
+pub record AreDone (jobs : List Job) (ready ended : List NetSight) (report : Report) : Type 0 where
   pub grown : AllGrownNets ready ended
-  pub done : IsDone ready ended (λ h. weigh h jobs) (λ h. 0) report
+  pub done : AreJobsDone ready ended (λ h. weigh h jobs) (λ h. 0) report
 
 -- some of the jobs were done, and the others are left
-abbrev pub IsTurn : List Job → List Job → List Net → List Net → Report → Type 0
-IsTurn jobs left ready ended report =
+abbrev pub AreSomeDone : List Job → List Job → List NetSight → List NetSight → Report → Type 0
+AreSomeDone jobs left ready ended report =
     (put : List Job) × ((h : Job → ℕ) → weigh h put + weigh h left ≡ weigh h jobs) × AreDone put ready ended report
 
 -- networks of these configurations join, each with so many seats and its first slots; the events are jobs; and what
 -- becomes of them is written
 pub record IsPoolText (configs : List Config) (calls : List (ℕ × Event)) (opens : List (ℕ × ℕ)) (workers : ℕ)
     (text : Bytes) : Type 0 where
-  pub ready : List Net
-  pub ended : List Net
+  pub ready : List NetSight
+  pub ended : List NetSight
   pub report : Report
-  pub joined : AreHosted workers opens [] configs ready
+  pub joined : HaveJoinedWithSlots workers opens [] configs ready
   pub done : AreDone (jobs_of calls) ready ended report
   pub written : IsTextOfNets ended report text

@@ -3,7 +3,7 @@
 ghost use Rattle.std.specs.Prelude.{◌≡◌, ◌==◌, ◌<◌, ◌≤◌, IfOk, OnOk, filter, nat_le, nat_lt};
 ghost use Rattle.std.specs.List.Sorted.{IsNonDecreasingBy};
 ghost use Rattle.cells.specs.Cells.{IsSeatOf};
-ghost use Rattle.pooled.specs.Opening.{AreGiven, HaveAsked, HasAsked, IsReady, slots_of};
+ghost use Rattle.pooled.specs.Opening.{AreGiven, HaveAsked, HasAsked, IsReadyNetwork, slots_to_open};
 ghost use Rattle.workers.specs.Nets.{NoNet, nets_with};
 
 use cells::{Cell, Seat};
@@ -36,16 +36,16 @@ pub struct OpenNetwork<R: Wait + Drop> {
 impl<R: Wait + Drop> Model for OpenNetwork<R> {
     ghost use Rattle.std.specs.Coded.{codes};
     ghost use Rattle.types.specs.Trees.{members_code};
-    ghost use Rattle.workers.specs.Spares.{IsHosted};
-    ghost use Rattle.workers.specs.NetSights.{Net};
+    ghost use Rattle.workers.specs.Spares.{HasAllSeats};
+    ghost use Rattle.workers.specs.NetSights.{NetSight};
 
-    ghost Value = { Net };
+    ghost Value = { NetSight };
 
     ghost coded = { Prim.hlevel (codes, members_code) };
 
     ghost view = { λ o. record { cell = o.cell; seats = o.seats.items } };
 
-    ghost invariant = { λ o. IsHosted o.cell o.seats.items };
+    ghost invariant = { λ o. HasAllSeats o.cell o.seats.items };
 }
 
 impl<R: Wait + Drop> OpenNetwork<R> {
@@ -77,7 +77,7 @@ pub fn open_network<R: Wait + Drop + Copy>(
 ) -> Result<OpenNetwork<R>, AllocError>
     requires some { 0 < seats }
     requires few { seats ≤ 64 }
-    ensures { IfOk result (IsReady network.config seats network.slots.items) }
+    ensures { IfOk result (IsReadyNetwork network.config seats network.slots.items) }
 {
     let UnopenedNetwork { config, slots } = network;
     let shelf = handle.try_copy()?;
@@ -107,7 +107,7 @@ pub fn with_slots(
 /// The slots of the network of a number among openings that stand ascending by network, in order.
 fn own_slots(alloc: Global, number: u32, opens: &[(u32, u64)]) -> Result<Vec<u64>, AllocError>
     requires { IsNonDecreasingBy (λ o. o.0) opens.now }
-    ensures { IfOk result (λ slots. slots.items ≡ slots_of number opens.now) }
+    ensures { IfOk result (λ slots. slots.items ≡ slots_to_open number opens.now) }
 {
     let own = own_opens(number, opens);
     own.iter().map(|open| open.1).collect(alloc)

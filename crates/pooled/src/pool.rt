@@ -3,8 +3,8 @@
 ghost use Rattle.std.specs.Prelude.{◌≡◌, ◌<◌, ◌≤◌, ◌++◌, ℕ, IfOk, OnOk, [], string_bytes};
 ghost use Rattle.std.specs.List.Sorted.{IsNonDecreasingBy};
 ghost use Rattle.std.specs.Thread.{IsSend, IsSync};
-ghost use Rattle.pooled.specs.Opening.{AreHosted, slots_of};
-ghost use Rattle.pooled.specs.Pooling.{AreDone, AreJournalLines, IsPoolText, AddsJournalLines, IsTextOfNets, IsTurn, jobs_of};
+ghost use Rattle.pooled.specs.Opening.{HaveJoinedWithSlots, slots_to_open};
+ghost use Rattle.pooled.specs.Pooling.{AreDone, AreJournalLines, IsPoolText, AddsJournalLines, IsTextOfNets, AreSomeDone, jobs_of};
 
 use crate::gate::Open;
 use crate::hosting::with_slots;
@@ -78,7 +78,7 @@ fn host_networks<R: Threads + Wait + Sync + Send + Copy + Drop>(
 ) -> Result<Host<SharedHandle<R>, R>, AllocError>
     requires some { 0 < seats }
     requires few { seats ≤ 64 }
-    ensures { IfOk result (λ host. AreHosted seats opens.items [] configs.items host) }
+    ensures { IfOk result (λ host. HaveJoinedWithSlots seats opens.items [] configs.items host) }
 {
     let opens = by_network(opens)?;
     let networks = with_slots(alloc, configs, &opens)?;
@@ -97,7 +97,7 @@ fn host_networks<R: Threads + Wait + Sync + Send + Copy + Drop>(
 /// The openings ascending by network, those of each in their order.
 fn by_network(mut opens: Vec<(u32, u64)>) -> Result<Vec<(u32, u64)>, AllocError>
     ensures rising { IfOk result (λ v. IsNonDecreasingBy (λ o. o.0) v.items) }
-    ensures kept { IfOk result (λ v. (g : ℕ) → slots_of g v.items ≡ slots_of g opens.items) }
+    ensures kept { IfOk result (λ v. (g : ℕ) → slots_to_open g v.items ≡ slots_to_open g opens.items) }
 {
     opens.sort_by_key(
         |open| -> u32
@@ -155,7 +155,7 @@ fn run_turn<R: Threads + Wait + Sync + Send + Drop>(
 ) -> Result<Report, AllocError>
     requires some { 0 < workers }
     requires few { workers ≤ 64 }
-    ensures { IfOk result (IsTurn jobs.old.items jobs.new.items host.old host.new) }
+    ensures { IfOk result (AreSomeDone jobs.old.items jobs.new.items host.old host.new) }
 {
     let crew = Crew::new(alloc, &*host, workers)?;
     let Ok((queue, mut passes)) = Queue::new(alloc, places_for(jobs.len()), workers) else {

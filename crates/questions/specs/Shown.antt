@@ -33,12 +33,12 @@ state_line front n = line_of front (text_of_state n)
 -- ---- values
 
 -- a value with a space (32) before it
-abbrev pub behind_space : Bytes → Bytes
-behind_space v = 32 ∷ text_of_value v
+abbrev pub value_behind_space : Bytes → Bytes
+value_behind_space v = 32 ∷ text_of_value v
 
 -- a line of values behind a word
 unfoldable pub values_line : Bytes → Bytes → List Bytes → Bytes
-values_line front word vs = line_of front (word ++ flat_map behind_space vs)
+values_line front word vs = line_of front (word ++ flat_map value_behind_space vs)
 
 -- the lines of the values that are voted for, accepted and confirmed as nominated
 abbrev pub value_lines : Bytes → Votes → Bytes
@@ -49,14 +49,14 @@ value_lines front w =
 -- ---- rows
 
 -- a row in words: its sender, its slices and its statement, with a space (32) between each and the next
-abbrev pub text_of_row : Sent → Bytes
-text_of_row e =
+abbrev pub text_of_shown_row : Sent → Bytes
+text_of_shown_row e =
     codes "row " ++ (text_of_name e.sender ++ 32 ∷ (text_of_slices e.slices ++ 32 ∷ text_of_statement e.body))
 
 -- the line of a row, if there is one
 abbrev pub row_line : Bytes → Option Sent → Bytes
 row_line front None = []
-row_line front (Some e) = line_of front (text_of_row e)
+row_line front (Some e) = line_of front (text_of_shown_row e)
 
 -- the lines of a sender's rows, that of its nomination first
 abbrev pub rows_of_sender : Bytes → List Sent → ℕ → Bytes
@@ -96,9 +96,9 @@ abbrev pub known_lines : Bytes → Node → Bytes
 known_lines front n = state_line front n ++ (value_lines front n.votes ++ row_lines front n.table)
 
 -- the lines that say what a node is: those, and the line of who is silent
-abbrev pub lines_of : Bytes → Node → List ℕ → Bytes
-lines_of front n us = known_lines front n ++ silent_line front us
+abbrev pub node_lines : Bytes → Node → List ℕ → Bytes
+node_lines front n us = known_lines front n ++ silent_line front us
 
 -- these are the lines that show a node at a slot of a network, for the line of a number
 abbrev pub Shows : ℕ → ℕ → ℕ → Node → Bytes → Type 0
-Shows line g i n lines = (us : List ℕ) × AreSilent n us × (lines ≡ lines_of (front_of line g i n.name) n us)
+Shows line g i n lines = (us : List ℕ) × AreSilent n us × (lines ≡ node_lines (front_of line g i n.name) n us)

@@ -1,5 +1,5 @@
 -- How far a node is, in words.
-use Rattle.std.specs.Prelude.{◌++◌, ◌∷◌, [], ℕ, Option, Some, None, codes, option_map}
+use Rattle.std.specs.Prelude.{◌++◌, ◌∷◌, [], ℕ, Option, codes, option_map}
 use Rattle.std.specs.Fmt.{decimal}
 use Rattle.types.specs.declared.ballot.Ballot.{Ballot}
 use Rattle.types.specs.declared.state.Phase.{Phase}
@@ -17,15 +17,15 @@ text_of_phase Committing = codes "commit"
 text_of_phase Externalized = codes "externalize"
 
 -- the ballot of a counter with the value of a ballot, if there is one
-abbrev pub with_counter : ℕ → Option Ballot → Option Ballot
-with_counter n b = option_map (λ b. ballot_with n b.value) b
+abbrev pub ballot_of_counter : ℕ → Option Ballot → Option Ballot
+ballot_of_counter n b = option_map (λ b. ballot_with n b.value) b
 
 -- the ballot whose commit is voted for, and once a ballot is externalized that one: the value of the ballot, with the
 -- least counter of the interval
 abbrev pub text_of_commit : Phase → Votes → Bytes
 text_of_commit Preparing w = text_of_optional w.commit
 text_of_commit Committing w = text_of_optional w.commit
-text_of_commit Externalized w = text_of_optional (with_counter w.low w.ballot)
+text_of_commit Externalized w = text_of_optional (ballot_of_counter w.low w.ballot)
 
 -- the interval of counters, from the least to the greatest with a `-` (45) between; `-` while none is accepted as
 -- committed

@@ -2,7 +2,7 @@
 
 ghost use Rattle.std.specs.Prelude.{◌≡◌, ◌++◌, OnOk, string_bytes};
 ghost use Rattle.std.specs.List.{flat_map};
-ghost use Rattle.questions.specs.Shown.{Shows, behind_space, front_of, known_lines, state_line, value_lines, values_line};
+ghost use Rattle.questions.specs.Shown.{Shows, front_of, known_lines, state_line, value_behind_space, value_lines, values_line};
 ghost use Rattle.scripts.specs.Script.{Bytes};
 
 use crate::state::push_state_words;
@@ -127,7 +127,7 @@ fn push_values(
 
 /// Adds values, each behind a space.
 fn push_each(text: &mut String, values: &[Value]) -> Result<(), AllocError>
-    ensures { OnOk result (string_bytes text.new ≡ string_bytes text.old ++ flat_map behind_space values.now) }
+    ensures { OnOk result (string_bytes text.new ≡ string_bytes text.old ++ flat_map value_behind_space values.now) }
 {
     for value in values {
         text.push(' ')?;

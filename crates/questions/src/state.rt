@@ -2,7 +2,7 @@
 
 ghost use Rattle.std.specs.Prelude.{◌≡◌, ◌++◌, OnOk, string_bytes};
 ghost use Rattle.scripts.specs.Printed.{text_of_optional};
-ghost use Rattle.questions.specs.State.{text_of_commit, text_of_committed, text_of_interval, text_of_phase, text_of_prepared, text_of_state, text_of_timers, with_counter};
+ghost use Rattle.questions.specs.State.{ballot_of_counter, text_of_commit, text_of_committed, text_of_interval, text_of_phase, text_of_prepared, text_of_state, text_of_timers};
 
 use scripts::{push_ballot, push_value};
 use slot::Node;
@@ -93,7 +93,7 @@ fn push_with_counter(
     counter: u32,
     ballot: &Option<Ballot>,
 ) -> Result<(), AllocError>
-    ensures { OnOk result (string_bytes text.new ≡ string_bytes text.old ++ text_of_optional (with_counter counter ballot.now)) }
+    ensures { OnOk result (string_bytes text.new ≡ string_bytes text.old ++ text_of_optional (ballot_of_counter counter ballot.now)) }
 {
     match ballot {
         None => text.push('-'),

@@ -3,7 +3,7 @@
 ghost use Rattle.std.specs.Prelude.{◌≡◌, ◌++◌, IfOk, List, filter, OnOk, ℕ, option_map, string_bytes};
 ghost use Rattle.std.specs.List.{flat_map};
 ghost use Rattle.latest.specs.Senders.{senders};
-ghost use Rattle.questions.specs.Shown.{AreSilent, front_of, has_row, is_silent, row_line, row_lines, rows_of_sender, silent_line, spaced_name, text_of_row};
+ghost use Rattle.questions.specs.Shown.{AreSilent, front_of, has_row, is_silent, row_line, row_lines, rows_of_sender, silent_line, spaced_name, text_of_shown_row};
 
 use crate::nodes::{Place, push_front};
 use envstore::Shelf;
@@ -77,7 +77,7 @@ fn push_row(
 
 /// Adds a row in words: its sender, its slices and its statement.
 fn push_row_words(text: &mut String, row: &Envelope) -> Result<(), AllocError>
-    ensures { OnOk result (string_bytes text.new ≡ string_bytes text.old ++ text_of_row row.now) }
+    ensures { OnOk result (string_bytes text.new ≡ string_bytes text.old ++ text_of_shown_row row.now) }
 {
     text.push_str("row ")?;
     push_name(text, row.sender())?;

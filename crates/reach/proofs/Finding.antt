@@ -8,7 +8,7 @@ use Rattle.protocol.specs.Sets.{Names, among, IsAscending}
 use Rattle.reach.specs.declared.search.KnownNodes.{KnownNodes}
 use Rattle.reach.specs.declared.search.Search.{Search}
 use Rattle.reach.specs.Searching.{Finds, IsOver, IsSearch, IsSearchOf, IsTakenFrom, done_in, found_in, has_mark, pending_in, with_marks, at_places, count_unmarked}
-use Rattle.reach.specs.Sweeps.{Swept, is_done, just, AreNoted, IsTaken}
+use Rattle.reach.specs.Sweeps.{Swept, is_done, just, AreNamesNoted, IsNameTaken}
 use Rattle.compiled.proofs.Moves.{place_among}
 use Rattle.reach.proofs.Noted.{among_append}
 
@@ -177,7 +177,7 @@ module _ (s : Search) (are : IsSearch s) where
       again u (inr e) = sym (ap (λ b. b || found_in s u) e)
 
   -- a node that is not known
-  pub notes_other : (t : Search) (x : ℕ) → among s.known.nodes.now x ≡ false → t.known ≡ s.known → t.marks.items ≡ s.marks.items → t.places.items ≡ s.places.items → AreNoted s.others t.others (just x) → Finds s t (just x)
+  pub notes_other : (t : Search) (x : ℕ) → among s.known.nodes.now x ≡ false → t.known ≡ s.known → t.marks.items ≡ s.marks.items → t.places.items ≡ s.places.items → AreNamesNoted s.others t.others (just x) → Finds s t (just x)
   notes_other t x stranger known marks places noted =
       let us : t.known.nodes.now ≡ s.known.nodes.now = ap (λ k. k.nodes.now) known in
       let now_marked : (u : ℕ) → has_mark t.known.nodes.now t.marks.items u ≡ has_mark s.known.nodes.now s.marks.items u = λ u j. has_mark (us j) (marks j) u in
@@ -320,7 +320,7 @@ module _ (s t : Search) (are : IsSearch s) (known : t.known ≡ s.known) (marks 
           plain false = refl
 
   -- another one, where no known one is pending
-  pub takes_other : (u : ℕ) → s.places.items ≡ [] → t.places.items ≡ [] → IsTaken s.others t.others u → IsTakenFrom s t u
+  pub takes_other : (u : ℕ) → s.places.items ≡ [] → t.places.items ≡ [] → IsNameTaken s.others t.others u → IsTakenFrom s t u
   takes_other u none still taken =
       let other_found : (w : ℕ) → among t.others.found w ≡ among s.others.found w = λ w. ap (λ (xs : List ℕ). among xs w) taken.found in
       let waiting : (w : ℕ) → pending_in s w ≡ among s.others.pending w = λ w. ap (λ (xs : List ℕ). at_places s.known.nodes.now xs w || among s.others.pending w) none in

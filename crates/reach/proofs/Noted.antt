@@ -13,7 +13,7 @@ use Rattle.types.proofs.NameOrder.{name_cmp_is}
 use Rattle.std.proofs.lemmas.Bool.{and_parts, false≢true}
 use Rattle.std.proofs.lemmas.List.Folds.{list_any-append}
 use Rattle.protocol.specs.Sets.{among, IsAscending}
-use Rattle.reach.specs.Sweeps.{Swept, just, AreNoted}
+use Rattle.reach.specs.Sweeps.{Swept, just, AreNamesNoted}
 
 -- ---- two lists as one
 pub among_append : (xs ys : List ℕ) (u : ℕ) → among (xs ++ ys) u ≡ (among xs u || among ys u)
@@ -53,7 +53,7 @@ done_before false f true h = absurd (false≢true (and_parts f false h).1)
 done_before false f false h = h
 
 -- a name that is new is found and pending
-pub noted_first : (s t : Swept) (x : ℕ) → IsAscending t.found → ((u : ℕ) → among t.found u ≡ ((x == u) || among s.found u)) → length t.found ≡ length s.found + 1 → t.pending ≡ s.pending ++ x ∷ [] → AreNoted s t (just x)
+pub noted_first : (s t : Swept) (x : ℕ) → IsAscending t.found → ((u : ℕ) → among t.found u ≡ ((x == u) || among s.found u)) → length t.found ≡ length s.found + 1 → t.pending ≡ s.pending ++ x ∷ [] → AreNamesNoted s t (just x)
 noted_first s t x up is one pending =
     let waits : (u : ℕ) → among t.pending u ≡ (among s.pending u || ((x == u) || false)) = λ u. ap (λ (xs : List ℕ). among xs u) pending ∙ among_append s.pending (x ∷ []) u in
     record {

@@ -18,7 +18,7 @@ use Rattle.protocol.proofs.Sets.Least.{given_by_rule}
 use Rattle.protocol.proofs.Sets.Mapped.{mapped_to}
 use Rattle.protocol.proofs.Reach.Chains.{reached-holds, reached-in, reach_names}
 use Rattle.protocol.proofs.Statements.Found.{row_found}
-use Rattle.reach.specs.Sweeps.{Swept, is_done, AreNoted, IsTaken, names_in_rows_of, unknown}
+use Rattle.reach.specs.Sweeps.{Swept, is_done, AreNamesNoted, IsNameTaken, names_in_rows_of, unknown}
 use Rattle.reach.specs.Widening.{AreLedTo, HoldsRows, IsNarrow, in_either}
 use Rattle.reach.proofs.Dropped.{named_held}
 use Rattle.reach.proofs.Underway.{in_one_row, no_longer}
@@ -34,13 +34,13 @@ module _ (table : List Sent) (known : List ℕ) (sender : ℕ) where
     pub least : (u : ℕ) → IsTrue (among s.found u) → (set : Names) → HoldsRows table set → IsTrue (set sender) → IsTrue (set u)
 
   -- what is named is known, or is noted
-  now_there : (s t : Swept) (set : Names) → AreNoted s t (unknown known set) → AreWithin set (in_either known t.found)
+  now_there : (s t : Swept) (set : Names) → AreNamesNoted s t (unknown known set) → AreWithin set (in_either known t.found)
   now_there s t set a u h = elim (cases_Bool (among known u)) [
     | inl k ↦ or_left (among known u) (among t.found u) k
     | inr n ↦ or_right (among known u) (among t.found u) (a.found u ∙ or_left (unknown known set u) (among s.found u) (and_from (not (among known u)) (set u) (ap not n) h))
   ]
 
-  still_there : (s t : Swept) (set : Names) → AreNoted s t set → AreWithin (in_either known s.found) (in_either known t.found)
+  still_there : (s t : Swept) (set : Names) → AreNamesNoted s t set → AreWithin (in_either known s.found) (in_either known t.found)
   still_there s t set a u h = elim (or_cases (among known u) (among s.found u) h) [
     | inl k ↦ or_left (among known u) (among t.found u) k
     | inr f ↦ or_right (among known u) (among t.found u) (a.found u ∙ or_right (set u) (among s.found u) f)
@@ -54,7 +54,7 @@ module _ (table : List Sent) (known : List ℕ) (sender : ℕ) where
       off true e = absurd (false≢true e)
       off false e = refl
 
-  pub begins : (t : Swept) → AreNoted (record { found = []; pending = [] }) t (unknown known (names_in_rows_of table sender)) → IsWidening t
+  pub begins : (t : Swept) → AreNamesNoted (record { found = []; pending = [] }) t (unknown known (names_in_rows_of table sender)) → IsWidening t
   begins t a =
       let nothing : Swept = record { found = []; pending = [] } in
       let new : (u : ℕ) → IsTrue (among t.found u) → unknown known (names_in_rows_of table sender) u ≡ true = λ u h. elim (or_cases (unknown known (names_in_rows_of table sender) u) false (sym (a.found u) ∙ h)) [
@@ -73,7 +73,7 @@ module _ (table : List Sent) (known : List ℕ) (sender : ℕ) where
         least = λ u h set holds s. named_held table sender u set holds s (parts_of (names_in_rows_of table sender) u (new u h)).1;
       }
 
-  pub goes_on : (s t r : Swept) (u : ℕ) → IsWidening s → IsTaken s t u → AreNoted t r (unknown known (names_in_rows_of table u)) → IsWidening r
+  pub goes_on : (s t r : Swept) (u : ℕ) → IsWidening s → IsNameTaken s t u → AreNamesNoted t r (unknown known (names_in_rows_of table u)) → IsWidening r
   goes_on s t r u way taken noted =
       let was : (w : ℕ) → among t.found w ≡ among s.found w = λ w. ap (λ (xs : List ℕ). among xs w) taken.found in
       let still : AreWithin (in_either known s.found) (in_either known r.found) = λ w h. still_there t r (unknown known (names_in_rows_of table u)) noted w (ap (λ b. among known w || b) (was w) ∙ h) in

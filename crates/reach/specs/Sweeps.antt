@@ -21,7 +21,7 @@ abbrev pub just : ℕ → Names
 just x u = x == u
 
 -- the names of a set were noted: they are found now, and what was not found before is pending
-pub record AreNoted (old new : Swept) (set : Names) : Type 0 where
+pub record AreNamesNoted (old new : Swept) (set : Names) : Type 0 where
   pub ascending : IsAscending new.found
   pub found : (u : ℕ) → among new.found u ≡ (set u || among old.found u)
   pub pending : (u : ℕ) → IsTrue (among new.pending u) → IsTrue (set u || among old.pending u)
@@ -29,7 +29,7 @@ pub record AreNoted (old new : Swept) (set : Names) : Type 0 where
   pub counted : length new.found + length old.pending ≡ length old.found + length new.pending
 
 -- a pending name was taken, to look at its rows
-pub record IsTaken (old new : Swept) (u : ℕ) : Type 0 where
+pub record IsNameTaken (old new : Swept) (u : ℕ) : Type 0 where
   pub found : new.found ≡ old.found
   pub pending : IsTrue (among old.pending u)
   pub others : AreWithin (among new.pending) (among old.pending)

@@ -7,7 +7,7 @@ ghost use Rattle.types.specs.Trees.{Slices};
 ghost use Rattle.protocol.specs.Reach.{IsReach};
 ghost use Rattle.protocol.specs.Sets.{IsAscending};
 ghost use Rattle.reach.specs.Searching.{AreKnown};
-ghost use Rattle.reach.specs.Sweeps.{AreNoted, names_in_rows_of, names_in_row, unknown};
+ghost use Rattle.reach.specs.Sweeps.{AreNamesNoted, names_in_rows_of, names_in_row, unknown};
 ghost use Rattle.reach.specs.Widening.{AreLedTo, IsNarrow};
 
 use crate::search::{KnownNodes, Search, join};
@@ -114,7 +114,7 @@ fn note_rows_of<S: Places>(
 ) -> Result<(), AllocError>
     requires found { IsAscending sweep.old.found }
     requires known { IsAscending known.now }
-    ensures { OnOk result (AreNoted sweep.old sweep.new (unknown known.now (names_in_rows_of table.now node.now))) }
+    ensures { OnOk result (AreNamesNoted sweep.old sweep.new (unknown known.now (names_in_rows_of table.now node.now))) }
 {
     let rows = table.rows_of(node);
     note_row(alloc, rows.nomination, known, sweep)?;
@@ -130,7 +130,7 @@ fn note_row(
 ) -> Result<(), AllocError>
     requires found { IsAscending sweep.old.found }
     requires known { IsAscending known.now }
-    ensures { OnOk result (AreNoted sweep.old sweep.new (unknown known.now (names_in_row (option_map (λ r. r.now) row.entry)))) }
+    ensures { OnOk result (AreNamesNoted sweep.old sweep.new (unknown known.now (names_in_row (option_map (λ r. r.now) row.entry)))) }
 {
     match row {
         None => Ok(()),

@@ -2,7 +2,7 @@
 
 ghost use Rattle.std.specs.Prelude.{◌≡◌, [], IfOk, OnOk, MatchOption};
 ghost use Rattle.protocol.specs.Sets.{among, IsAscending};
-ghost use Rattle.reach.specs.Sweeps.{AreNoted, IsTaken, just, unknown};
+ghost use Rattle.reach.specs.Sweeps.{AreNamesNoted, IsNameTaken, just, unknown};
 
 use slices::is_among;
 use std::alloc::{AllocError, Global};
@@ -40,7 +40,7 @@ impl Sweep {
     /// Notes a node, which is pending unless it was found before.
     pub fn note(&mut self, node: &NodeId) -> Result<(), AllocError>
         requires { IsAscending self.old.found }
-        ensures { OnOk result (AreNoted self.old self.new (just node.now)) }
+        ensures { OnOk result (AreNamesNoted self.old self.new (just node.now)) }
     {
         let Ok(is_new) = self.found.insert(*node) else {
             // Memory: the set has no room.
@@ -56,7 +56,7 @@ impl Sweep {
     pub fn note_all(&mut self, nodes: &[NodeId], known: &[NodeId]) -> Result<(), AllocError>
         requires found { IsAscending self.old.found }
         requires known { IsAscending known.now }
-        ensures { OnOk result (AreNoted self.old self.new (unknown known.now (among nodes.now))) }
+        ensures { OnOk result (AreNamesNoted self.old self.new (unknown known.now (among nodes.now))) }
     {
         for node in nodes {
             self.note_unknown(node, known)?;
@@ -67,7 +67,7 @@ impl Sweep {
     fn note_unknown(&mut self, node: &NodeId, known: &[NodeId]) -> Result<(), AllocError>
         requires found { IsAscending self.old.found }
         requires known { IsAscending known.now }
-        ensures { OnOk result (AreNoted self.old self.new (unknown known.now (just node.now))) }
+        ensures { OnOk result (AreNamesNoted self.old self.new (unknown known.now (just node.now))) }
     {
         if is_among(known, node) {
             return Ok(());
@@ -77,7 +77,7 @@ impl Sweep {
 
     /// Takes a pending node, if there is one.
     pub fn take(&mut self) -> Option<NodeId>
-        ensures { MatchOption result ((self.old.pending ≡ []) × (self.new ≡ self.old)) (λ u. IsTaken self.old self.new u) }
+        ensures { MatchOption result ((self.old.pending ≡ []) × (self.new ≡ self.old)) (λ u. IsNameTaken self.old self.new u) }
     {
         self.pending.pop()
     }

@@ -7,7 +7,7 @@ use Rattle.types.specs.Trees.{Slices, all_differ}
 use Rattle.types.proofs.Bools.{both, join, not_is}
 use Rattle.protocol.specs.Networks.{HostedNode}
 use Rattle.configuration.specs.Configs.{names_of}
-use Rattle.requests.specs.Outlines.{Outlined, IsSound}
+use Rattle.requests.specs.Outlines.{Outlined, IsSoundOutline}
 
 swapped : (x u : ℕ) → (x == u) ≡ false → (u == x) ≡ false
 swapped x u h = grind (arith, nat_tests)
@@ -46,8 +46,8 @@ length-more [] h = refl
 length-more (x ∷ nodes) h = omega (arith, length-more nodes h)
 
 -- a node of another name may follow
-pub hosted-sound : (d : Outlined) (h : HostedNode) (now : List HostedNode) → IsSound d → length d.nodes < 256 → list_any (λ hosted. hosted.name == h.name) d.nodes ≡ false
-    → now ≡ d.nodes ++ h ∷ [] → IsSound (record d { nodes = now })
+pub hosted-sound : (d : Outlined) (h : HostedNode) (now : List HostedNode) → IsSoundOutline d → length d.nodes < 256 → list_any (λ hosted. hosted.name == h.name) d.nodes ≡ false
+    → now ≡ d.nodes ++ h ∷ [] → IsSoundOutline (record d { nodes = now })
 hosted-sound d h now sound few other e = record {
   differ = subst (λ nodes. all_differ (names_of nodes) ≡ true) (sym e)
       (subst (λ us. all_differ us ≡ true) (sym (names-more d.nodes h))
@@ -57,10 +57,10 @@ hosted-sound d h now sound few other e = record {
 }
 
 -- the same of a list that may have been too short of room
-pub hosted-or-same : (d : Outlined) (h : HostedNode) (u : ℕ) (q : Slices) (seen now : List HostedNode) (ok : Bool) → IsSound d → length d.nodes < 256
+pub hosted-or-same : (d : Outlined) (h : HostedNode) (u : ℕ) (q : Slices) (seen now : List HostedNode) (ok : Bool) → IsSoundOutline d → length d.nodes < 256
     → h ≡ record { name = u; slices = q } → seen ≡ d.nodes → list_any (λ hosted. hosted.name == u) seen ≡ false
-    → now ≡ (if ok then d.nodes ++ h ∷ [] else d.nodes) → IsSound (record d { nodes = now })
+    → now ≡ (if ok then d.nodes ++ h ∷ [] else d.nodes) → IsSoundOutline (record d { nodes = now })
 hosted-or-same d h u q seen now true sound few is same other e =
     hosted-sound d h now sound few (subst (λ x. list_any (λ hosted. hosted.name == x.name) d.nodes ≡ false) (sym is)
     (subst (λ nodes. list_any (λ hosted. hosted.name == u) nodes ≡ false) same other)) e
-hosted-or-same d h u q seen now false sound few is same other e = subst (λ nodes. IsSound (record d { nodes = nodes })) (sym e) sound
+hosted-or-same d h u q seen now false sound few is same other e = subst (λ nodes. IsSoundOutline (record d { nodes = nodes })) (sym e) sound

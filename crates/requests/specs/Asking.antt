@@ -4,7 +4,7 @@ use Rattle.scripts.specs.Script.{Bytes}
 use Rattle.scripts.specs.Names.{word_name}
 use Rattle.scripts.specs.Words.{word_counter}
 use Rattle.types.specs.declared.event.Event.{Event}
-use Rattle.types.specs.declared.event.Event.TheVariants.{BallotTimer, CloseSlot, Deliver, Hear, NominationTimer, OpenSlot, Propose, Reslice}
+use Rattle.types.specs.declared.event.Event.TheVariants.{Deliver, Hear}
 use Rattle.requests.specs.declared.request.Request.{Request}
 use Rattle.requests.specs.declared.request.Request.TheVariants as request
 use Rattle.requests.specs.Lines.{slot_in}
@@ -86,5 +86,5 @@ IsAskedAs form.Show fields asked = asked ≡ shown_in fields
 IsAskedAs form.Script fields asked = IsOfScript asked_by fields asked
 
 -- a line with these fields asks for this of the network of a number; or it is bad
-abbrev pub IsAsked : List Bytes → Option (ℕ × Ask) → Type 0
-IsAsked fields asked = IsAskedAs (form_in fields) fields asked
+abbrev pub IsAskedOf : List Bytes → Option (ℕ × Ask) → Type 0
+IsAskedOf fields asked = IsAskedAs (form_in fields) fields asked

@@ -166,13 +166,13 @@ IsRead asks (Some x) = asks x
 IsRead {X} asks None = (x : X) → ¬ asks x
 
 -- a line of a kind, by its fields after the number of the network, asks for this event, or for none
-abbrev pub IsAsked : EventVerb → List Bytes → Option Event → Type 0
-IsAsked ask.Open fields asked = asked ≡ opening_in fields
-IsAsked ask.Close fields asked = asked ≡ closing_in fields
-IsAsked ask.Propose fields asked = asked ≡ proposal_in fields
-IsAsked ask.Deliver fields asked = asked ≡ delivery_in fields
-IsAsked ask.Say fields asked = IsRead (AsksSay fields) asked
-IsAsked ask.Hear fields asked = asked ≡ hearing_in fields
-IsAsked ask.NominationTimer fields asked = asked ≡ nomination_timer_in fields
-IsAsked ask.BallotTimer fields asked = asked ≡ ballot_timer_in fields
-IsAsked ask.Reslice fields asked = IsRead (AsksReslice fields) asked
+abbrev pub IsEventAsked : EventVerb → List Bytes → Option Event → Type 0
+IsEventAsked ask.Open fields asked = asked ≡ opening_in fields
+IsEventAsked ask.Close fields asked = asked ≡ closing_in fields
+IsEventAsked ask.Propose fields asked = asked ≡ proposal_in fields
+IsEventAsked ask.Deliver fields asked = asked ≡ delivery_in fields
+IsEventAsked ask.Say fields asked = IsRead (AsksSay fields) asked
+IsEventAsked ask.Hear fields asked = asked ≡ hearing_in fields
+IsEventAsked ask.NominationTimer fields asked = asked ≡ nomination_timer_in fields
+IsEventAsked ask.BallotTimer fields asked = asked ≡ ballot_timer_in fields
+IsEventAsked ask.Reslice fields asked = IsRead (AsksReslice fields) asked

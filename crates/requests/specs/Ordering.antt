@@ -8,7 +8,7 @@ use Rattle.requests.specs.declared.ask.Ask.{Ask}
 use Rattle.requests.specs.declared.ask.Ask.TheVariants as ask
 use Rattle.requests.specs.declared.order.Order.{Order}
 use Rattle.requests.specs.declared.order.Order.TheVariants as order
-use Rattle.requests.specs.Asking.{IsAsked}
+use Rattle.requests.specs.Asking.{IsAskedOf}
 use Rattle.requests.specs.Requests.{IsRequested}
 
 -- what a declaration orders: a network is declared as served, and all else of it as of any other
@@ -31,12 +31,12 @@ order_by (g, ask.Show i u) = None
 abbrev pub IsOrderedBy : Option (ℕ × Request) → List Bytes → Option (ℕ × Order) → Type 0
 IsOrderedBy (Some r) fields ordered = ordered ≡ Some (r.0, order.Request r.1)
 IsOrderedBy None fields ordered =
-    (asked : Option (ℕ × Ask)) × IsAsked fields asked × (ordered ≡ option_and_then order_by asked)
+    (asked : Option (ℕ × Ask)) × IsAskedOf fields asked × (ordered ≡ option_and_then order_by asked)
 
 -- a line with these fields orders this of the network of a number, or has none of the forms
-abbrev pub IsOrdered : List Bytes → Option (ℕ × Order) → Type 0
-IsOrdered fields ordered = (r : Option (ℕ × Request)) × IsRequested fields r × IsOrderedBy r fields ordered
+abbrev pub IsLineOrder : List Bytes → Option (ℕ × Order) → Type 0
+IsLineOrder fields ordered = (r : Option (ℕ × Request)) × IsRequested fields r × IsOrderedBy r fields ordered
 
 -- a line with these fields orders this of the network of a number
 abbrev pub Orders : List Bytes → ℕ → Order → Type 0
-Orders fields g o = IsOrdered fields (Some (g, o))
+Orders fields g o = IsLineOrder fields (Some (g, o))

@@ -27,8 +27,8 @@ Waiting = List (ℕ × Outlined)
 -- ---- what lines change
 
 -- a network that is declared, without nodes and without a roster
-abbrev pub fresh : Budgets → Outlined
-fresh b = record { budgets = b; nodes = []; roster = None }
+abbrev pub bare_outline : Budgets → Outlined
+bare_outline b = record { budgets = b; nodes = []; roster = None }
 
 -- a declared network with one more node
 abbrev pub with_node : Outlined → ℕ → Slices → Outlined
@@ -61,15 +61,15 @@ IsRevised g change old new = (d : Outlined) × (waiting_at old g ≡ Some d) × 
 -- ---- what becomes of them
 
 -- the configuration takes the roster, if there is one
-abbrev pub IsAllowed : Option (List ℕ × Shares) → Type 0
-IsAllowed None = Unit {0}
-IsAllowed (Some r) = first_fault (roster_tests r.0 r.1) ≡ None
+abbrev pub IsRosterAllowed : Option (List ℕ × Shares) → Type 0
+IsRosterAllowed None = Unit {0}
+IsRosterAllowed (Some r) = first_fault (roster_tests r.0 r.1) ≡ None
 
 -- what a configuration refuses of nodes and rosters has not been declared
-pub record IsSound (d : Outlined) : Type 0 where
+pub record IsSoundOutline (d : Outlined) : Type 0 where
   pub differ : all_differ (names_of d.nodes) ≡ true
   pub few_nodes : length d.nodes ≤ 256
-  pub allowed : IsAllowed d.roster
+  pub allowed : IsRosterAllowed d.roster
 
 -- the roster is that which was declared
 abbrev pub IsRosterAs : Option (List ℕ × Shares) → Option Roster → Type 0

@@ -4,14 +4,14 @@ use Rattle.scripts.specs.Script.{Bytes}
 use Rattle.requests.specs.declared.request.Declaration.{Declaration}
 use Rattle.requests.specs.declared.request.Declaration.TheVariants.{Net, Node, Roster}
 use Rattle.requests.specs.declared.request.Request.TheVariants.{Declare}
-use Rattle.requests.specs.Outlines.{IsRevised, Waiting, fresh, waiting_at, waiting_with, with_node, with_roster}
+use Rattle.requests.specs.Outlines.{IsRevised, Waiting, bare_outline, waiting_at, waiting_with, with_node, with_roster}
 use Rattle.requests.specs.Naming.{Named}
 use Rattle.requests.specs.Requests.{IsRequested}
 use Rattle.requests.specs.Taking.{takes}
 
 -- a network is declared of which none waits, or one that waits has a node more, or its roster
 abbrev pub Prepares : ℕ → Declaration → Waiting → Waiting → Type 0
-Prepares g (Net b) old new = (waiting_at old g ≡ None) × (new ≡ waiting_with old g (fresh b))
+Prepares g (Net b) old new = (waiting_at old g ≡ None) × (new ≡ waiting_with old g (bare_outline b))
 Prepares g (Node u q) old new = IsRevised g (λ d. with_node d u q) old new
 Prepares g (Roster r) old new = IsRevised g (λ d. with_roster d r.names.items r.shares) old new
 

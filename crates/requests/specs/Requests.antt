@@ -17,7 +17,7 @@ use Rattle.requests.specs.declared.request.Request.{Request}
 use Rattle.requests.specs.declared.request.Request.TheVariants.{Declare, Apply, Settle}
 use Rattle.requests.specs.declared.verbs.Verb.{Verb}
 use Rattle.requests.specs.declared.verbs.Verb.TheVariants as verb
-use Rattle.requests.specs.Lines.{IsAsked, IsRead, slot_in, verb_in}
+use Rattle.requests.specs.Lines.{IsEventAsked, IsRead, slot_in, verb_in}
 
 -- ---- declarations
 
@@ -58,12 +58,12 @@ shares_in fields =
     (number_behind (codes "opens") bytes.1)) (number_behind (codes "bytes") pair.1)) (number_behind (codes "pair") own.1)) (number_behind (codes "own") fields)
 
 -- the names that a list with a comma (44) between each and the next spells
-abbrev pub names_in : Bytes → Option (List ℕ)
-names_in list = each_word word_name (slice_split (λ b. b == 44) list)
+abbrev pub listed_names : Bytes → Option (List ℕ)
+listed_names list = each_word word_name (slice_split (λ b. b == 44) list)
 
 -- the names that the only field spells
 abbrev pub only_names : List Bytes → Option (List ℕ)
-only_names (list ∷ []) = names_in list
+only_names (list ∷ []) = listed_names list
 only_names fields = None
 
 -- these shares, if any, are reserved for the names that the fields behind them spell
@@ -90,7 +90,7 @@ IsRequest verb.Node fields asked = IsRead (AsksNode fields) asked
 IsRequest verb.Roster fields asked = IsRead (AsksRoster fields) asked
 IsRequest verb.Settle fields asked = asked ≡ settling_in fields
 IsRequest (verb.Event v) fields asked =
-    (event : Option Event) × IsAsked v fields event × (asked ≡ option_map (λ e. Apply e) event)
+    (event : Option Event) × IsEventAsked v fields event × (asked ≡ option_map (λ e. Apply e) event)
 
 -- a line of this kind, if it is one, asks for that of the network of this number, if it is one
 abbrev pub IsRequestOf : Option Verb → Option ℕ → List Bytes → Option (ℕ × Request) → Type 0

@@ -13,7 +13,7 @@ use Rattle.requests.specs.declared.order.Order.TheVariants as order
 use Rattle.requests.specs.Outlines.{Outlined, Waiting, waiting_at}
 use Rattle.requests.specs.Naming.{Named, is_in}
 use Rattle.requests.specs.Requests.{IsRequested}
-use Rattle.requests.specs.Ordering.{IsOrdered}
+use Rattle.requests.specs.Ordering.{IsLineOrder}
 use Rattle.requests.specs.Taking.{is_declared, takes}
 
 -- the line asks the network of a number for an event
@@ -67,8 +67,8 @@ IsBadRequest a ws n g (Apply e) = IsBadToAsk (a.closing || not (is_closing e)) w
 IsBadRequest a ws n g (Settle slot) = IsBadToAsk a.settling ws g
 
 -- the line has none of the forms, or what it asks for is bad
-abbrev pub Refuses : Allowed → Waiting → Named → List Bytes → Type 0
-Refuses a ws n fields =
+abbrev pub RefusesAsked : Allowed → Waiting → Named → List Bytes → Type 0
+RefusesAsked a ws n fields =
     (asked : Option (ℕ × Request)) × IsRequested fields asked × IfSome asked (λ r. IsBadRequest a ws n r.0 r.1)
 
 -- ---- bad lines where some networks are served
@@ -100,7 +100,7 @@ IsBadOrder ws n g order.Drop = is_unserved ws n g ≡ true
 -- the line has none of the forms, or what it orders is bad
 abbrev pub RefusesOrder : Waiting → Named → List Bytes → Type 0
 RefusesOrder ws n fields =
-    (ordered : Option (ℕ × Order)) × IsOrdered fields ordered × IfSome ordered (λ r. IsBadOrder ws n r.0 r.1)
+    (ordered : Option (ℕ × Order)) × IsLineOrder fields ordered × IfSome ordered (λ r. IsBadOrder ws n r.0 r.1)
 
 -- no line is both bad and told
 abbrev pub BadLinesAreUntold : {S : Type 0} → Telling S → Refusing S → Type 0

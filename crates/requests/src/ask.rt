@@ -1,7 +1,7 @@
 //! What a line asks of a live host.
 
 ghost use Rattle.std.specs.Prelude.{◌≡◌, ◌∷◌, IfOk, codes, map};
-ghost use Rattle.requests.specs.Asking.{IsAsked, IsForAll, IsNet, IsOfScript, IsServedNet, asked_by, dropped_in, for_all_by, left_in, shown_in, shown_of};
+ghost use Rattle.requests.specs.Asking.{IsAskedOf, IsForAll, IsNet, IsOfScript, IsServedNet, asked_by, dropped_in, for_all_by, left_in, shown_in, shown_of};
 ghost use Rattle.requests.specs.Forms.{is_word};
 
 use crate::form::{Form, form_of};
@@ -31,7 +31,7 @@ pub enum Ask {
 /// The number of the network that a line names, and what it asks for. It is `None` if the line has none of the forms,
 /// and so is bad. An error says that it is out of memory.
 pub fn ask_of(alloc: Global, fields: &[&[u8]]) -> Result<Option<(u32, Ask)>, AllocError>
-    ensures { IfOk result (IsAsked (map (λ field. field.now) fields.now)) }
+    ensures { IfOk result (IsAskedOf (map (λ field. field.now) fields.now)) }
 {
     match form_of(fields) {
         Form::Net => net(alloc, fields),

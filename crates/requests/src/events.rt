@@ -1,7 +1,7 @@
 //! Events as lines write them, after the number of the network. Fields that have not this form ask for none.
 
 ghost use Rattle.std.specs.Prelude.{◌≡◌, IfOk, IfSome, map, option_map};
-ghost use Rattle.requests.specs.Lines.{AreSaid, AsksReslice, AsksSay, IsAsked, IsRead, ballot_timer_in, closing_in, delivery_in, emission_in, five, hearing_in, kind_in, nomination_timer_in, opening_in, slot_and_node_in, proposal_in, saying_in, slot_in, three, word_proposal};
+ghost use Rattle.requests.specs.Lines.{AreSaid, AsksReslice, AsksSay, IsEventAsked, IsRead, ballot_timer_in, closing_in, delivery_in, emission_in, five, hearing_in, kind_in, nomination_timer_in, opening_in, slot_and_node_in, proposal_in, saying_in, slot_in, three, word_proposal};
 
 use crate::verbs::{EventVerb, is_word};
 use codec::encode;
@@ -16,7 +16,7 @@ pub(crate) fn event_of(
     verb: EventVerb,
     fields: &[&[u8]],
 ) -> Result<Option<Event>, AllocError>
-    ensures { IfOk result (IsAsked verb (map (λ field. field.now) fields.now)) }
+    ensures { IfOk result (IsEventAsked verb (map (λ field. field.now) fields.now)) }
 {
     match verb {
         EventVerb::Open => Ok(open(fields)),

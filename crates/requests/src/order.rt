@@ -1,7 +1,7 @@
 //! What a line of a script orders, where some networks are served and others are not.
 
 ghost use Rattle.std.specs.Prelude.{◌≡◌, Err, IfOk, None, Some, map};
-ghost use Rattle.requests.specs.Ordering.{IsOrdered, declared_by, order_by};
+ghost use Rattle.requests.specs.Ordering.{IsLineOrder, declared_by, order_by};
 
 use crate::ask::{Ask, ask_of};
 use crate::request::{Declaration, Request, asked_by};
@@ -25,8 +25,8 @@ pub enum Order {
 
 /// The number of the network that a line names, and what it orders. The line is bad if it has none of the forms.
 pub fn order_of(alloc: Global, fields: &[&[u8]]) -> Result<(u32, Order), LineError>
-    ensures ordered { IfOk result (λ r. IsOrdered (map (λ field. field.now) fields.now) (Some (r.0, r.1))) }
-    ensures bad { result ≡ Err LineError.Bad → IsOrdered (map (λ field. field.now) fields.now) None }
+    ensures ordered { IfOk result (λ r. IsLineOrder (map (λ field. field.now) fields.now) (Some (r.0, r.1))) }
+    ensures bad { result ≡ Err LineError.Bad → IsLineOrder (map (λ field. field.now) fields.now) None }
 {
     match ordered_by(alloc, fields)? {
         Some((number, order)) => Ok((number, order)),
@@ -36,7 +36,7 @@ pub fn order_of(alloc: Global, fields: &[&[u8]]) -> Result<(u32, Order), LineErr
 
 /// `None` if the line has none of the forms.
 fn ordered_by(alloc: Global, fields: &[&[u8]]) -> Result<Option<(u32, Order)>, AllocError>
-    ensures { IfOk result (IsOrdered (map (λ field. field.now) fields.now)) }
+    ensures { IfOk result (IsLineOrder (map (λ field. field.now) fields.now)) }
 {
     match asked_by(alloc, fields)? {
         Some((number, request)) => Ok(Some((number, Order::Request(request)))),

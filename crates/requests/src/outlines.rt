@@ -3,7 +3,7 @@
 ghost use Rattle.std.specs.Prelude.{◌≡◌, ◌==◌, [], Err, IfOk, None, OnOk, Some, false, option_map, true};
 ghost use Rattle.std.specs.List.{list_any};
 ghost use Rattle.types.specs.Trees.{all_differ as names_differ};
-ghost use Rattle.requests.specs.Outlines.{IsConfigOf, fresh, with_node, with_roster};
+ghost use Rattle.requests.specs.Outlines.{IsConfigOf, bare_outline, with_node, with_roster};
 ghost use Rattle.requests.specs.Taking.{is_roster, takes_node, takes_roster};
 ghost use Rattle.requests.specs.Telling.{is_bare};
 
@@ -32,7 +32,7 @@ impl Model for Outline {
     ghost use Rattle.std.specs.Coded.{codes};
     ghost use Rattle.std.specs.Prelude.{option_map};
     ghost use Rattle.types.specs.Trees.{members_code};
-    ghost use Rattle.requests.specs.Outlines.{Outlined, IsSound};
+    ghost use Rattle.requests.specs.Outlines.{Outlined, IsSoundOutline};
 
     ghost Value = { Outlined };
 
@@ -40,13 +40,13 @@ impl Model for Outline {
 
     ghost view = { λ d. record { budgets = d.budgets; nodes = d.nodes.items; roster = option_map (λ r. (r.names.items, r.shares)) d.roster } };
 
-    ghost invariant = { λ d. IsSound (record { budgets = d.budgets; nodes = d.nodes.items; roster = option_map (λ r. (r.names.items, r.shares)) d.roster }) };
+    ghost invariant = { λ d. IsSoundOutline (record { budgets = d.budgets; nodes = d.nodes.items; roster = option_map (λ r. (r.names.items, r.shares)) d.roster }) };
 }
 
 impl Outline {
     /// A network with these budgets and no node. It takes no memory.
     pub fn new(alloc: Global, budgets: Budgets) -> Outline
-        ensures { result ≡ fresh budgets }
+        ensures { result ≡ bare_outline budgets }
     {
         Outline {
             alloc,

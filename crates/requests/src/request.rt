@@ -2,7 +2,7 @@
 
 ghost use Rattle.std.specs.Prelude.{◌≡◌, Err, IfOk, None, Some, map, option_map};
 ghost use Rattle.requests.specs.Lines.{IsRead};
-ghost use Rattle.requests.specs.Requests.{AreAllowed, AsksNode, AsksRoster, IsRequest, IsRequested, budgets_in, number_behind, names_in, only_names, settling_in, shares_in};
+ghost use Rattle.requests.specs.Requests.{AreAllowed, AsksNode, AsksRoster, IsRequest, IsRequested, budgets_in, number_behind, listed_names, only_names, settling_in, shares_in};
 
 use crate::events::event_of;
 use crate::verbs::{Verb, is_word, verb_of};
@@ -196,7 +196,7 @@ fn only_names_of(alloc: Global, fields: &[&[u8]]) -> Result<Option<Vec<NodeId>>,
 
 /// Names with a comma between each and the next.
 fn names_of(alloc: Global, list: &[u8]) -> Result<Option<Vec<NodeId>>, AllocError>
-    ensures { IfOk result (λ o. option_map (λ v. v.items) o ≡ names_in list.now) }
+    ensures { IfOk result (λ o. option_map (λ v. v.items) o ≡ listed_names list.now) }
 {
     let mut names = Vec::new(alloc);
     for word in list.split(|byte| *byte == b',') {

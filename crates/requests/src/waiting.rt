@@ -1,7 +1,7 @@
 //! The networks of a script that are declared and that no event has named since.
 
 ghost use Rattle.std.specs.Prelude.{◌<◌, ◌≡◌, ◌^◌, ◌∷◌, [], Err, IfNone, IfSome, None, OnOk, false, is_some, length, option_map, true};
-ghost use Rattle.requests.specs.Outlines.{IsRevised, fresh, waiting_at, waiting_with, waiting_without, with_node, with_roster};
+ghost use Rattle.requests.specs.Outlines.{IsRevised, bare_outline, waiting_at, waiting_with, waiting_without, with_node, with_roster};
 ghost use Rattle.requests.specs.Taking.{takes_node, takes_roster};
 ghost use Rattle.requests.specs.Telling.{is_bare};
 
@@ -47,7 +47,7 @@ impl Waiting {
     /// Adds a network with its budgets. The line is bad if one of its number waits.
     pub fn declare(&mut self, number: u32, budgets: Budgets) -> Result<(), LineError>
         ensures absent { OnOk result (waiting_at self.old number ≡ None) }
-        ensures declared { OnOk result (self.new ≡ waiting_with self.old number (fresh budgets)) }
+        ensures declared { OnOk result (self.new ≡ waiting_with self.old number (bare_outline budgets)) }
         ensures bad { result ≡ Err LineError.Bad → is_some (waiting_at self.old number) ≡ true }
     {
         if self.outlines.contains_key(&number) {

@@ -33,18 +33,18 @@ use Rattle.runs.specs.Joining.{NetworkIsNamedAt, Joins}
 use Rattle.requests.specs.Asking.{IsAskedAs, IsForAll, IsNet, IsOfScript, IsServedNet, asked_by, for_all_by}
 use Rattle.requests.specs.Forms.{form_in, is_word}
 use Rattle.requests.specs.Naming.{Named, is_in}
-use Rattle.requests.specs.Ordering.{IsOrdered, IsOrderedBy, order_by}
+use Rattle.requests.specs.Ordering.{IsLineOrder, IsOrderedBy, order_by}
 use Rattle.requests.specs.Preparing.{IsPrepared}
 use Rattle.requests.specs.Taking.{takes}
-use Rattle.requests.specs.Lines.{AreSaid, AsksReslice, AsksResliceOf, AsksSay, AsksSayOf, IsAsked, IsRead, IsResliced, IsSaid, five, saying_in, slot_and_node_in, three, verb_in}
+use Rattle.requests.specs.Lines.{AreSaid, AsksReslice, AsksResliceOf, AsksSay, AsksSayOf, IsEventAsked, IsRead, IsResliced, IsSaid, five, saying_in, slot_and_node_in, three, verb_in}
 use Rattle.requests.specs.Requests.{AreAllowed, AsksNode, AsksRoster, IsNode, IsRequest, IsRequestOf, IsRequested, IsReserved, budgets_in, shares_in}
-use Rattle.requests.specs.Telling.{Allowed, HasNoNode, IsBadOrder, IsBadRequest, IsBadToAsk, IsBare, Refuses, RefusesOrder, is_unserved, may_apply}
+use Rattle.requests.specs.Telling.{Allowed, HasNoNode, IsBadOrder, IsBadRequest, IsBadToAsk, IsBare, RefusesAsked, RefusesOrder, is_unserved, may_apply}
 use Rattle.runs.specs.Followed.{also_followed}
-use Rattle.runs.specs.Hosting.{Hosting, IsBegun, logs_joined}
+use Rattle.runs.specs.Hosting.{Hosting, IsNetworkBegun, logs_joined}
 use Rattle.runs.specs.declared.outcome.Outcome.{Outcome}
 use Rattle.runs.specs.declared.outcome.Outcome.TheVariants.{Declared, Answer, Answers, Settled}
 use Rattle.runs.specs.Running.{BadLinesTellNothing, Does}
-use Rattle.runs.specs.Submitting.{BadLinesSubmitNothing, IsDeclared, Submitting, declared_once, no_settling}
+use Rattle.runs.specs.Submitting.{BadLinesSubmitNothing, IsNetworkDeclared, Submitting, declared_once, no_settling}
 use Rattle.runs.specs.Submitting.Submits.{declares as submits_declaration, submits}
 use Rattle.runs.specs.Plans.{Plan}
 use Rattle.runs.specs.Putting.{BadLinesPutNothing, IsJobOrOpening, IsNoJob, only_jobs}
@@ -150,7 +150,7 @@ module _ (P : ℕ → Request → Type 0) (words : (g : ℕ) → IsOfWords (P g)
     two-reslices None e f h k so = absurd h
     two-reslices (Some w) e f h k so = two-resliced (slot_and_node_in w.0 w.1) w.2 e f h k so
 
-    two-events : (v : EventVerb) (fields : List Bytes) (o p : Option Event) → IsAsked v fields o → IsAsked v fields p → IsSoOfEvent p → IsSoOfEvent o
+    two-events : (v : EventVerb) (fields : List Bytes) (o p : Option Event) → IsEventAsked v fields o → IsEventAsked v fields p → IsSoOfEvent p → IsSoOfEvent o
     two-events ask.Say fields o p h k so = by-reading (AsksSay fields) IsSoOfEvent tt (two-sayings (five fields)) o p h k so
     two-events ask.Reslice fields o p h k so = by-reading (AsksReslice fields) IsSoOfEvent tt (two-reslices (three fields)) o p h k so
     two-events _ fields o p h k so = subst IsSoOfEvent (k ∙ sym h) so
@@ -185,10 +185,10 @@ module _ (a : Allowed) (ws : Waiting) (n : Named) where
   words-of : (g : ℕ) → IsOfWords (IsBadRequest a ws n g)
   words-of g d e names shares bad = same-rosters g d e names shares ∙ bad
 
-  not-bad : (fields : List Bytes) (g : ℕ) (r : Request) → IsRequested fields (Some (g, r)) → ¬ IsBadRequest a ws n g r → ¬ Refuses a ws n fields
+  not-bad : (fields : List Bytes) (g : ℕ) (r : Request) → IsRequested fields (Some (g, r)) → ¬ IsBadRequest a ws n g r → ¬ RefusesAsked a ws n fields
   not-bad fields g r asked fine bad = fine (two-readings (IsBadRequest a ws n) words-of fields (Some (g, r)) bad.0 asked bad.1 bad.2)
 
-  taken : (fields : List Bytes) (us : Waiting) → IsPrepared fields n ws us → ¬ Refuses a ws n fields
+  taken : (fields : List Bytes) (us : Waiting) → IsPrepared fields n ws us → ¬ RefusesAsked a ws n fields
   taken fields us h = not-bad fields h.0 (Declare h.1) h.2 (λ bad. false≢true (sym bad ∙ h.3))
 
 -- ---- the same of what is ordered
@@ -250,7 +250,7 @@ module _ (Q : ℕ → Order → Type 0) (words : (g : ℕ) → IsOfWords (λ r. 
   two-orders-by fields None (Some s) o p h k e f so = absurd (read-twice fields s k h)
   two-orders-by fields None None o p h k e f so = subst IsSoOf (sym e.2) (two-asked-as (form_in fields) fields e.0 f.0 e.1 f.1 (subst IsSoOf f.2 so))
 
-  pub two-orders : (fields : List Bytes) (o p : Option (ℕ × Order)) → IsOrdered fields o → IsOrdered fields p → IsSoOf p → IsSoOf o
+  pub two-orders : (fields : List Bytes) (o p : Option (ℕ × Order)) → IsLineOrder fields o → IsLineOrder fields p → IsSoOf p → IsSoOf o
   two-orders fields o p h k so = two-orders-by fields h.0 k.0 o p h.1 k.1 h.2 k.2 so
 
 module _ (ws : Waiting) (n : Named) where
@@ -258,7 +258,7 @@ module _ (ws : Waiting) (n : Named) where
   words-of-orders g d e names shares bad = same-rosters (record { settling = true; closing = true }) ws n g d e names shares ∙ bad
 
   -- no line is bad that orders what is not
-  not-bad-order : (fields : List Bytes) (g : ℕ) (o : Order) → IsOrdered fields (Some (g, o)) → ¬ IsBadOrder ws n g o → ¬ RefusesOrder ws n fields
+  not-bad-order : (fields : List Bytes) (g : ℕ) (o : Order) → IsLineOrder fields (Some (g, o)) → ¬ IsBadOrder ws n g o → ¬ RefusesOrder ws n fields
   not-bad-order fields g o ordered fine bad = fine (two-orders (IsBadOrder ws n) words-of-orders fields (Some (g, o)) bad.0 ordered bad.1 bad.2)
 
 -- ---- what is told is not bad
@@ -267,11 +267,11 @@ named-has-nodes : {S : Type 0} (joins : Joins S) (g : ℕ) (o : Option Outlined)
 named-has-nodes joins g None ws us old new h bare = bare
 named-has-nodes joins g (Some d) ws us old new h bare = h.1.1.some_nodes bare
 
-begun-has-nodes : (g : ℕ) (old new : Hosting) → IsBegun g old new → ¬ HasNoNode old.waiting g
+begun-has-nodes : (g : ℕ) (old new : Hosting) → IsNetworkBegun g old new → ¬ HasNoNode old.waiting g
 begun-has-nodes g old new begun =
     named-has-nodes (also_followed logs_joined) g (waiting_at old.waiting g) old.waiting new.waiting (old.logs, old.followed) (new.logs, new.followed) begun.0
 
-declared-has-nodes : (g : ℕ) (old new : Submitting) → IsDeclared g old new → ¬ HasNoNode old.waiting g
+declared-has-nodes : (g : ℕ) (old new : Submitting) → IsNetworkDeclared g old new → ¬ HasNoNode old.waiting g
 declared-has-nodes g old new named = named-has-nodes declared_once g (waiting_at old.waiting g) old.waiting new.waiting old.history new.history named.0
 
 planned-is-job : (g : ℕ) (e : Event) (old new : Plan) → IsJobOrOpening g e old new → ¬ IsNoJob old.submitted.waiting g e

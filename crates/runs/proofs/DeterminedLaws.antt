@@ -30,17 +30,17 @@ use Rattle.requests.specs.declared.order.Order.TheVariants as order
 use Rattle.requests.specs.declared.request.Declaration.{Declaration}
 use Rattle.requests.specs.declared.request.Declaration.TheVariants.{Net, Node, Roster}
 use Rattle.requests.specs.declared.request.Request.TheVariants.{Declare, Apply, Settle}
-use Rattle.runs.specs.Determined.{AreAlike, AreFollowedAlike, AreNamedAlike, HaveSame}
-use Rattle.runs.specs.Emissions.{OpenSlot, OpenSlots, at_number, changed_at, first_emitted, handed_on, waits}
+use Rattle.runs.specs.Determined.{AreFollowedAlike, AreNamedAlike, AreRunsAlike, HaveSame}
+use Rattle.runs.specs.Emissions.{OpenSlot, OpenSlots, at_number, changed_at_number, first_emitted, handed_on, waits}
 use Rattle.runs.specs.Followed.{Followed, IsUnfollowed, after_turn, also_followed, followed_with, names_at, open_slot, turn_of, waiting}
-use Rattle.runs.specs.Hosting.{Hosting, IsApplied, IsBegun, logs_joined, noted_answer}
+use Rattle.runs.specs.Hosting.{Hosting, IsEventApplied, IsNetworkBegun, logs_joined, noted_answer}
 use Rattle.runs.specs.Joining.{NetworkIsNamedAt}
 use Rattle.runs.specs.declared.outcome.Outcome.{Outcome}
 use Rattle.runs.specs.declared.outcome.Outcome.TheVariants.{Declared, Answer, Answers, Settled}
-use Rattle.runs.specs.Running.{Does, IsCarriedOut, IsDeclaredSo}
-use Rattle.runs.specs.ServedNetworks.{AllIsHeard as AllHeard, AreAllDelivered, AreDelivered, AreDeliveredTo, AreTold, IsDropped, IsHeardAt, IsHeardByOthers, IsHeardOf, IsServed}
+use Rattle.runs.specs.Running.{Does, IsDeclaredSo, IsLineCarriedOut}
+use Rattle.runs.specs.ServedNetworks.{AllIsHeard as AllHeard, AreAllDelivered, AreDelivered, AreDeliveredTo, HaveOthersHeard, IsDropAnswered, IsEventServed, IsHeardAt, IsHeardByOthers, IsHeardOf}
 use Rattle.runs.specs.ServedNetworks.AreDelivered.{next_node, none_left}
-use Rattle.runs.specs.ServedNetworks.AreTold.{all_told, one_told}
+use Rattle.runs.specs.ServedNetworks.HaveOthersHeard.{all_heard, one_heard}
 use Rattle.runs.specs.Settling.{AreHandedOn, HasSettled, HasSettledAt, IsHanded, IsHeardBy, handed_over, hearing, others}
 use Rattle.runs.specs.Settling.AreHandedOn.{cut_short, none_waits, one_waits}
 use Rattle.runs.specs.Settling.IsHeardBy.{by_all, by_one, refused}
@@ -93,7 +93,7 @@ forgotten-alike g m n p q a h k = record {
   served = without-one g m.served n.served p.served q.served a.served h.served k.served;
 }
 
-changed-alike : (g : ℕ) (change : OpenSlots → OpenSlots) (f k : Followed) → AreFollowedAlike f k → AreFollowedAlike (changed_at f g change) (changed_at k g change)
+changed-alike : (g : ℕ) (change : OpenSlots → OpenSlots) (f k : Followed) → AreFollowedAlike f k → AreFollowedAlike (changed_at_number f g change) (changed_at_number k g change)
 changed-alike g change f k same j =
     at-changed g change j f ∙ (ap (λ (o : Option OpenSlots). if g == j then option_map change o else o) (same j) ∙ sym (at-changed g change j k))
 
@@ -142,8 +142,8 @@ noted-alike g e (Ok outs) f k same = changed-alike g (after_turn (turn_of e) out
 noted-alike g e (Err r) f k same = same
 
 -- what an event is answered, and what becomes of the networks
-pub one-applied : (g : ℕ) (e : Event) (r s : Result (Vec Out Global) Refusal) (old other new last : Hosting) → AreAlike old other → IsApplied g e r old new → IsApplied g e s other last
-    → r ≢ Err NoMemory → s ≢ Err NoMemory → (items_of r ≡ items_of s) × AreAlike new last
+pub one-applied : (g : ℕ) (e : Event) (r s : Result (Vec Out Global) Refusal) (old other new last : Hosting) → AreRunsAlike old other → IsEventApplied g e r old new → IsEventApplied g e s other last
+    → r ≢ Err NoMemory → s ≢ Err NoMemory → (items_of r ≡ items_of s) × AreRunsAlike new last
 one-applied g e r s old other new last a h k m n = (
   answer.0,
   record {
@@ -173,11 +173,11 @@ waits-alike g slot f k same = ap (λ (o : Option OpenSlot). option_and_then wait
 names-alike : (g : ℕ) (f k : Followed) → AreFollowedAlike f k → names_at f g ≡ names_at k g
 names-alike g f k same = ap (λ (o : Option OpenSlots). option_map (λ m. m.names) o) (same g)
 
-over-alike : (g slot : ℕ) (ended : Option Refusal) (old other : Hosting) → AreAlike old other → AreAlike (handed_over g slot ended old) (handed_over g slot ended other)
+over-alike : (g slot : ℕ) (ended : Option Refusal) (old other : Hosting) → AreRunsAlike old other → AreRunsAlike (handed_over g slot ended old) (handed_over g slot ended other)
 over-alike g slot None old other a = record {
   waiting = a.waiting;
   named = a.named;
-  followed = changed-alike g (λ m. record m { slots = changed_at m.slots slot handed_on }) old.followed other.followed a.followed;
+  followed = changed-alike g (λ m. record m { slots = changed_at_number m.slots slot handed_on }) old.followed other.followed a.followed;
   logs = a.logs;
 }
 over-alike g slot (Some r) old other a = a
@@ -193,8 +193,8 @@ outs-had : (outs : Vec Out Global) → ◌≢◌ {A = Result (Vec Out Global) Re
 outs-had outs h = ok-or-err outs NoMemory h
 
 -- nodes that hear the same where networks are alike
-pub one-hearing : (g slot : ℕ) (e : Emission) (us : List ℕ) (old other new last : Hosting) (p q : Option Refusal) → AreAlike old other → IsHeardBy g slot e us old p new
-    → IsHeardBy g slot e us other q last → p ≢ Some NoMemory → q ≢ Some NoMemory → (p ≡ q) × AreAlike new last
+pub one-hearing : (g slot : ℕ) (e : Emission) (us : List ℕ) (old other new last : Hosting) (p q : Option Refusal) → AreRunsAlike old other → IsHeardBy g slot e us old p new
+    → IsHeardBy g slot e us other q last → p ≢ Some NoMemory → q ≢ Some NoMemory → (p ≡ q) × AreRunsAlike new last
 one-hearing g slot e us old other new last p q a by_all by_all m n = (refl, a)
 one-hearing g slot e us old other new last p q a (by_one {u = u} outs answer rest) (by_one others_outs also more) m n =
     let now = one-applied g (hearing slot u e) (Ok outs) (Ok others_outs) old other _ _ a answer also (outs-had outs) (outs-had others_outs) in
@@ -212,14 +212,14 @@ one-hearing g slot e us old other new last p q a (refused {u = u} r answer) (ref
 -- ---- a line that settles
 
 -- the emission that waits first is handed on
-one-handed : (g slot : ℕ) (names : List ℕ) (e d : Emission) (old other new last : Hosting) (p q : Option Refusal) → AreAlike old other → waiting old.followed g slot ≡ Some e
-    → waiting other.followed g slot ≡ Some d → IsHanded g slot e names old p new → IsHanded g slot d names other q last → p ≢ Some NoMemory → q ≢ Some NoMemory → (p ≡ q) × AreAlike new last
-one-handed g slot names e d old other new last p q a h k heard also m n = (hearings.0, subst (λ (x : Hosting × Hosting). AreAlike x.0 x.1) (λ i. (sym heard.2 i, sym last-is i)) (over-alike g slot p heard.0 also.0 hearings.1))
+one-handed : (g slot : ℕ) (names : List ℕ) (e d : Emission) (old other new last : Hosting) (p q : Option Refusal) → AreRunsAlike old other → waiting old.followed g slot ≡ Some e
+    → waiting other.followed g slot ≡ Some d → IsHanded g slot e names old p new → IsHanded g slot d names other q last → p ≢ Some NoMemory → q ≢ Some NoMemory → (p ≡ q) × AreRunsAlike new last
+one-handed g slot names e d old other new last p q a h k heard also m n = (hearings.0, subst (λ (x : Hosting × Hosting). AreRunsAlike x.0 x.1) (λ i. (sym heard.2 i, sym last-is i)) (over-alike g slot p heard.0 also.0 hearings.1))
   where
     same : e ≡ d
     same = one-some (waiting old.followed g slot) (waiting other.followed g slot) e d (waits-alike g slot old.followed other.followed a.followed) h k
 
-    hearings : (p ≡ q) × AreAlike heard.0 also.0
+    hearings : (p ≡ q) × AreRunsAlike heard.0 also.0
     hearings =
         one-hearing g slot e (others e names) old other heard.0 also.0 p q a heard.1
         (subst (λ (x : Emission). IsHeardBy g slot x (others x names) other q also.0) (sym same) also.1) m n
@@ -227,8 +227,8 @@ one-handed g slot names e d old other new last p q a h k heard also m n = (heari
     last-is : last ≡ handed_over g slot p also.0
     last-is = also.2 ∙ ap (λ x. handed_over g slot x also.0) (sym hearings.0)
 
-pub one-handing : (g slot : ℕ) (names : List ℕ) (old other new last : Hosting) (p q : Option Refusal) → AreAlike old other → AreHandedOn g slot names old p new
-    → AreHandedOn g slot names other q last → p ≢ Some NoMemory → q ≢ Some NoMemory → (p ≡ q) × AreAlike new last
+pub one-handing : (g slot : ℕ) (names : List ℕ) (old other new last : Hosting) (p q : Option Refusal) → AreRunsAlike old other → AreHandedOn g slot names old p new
+    → AreHandedOn g slot names other q last → p ≢ Some NoMemory → q ≢ Some NoMemory → (p ≡ q) × AreRunsAlike new last
 one-handing g slot names old other new last p q a (none_waits h) (none_waits k) m n = (refl, a)
 one-handing g slot names old other new last p q a (none_waits h) (one_waits e k heard more) m n = absurd (none-or-some (waiting old.followed g slot) e h (waits-alike g slot old.followed other.followed a.followed ∙ k))
 one-handing g slot names old other new last p q a (none_waits h) (cut_short e r k heard) m n = absurd (none-or-some (waiting old.followed g slot) e h (waits-alike g slot old.followed other.followed a.followed ∙ k))
@@ -246,14 +246,14 @@ one-handing g slot names old other new last p q a (cut_short e r h heard) (one_w
 one-handing g slot names old other new last p q a (cut_short e r h heard) (cut_short d s k also) m n =
     one-handed g slot names e d old other new last (Some r) (Some s) a h k heard also m n
 
-one-settling-at : (g slot : ℕ) (names : Option (List ℕ)) (o : Option OpenSlot) (old other new last : Hosting) (p q : Option Refusal) → AreAlike old other
-    → HasSettledAt g slot names o old p new → HasSettledAt g slot names o other q last → p ≢ Some NoMemory → q ≢ Some NoMemory → AreAlike new last
-one-settling-at g slot None o old other new last p q a h k m n = subst (λ (x : Hosting × Hosting). AreAlike x.0 x.1) (λ i. (sym h.0 i, sym k.0 i)) a
-one-settling-at g slot (Some names) None old other new last p q a h k m n = subst (λ (x : Hosting × Hosting). AreAlike x.0 x.1) (λ i. (sym h.0 i, sym k.0 i)) a
+one-settling-at : (g slot : ℕ) (names : Option (List ℕ)) (o : Option OpenSlot) (old other new last : Hosting) (p q : Option Refusal) → AreRunsAlike old other
+    → HasSettledAt g slot names o old p new → HasSettledAt g slot names o other q last → p ≢ Some NoMemory → q ≢ Some NoMemory → AreRunsAlike new last
+one-settling-at g slot None o old other new last p q a h k m n = subst (λ (x : Hosting × Hosting). AreRunsAlike x.0 x.1) (λ i. (sym h.0 i, sym k.0 i)) a
+one-settling-at g slot (Some names) None old other new last p q a h k m n = subst (λ (x : Hosting × Hosting). AreRunsAlike x.0 x.1) (λ i. (sym h.0 i, sym k.0 i)) a
 one-settling-at g slot (Some names) (Some o) old other new last p q a h k m n = (one-handing g slot names old other new last p q a h k m n).1
 
-one-settling : (g slot : ℕ) (old other new last : Hosting) (p q : Option Refusal) → AreAlike old other → HasSettled g slot old p new → HasSettled g slot other q last
-    → p ≢ Some NoMemory → q ≢ Some NoMemory → AreAlike new last
+one-settling : (g slot : ℕ) (old other new last : Hosting) (p q : Option Refusal) → AreRunsAlike old other → HasSettled g slot old p new → HasSettled g slot other q last
+    → p ≢ Some NoMemory → q ≢ Some NoMemory → AreRunsAlike new last
 one-settling g slot old other new last p q a h k m n =
     one-settling-at g slot (names_at old.followed g) (open_slot old.followed g slot) old other new last p q a h
     (subst (λ (x : Option (List ℕ) × Option OpenSlot). HasSettledAt g slot x.0 x.1 other q last)
@@ -261,13 +261,13 @@ one-settling g slot old other new last p q a h k m n =
 
 -- ---- a served network
 
-one-telling : (g slot : ℕ) (e : Emission) (us : List ℕ) (old other new last : Hosting) → AreAlike old other → AreTold g slot e us old new → AreTold g slot e us other last → AreAlike new last
-one-telling g slot e us old other new last a all_told all_told = a
-one-telling g slot e us old other new last a (one_told {u = u} {now = now} ended heard memory rest) (one_told {now = later} finished also had more) =
+one-telling : (g slot : ℕ) (e : Emission) (us : List ℕ) (old other new last : Hosting) → AreRunsAlike old other → HaveOthersHeard g slot e us old new → HaveOthersHeard g slot e us other last → AreRunsAlike new last
+one-telling g slot e us old other new last a all_heard all_heard = a
+one-telling g slot e us old other new last a (one_heard {u = u} {now = now} ended heard memory rest) (one_heard {now = later} finished also had more) =
     let both = one-hearing g slot e (others e (u ∷ [])) old other now later ended finished a heard also memory had in
     one-telling g slot e _ now later new last both.1 rest more
 
-one-all-heard : (g slot : ℕ) (names : List ℕ) (old other new last : Hosting) → AreAlike old other → AllHeard g slot names old new → AllHeard g slot names other last → AreAlike new last
+one-all-heard : (g slot : ℕ) (names : List ℕ) (old other new last : Hosting) → AreRunsAlike old other → AllHeard g slot names old new → AllHeard g slot names other last → AreRunsAlike new last
 one-all-heard g slot names old other new last a (AllHeard.none_waits h) (AllHeard.none_waits k) = a
 one-all-heard g slot names old other new last a (AllHeard.none_waits h) (AllHeard.one_waits e k told more) =
     absurd (none-or-some (waiting old.followed g slot) e h (waits-alike g slot old.followed other.followed a.followed ∙ k))
@@ -275,56 +275,56 @@ one-all-heard g slot names old other new last a (AllHeard.one_waits e h told res
     absurd (some-or-none _ _ e (waits-alike g slot old.followed other.followed a.followed) h k)
 one-all-heard g slot names old other new last a (AllHeard.one_waits {now = now} e h told rest) (AllHeard.one_waits {now = later} d k also more) =
     let same : e ≡ d = one-some (waiting old.followed g slot) (waiting other.followed g slot) e d (waits-alike g slot old.followed other.followed a.followed) h k in
-    let both : AreAlike now later = one-telling g slot e names old other now later a told (subst (λ (x : Emission). AreTold g slot x names other later) (sym same) also) in
+    let both : AreRunsAlike now later = one-telling g slot e names old other now later a told (subst (λ (x : Emission). HaveOthersHeard g slot x names other later) (sym same) also) in
     one-all-heard g slot names _ _ new last (over-alike g slot None now later both) rest more
 
-one-heard-by-others : (g slot : ℕ) (names : Option (List ℕ)) (old other new last : Hosting) → AreAlike old other → IsHeardByOthers g slot names old new → IsHeardByOthers g slot names other last
-    → AreAlike new last
-one-heard-by-others g slot None old other new last a h k = subst (λ (x : Hosting × Hosting). AreAlike x.0 x.1) (λ i. (sym h i, sym k i)) a
+one-heard-by-others : (g slot : ℕ) (names : Option (List ℕ)) (old other new last : Hosting) → AreRunsAlike old other → IsHeardByOthers g slot names old new → IsHeardByOthers g slot names other last
+    → AreRunsAlike new last
+one-heard-by-others g slot None old other new last a h k = subst (λ (x : Hosting × Hosting). AreRunsAlike x.0 x.1) (λ i. (sym h i, sym k i)) a
 one-heard-by-others g slot (Some names) old other new last a h k = one-all-heard g slot names old other new last a h k
 
-one-heard-at : (g : ℕ) (e : Option Sent) (old other new last : Hosting) → AreAlike old other → IsHeardAt g e old new → IsHeardAt g e other last → AreAlike new last
-one-heard-at g None old other new last a h k = subst (λ (x : Hosting × Hosting). AreAlike x.0 x.1) (λ i. (sym h i, sym k i)) a
+one-heard-at : (g : ℕ) (e : Option Sent) (old other new last : Hosting) → AreRunsAlike old other → IsHeardAt g e old new → IsHeardAt g e other last → AreRunsAlike new last
+one-heard-at g None old other new last a h k = subst (λ (x : Hosting × Hosting). AreRunsAlike x.0 x.1) (λ i. (sym h i, sym k i)) a
 one-heard-at g (Some e) old other new last a h k =
     one-heard-by-others g e.slot (names_at old.followed g) old other new last a h
     (subst (λ (x : Option (List ℕ)). IsHeardByOthers g e.slot x other last) (sym (names-alike g old.followed other.followed a.followed)) k)
 
-one-heard-of : (b : Bool) (g : ℕ) (r : Result (List Out) Refusal) (old other new last : Hosting) → AreAlike old other → IsHeardOf b g r old new → IsHeardOf b g r other last → AreAlike new last
-one-heard-of false g r old other new last a h k = subst (λ (x : Hosting × Hosting). AreAlike x.0 x.1) (λ i. (sym h i, sym k i)) a
-one-heard-of true g (Err r) old other new last a h k = subst (λ (x : Hosting × Hosting). AreAlike x.0 x.1) (λ i. (sym h i, sym k i)) a
+one-heard-of : (b : Bool) (g : ℕ) (r : Result (List Out) Refusal) (old other new last : Hosting) → AreRunsAlike old other → IsHeardOf b g r old new → IsHeardOf b g r other last → AreRunsAlike new last
+one-heard-of false g r old other new last a h k = subst (λ (x : Hosting × Hosting). AreRunsAlike x.0 x.1) (λ i. (sym h i, sym k i)) a
+one-heard-of true g (Err r) old other new last a h k = subst (λ (x : Hosting × Hosting). AreRunsAlike x.0 x.1) (λ i. (sym h i, sym k i)) a
 one-heard-of true g (Ok outs) old other new last a h k = one-heard-at g (first_emitted outs) old other new last a h k
 
-one-serving : (g : ℕ) (e : Event) (r s : Result (Vec Out Global) Refusal) (old other new last : Hosting) → AreAlike old other → IsServed g e r old new → IsServed g e s other last
-    → r ≢ Err NoMemory → s ≢ Err NoMemory → AreAlike new last
+one-serving : (g : ℕ) (e : Event) (r s : Result (Vec Out Global) Refusal) (old other new last : Hosting) → AreRunsAlike old other → IsEventServed g e r old new → IsEventServed g e s other last
+    → r ≢ Err NoMemory → s ≢ Err NoMemory → AreRunsAlike new last
 one-serving g e r s old other new last a h k m n =
     let now = one-applied g e r s old other h.0 k.0 a h.1 k.1 m n in
     one-heard-of (is_in old.named.served g) g (items_of r) h.0 k.0 new last now.1 h.2
     (subst (λ (x : Bool × Result (List Out) Refusal). IsHeardOf x.0 g x.1 k.0 last) (λ i. (sym (a.named.served g) i, sym now.0 i)) k.2)
 
-one-delivery : (g : ℕ) (bytes : Bytes) (us : List ℕ) (old other new last : Hosting) (rs ss : List (Result (Vec Out Global) Refusal)) → AreAlike old other
-    → AreDelivered g bytes us old rs new → AreDelivered g bytes us other ss last → All (λ r. r ≢ Err NoMemory) rs → All (λ r. r ≢ Err NoMemory) ss → AreAlike new last
+one-delivery : (g : ℕ) (bytes : Bytes) (us : List ℕ) (old other new last : Hosting) (rs ss : List (Result (Vec Out Global) Refusal)) → AreRunsAlike old other
+    → AreDelivered g bytes us old rs new → AreDelivered g bytes us other ss last → All (λ r. r ≢ Err NoMemory) rs → All (λ r. r ≢ Err NoMemory) ss → AreRunsAlike new last
 one-delivery g bytes us old other new last rs ss a none_left none_left m n = a
 one-delivery g bytes us old other new last rs ss a (next_node {u = u} {now = now} {rs = others_rs} r one rest) (next_node {now = later} {rs = others_ss} s also more) m n =
     let had : Result (Vec Out Global) Refusal → Type 0 = λ x. x ≢ Err NoMemory in
     let both = one-serving g (event.Deliver u bytes) r s old other now later a one also (All-head had r others_rs m) (All-head had s others_ss n) in
     one-delivery g bytes _ now later new last others_rs others_ss both rest more (All-tail had r others_rs m) (All-tail had s others_ss n)
 
-one-delivery-to : (g : ℕ) (bytes : Bytes) (names : Option (List ℕ)) (old other new last : Hosting) (rs ss : List (Result (Vec Out Global) Refusal)) → AreAlike old other
-    → AreDeliveredTo g bytes names old rs new → AreDeliveredTo g bytes names other ss last → All (λ r. r ≢ Err NoMemory) rs → All (λ r. r ≢ Err NoMemory) ss → AreAlike new last
-one-delivery-to g bytes None old other new last rs ss a h k m n = subst (λ (x : Hosting × Hosting). AreAlike x.0 x.1) (λ i. (sym h.0 i, sym k.0 i)) a
+one-delivery-to : (g : ℕ) (bytes : Bytes) (names : Option (List ℕ)) (old other new last : Hosting) (rs ss : List (Result (Vec Out Global) Refusal)) → AreRunsAlike old other
+    → AreDeliveredTo g bytes names old rs new → AreDeliveredTo g bytes names other ss last → All (λ r. r ≢ Err NoMemory) rs → All (λ r. r ≢ Err NoMemory) ss → AreRunsAlike new last
+one-delivery-to g bytes None old other new last rs ss a h k m n = subst (λ (x : Hosting × Hosting). AreRunsAlike x.0 x.1) (λ i. (sym h.0 i, sym k.0 i)) a
 one-delivery-to g bytes (Some names) old other new last rs ss a h k m n = one-delivery g bytes names old other new last rs ss a h k m n
 
-one-delivery-to-all : (g : ℕ) (bytes : Bytes) (old other new last : Hosting) (rs ss : List (Result (Vec Out Global) Refusal)) → AreAlike old other
-    → AreAllDelivered g bytes old rs new → AreAllDelivered g bytes other ss last → All (λ r. r ≢ Err NoMemory) rs → All (λ r. r ≢ Err NoMemory) ss → AreAlike new last
+one-delivery-to-all : (g : ℕ) (bytes : Bytes) (old other new last : Hosting) (rs ss : List (Result (Vec Out Global) Refusal)) → AreRunsAlike old other
+    → AreAllDelivered g bytes old rs new → AreAllDelivered g bytes other ss last → All (λ r. r ≢ Err NoMemory) rs → All (λ r. r ≢ Err NoMemory) ss → AreRunsAlike new last
 one-delivery-to-all g bytes old other new last rs ss a h k m n =
     one-delivery-to g bytes (names_at old.followed g) old other new last rs ss a h
     (subst (λ (x : Option (List ℕ)). AreDeliveredTo g bytes x other ss last) (sym (names-alike g old.followed other.followed a.followed)) k) m n
 
-one-drop : (b c : Bool) (g : ℕ) (old other new last : Hosting) (r s : Result (List Out) Refusal) → b ≡ c → AreAlike old other → IsDropped b g old r new → IsDropped c g other s last → AreAlike new last
-one-drop b c g old other new last r s same a h k = go b h (subst (λ (x : Bool). IsDropped x g other s last) (sym same) k)
+one-drop : (b c : Bool) (g : ℕ) (old other new last : Hosting) (r s : Result (List Out) Refusal) → b ≡ c → AreRunsAlike old other → IsDropAnswered b g old r new → IsDropAnswered c g other s last → AreRunsAlike new last
+one-drop b c g old other new last r s same a h k = go b h (subst (λ (x : Bool). IsDropAnswered x g other s last) (sym same) k)
   where
-    go : (x : Bool) → IsDropped x g old r new → IsDropped x g other s last → AreAlike new last
-    go false h k = subst (λ (x : Hosting × Hosting). AreAlike x.0 x.1) (λ i. (sym h.1 i, sym k.1 i)) a
+    go : (x : Bool) → IsDropAnswered x g old r new → IsDropAnswered x g other s last → AreRunsAlike new last
+    go false h k = subst (λ (x : Hosting × Hosting). AreRunsAlike x.0 x.1) (λ i. (sym h.1 i, sym k.1 i)) a
     go true h k = record {
       waiting = h.1.waiting ∙ (ap (λ ws. waiting_without ws g) a.waiting ∙ sym k.1.waiting);
       named = forgotten-alike g old.named other.named new.named last.named a.named h.1.named k.1.named;
@@ -334,13 +334,13 @@ one-drop b c g old other new last r s same a h k = go b h (subst (λ (x : Bool).
 
 -- ---- a network that is named, and a declaration
 
-one-beginning : (g : ℕ) (old other new last : Hosting) → AreAlike old other → IsBegun g old new → IsBegun g other last → AreAlike new last
+one-beginning : (g : ℕ) (old other new last : Hosting) → AreRunsAlike old other → IsNetworkBegun g old new → IsNetworkBegun g other last → AreRunsAlike new last
 one-beginning g old other new last a h k =
     go (waiting_at old.waiting g) h.0 h.1 (subst (λ (x : Waiting). NetworkIsNamedAt (also_followed logs_joined) g (waiting_at x g) x last.waiting (other.logs, other.followed) (last.logs, last.followed)) (sym a.waiting) k.0)
     (k.1 ∙ ap (λ ws. named_with g (waiting_at ws g) other.named) (sym a.waiting))
   where
     go : (o : Option Outlined) → NetworkIsNamedAt (also_followed logs_joined) g o old.waiting new.waiting (old.logs, old.followed) (new.logs, new.followed) → new.named ≡ named_with g o old.named
-        → NetworkIsNamedAt (also_followed logs_joined) g o old.waiting last.waiting (other.logs, other.followed) (last.logs, last.followed) → last.named ≡ named_with g o other.named → AreAlike new last
+        → NetworkIsNamedAt (also_followed logs_joined) g o old.waiting last.waiting (other.logs, other.followed) (last.logs, last.followed) → last.named ≡ named_with g o other.named → AreRunsAlike new last
     go None h n k m = record {
       waiting = h.0 ∙ sym k.0;
       named = subst (λ (x : Named × Named). AreNamedAlike x.0 x.1) (λ i. (sym n i, sym m i)) (named-alike g None old.named other.named a.named);
@@ -367,7 +367,7 @@ one-preparation g (Net b) ws us vs h k = h.1 ∙ sym k.1
 one-preparation g (Node u q) ws us vs h k = one-revision g _ ws us vs h k
 one-preparation g (Roster r) ws us vs h k = one-revision g _ ws us vs h k
 
-one-declaration : (g : ℕ) (d : Declaration) (m n : Named) (old other new last : Hosting) → AreAlike old other → AreNamedAlike m n → IsDeclaredSo g d m old new → IsDeclaredSo g d n other last → AreAlike new last
+one-declaration : (g : ℕ) (d : Declaration) (m n : Named) (old other new last : Hosting) → AreRunsAlike old other → AreNamedAlike m n → IsDeclaredSo g d m old new → IsDeclaredSo g d n other last → AreRunsAlike new last
 one-declaration g d m n old other new last a same h k = record {
   waiting = one-preparation g d old.waiting new.waiting last.waiting h.prepared (subst (λ (ws : Waiting). Prepares g d ws last.waiting) (sym a.waiting) k.prepared);
   named = subst (λ (x : Named × Named). AreNamedAlike x.0 x.1) (λ i. (sym h.named_is i, sym k.named_is i)) same;
@@ -377,10 +377,10 @@ one-declaration g d m n old other new last a same h k = record {
 
 -- ---- a line
 
-declared-alike : (g : ℕ) (old other : Hosting) → AreAlike old other → is_declared old.waiting old.named g ≡ is_declared other.waiting other.named g
+declared-alike : (g : ℕ) (old other : Hosting) → AreRunsAlike old other → is_declared old.waiting old.named g ≡ is_declared other.waiting other.named g
 declared-alike g old other a = λ i. is_some (waiting_at (a.waiting i) g) || a.named.running g i
 
-one-order : (g : ℕ) (o : Order) (outcome also : Outcome) (old other new last : Hosting) → Does g o old outcome new → Does g o other also last → HadMemory outcome → HadMemory also → AreAlike old other → AreAlike new last
+one-order : (g : ℕ) (o : Order) (outcome also : Outcome) (old other new last : Hosting) → Does g o old outcome new → Does g o other also last → HadMemory outcome → HadMemory also → AreRunsAlike old other → AreRunsAlike new last
 one-order g (order.Request (Declare d)) Declared Declared old other new last h k m n a = one-declaration g d old.named other.named old other new last a a.named h k
 one-order g (order.Request (Apply e)) (Answer r) (Answer s) old other new last h k m n a =
     one-serving g e r s h.1.0 k.1.0 new last (one-beginning g old other h.1.0 k.1.0 a h.1.1 k.1.1) h.1.2 k.1.2 m n
@@ -415,8 +415,8 @@ does-roster g old new Declared d e names shares h = record {
 does-roster g old new outcome d e names shares h = absurd h
 
 -- a line is of one network, and what it does is determined
-pub one-told : (old other new last : Hosting) (fields : List Bytes) (g k : ℕ) (outcome also : Outcome) → IsCarriedOut g fields old outcome new → IsCarriedOut k fields other also last
-    → HadMemory outcome → HadMemory also → AreAlike old other → (g ≡ k) × AreAlike new last
+pub one-told : (old other new last : Hosting) (fields : List Bytes) (g k : ℕ) (outcome also : Outcome) → IsLineCarriedOut g fields old outcome new → IsLineCarriedOut k fields other also last
+    → HadMemory outcome → HadMemory also → AreRunsAlike old other → (g ≡ k) × AreRunsAlike new last
 one-told old other new last fields g k outcome also (o, ordered, h) (d, same, does) m n a =
-    two-orders (λ x y. Does x y old outcome new → (x ≡ k) × AreAlike new last) (λ x r s names shares so h. so (does-roster x old new outcome s r (sym names) (sym shares) h)) fields (Some (g, o))
+    two-orders (λ x y. Does x y old outcome new → (x ≡ k) × AreRunsAlike new last) (λ x r s names shares so h. so (does-roster x old new outcome s r (sym names) (sym shares) h)) fields (Some (g, o))
     (Some (k, d)) ordered same (λ h. (refl, one-order k d outcome also old other new last h does m n a)) h

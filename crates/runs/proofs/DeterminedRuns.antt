@@ -7,7 +7,7 @@ use Rattle.scripts.specs.Runs.Passes.{skipped, told}
 use Rattle.scripts.specs.declared.run.Stop.{Stop}
 use Rattle.hoststep.specs.Logs.{Log}
 use Rattle.requests.specs.Outlines.{Outlined, Waiting}
-use Rattle.runs.specs.Determined.{AreAlike, BecomeAlike, EndsDoOneThing, LinesDoOneThing, RunsDoOneThing}
+use Rattle.runs.specs.Determined.{AreRunsAlike, BecomeAlike, EndsDoOneThing, LinesDoOneThing, RunsDoOneThing}
 use Rattle.runs.specs.Hosting.{Hosting, logs_joined}
 use Rattle.runs.specs.Joining.{HasJoined, HaveJoined}
 use Rattle.runs.specs.Unprinted.{RefusesUnprinted, TellsUnprinted, Unprinted, trace_after}
@@ -16,7 +16,7 @@ use Rattle.runs.proofs.DeterminedLaws.{one-told}
 use Rattle.runs.proofs.OneCut.{one-fields}
 
 -- networks are alike themselves
-pub alike : (h : Hosting) → AreAlike h h
+pub alike : (h : Hosting) → AreRunsAlike h h
 alike h = record { waiting = refl; named = record { numbers = λ g. refl; running = λ g. refl; served = λ g. refl }; followed = λ g. refl; logs = refl }
 
 pub lines_do_one_thing : LinesDoOneThing
@@ -24,7 +24,7 @@ lines_do_one_thing one other new last fields p q a (g, outcome, done, silent, me
     let becomes = one-told one.hosting other.hosting new.hosting last.hosting fields g k outcome also done does memory had a in
     (becomes.1, λ same. trace ∙ ((λ i. trace_after (becomes.0 i) (becomes.1.logs i) (same i)) ∙ sym traced))
 
-one-passing : (one other new last : Unprinted) (line p q : Bytes) → AreAlike one.hosting other.hosting → Passes TellsUnprinted one line p new → Passes TellsUnprinted other line q last
+one-passing : (one other new last : Unprinted) (line p q : Bytes) → AreRunsAlike one.hosting other.hosting → Passes TellsUnprinted one line p new → Passes TellsUnprinted other line q last
     → BecomeAlike one other new last
 one-passing one other new last line p q a (skipped h) (skipped k) = (a, λ same. same)
 one-passing one other new last line p q a (skipped h) (told runs are tells) = absurd (runs h)
@@ -36,7 +36,7 @@ one-passing one other new last line p q a (told {fields = fields} {printed = sai
 no-ok : {A B : Type 0} (x : A) (y : B) → ◌≡◌ {A = Result A B} (Ok x) (Err y) → ⊥
 no-ok x y h = cc
 
-one-run : (one other new last : Unprinted) (lines : List (ℕ × Bytes)) (p q : Bytes) (r s : Result (Unit {0}) Stop) → r ≡ Ok tt → s ≡ Ok tt → AreAlike one.hosting other.hosting
+one-run : (one other new last : Unprinted) (lines : List (ℕ × Bytes)) (p q : Bytes) (r s : Result (Unit {0}) Stop) → r ≡ Ok tt → s ≡ Ok tt → AreRunsAlike one.hosting other.hosting
     → Runs TellsUnprinted RefusesUnprinted one lines p r new → Runs TellsUnprinted RefusesUnprinted other lines q s last → BecomeAlike one other new last
 one-run one other new last lines p q r s ok fine a (Runs.bad fails) more = absurd (no-ok _ _ (sym ok))
 one-run one other new last lines p q r s ok fine a Runs.short more = absurd (no-ok _ _ (sym ok))

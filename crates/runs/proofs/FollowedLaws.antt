@@ -23,10 +23,10 @@ use Rattle.world.specs.Worlds.{IsAnsweredAt, items_of, log_at, logs_set, logs_wi
 use Rattle.world.proofs.Histories.{has-number}
 use Rattle.world.proofs.Leaving.{at-left}
 use Rattle.hoststep.proofs.Growing.{run-grows}
-use Rattle.requests.specs.Outlines.{Outlined, IsConfigOf, IsRevised, Waiting, fresh, waiting_at, waiting_without}
-use Rattle.runs.specs.Emissions.{OpenSlot, OpenSlots, at_number, changed_at, handed_on}
+use Rattle.requests.specs.Outlines.{Outlined, IsConfigOf, IsRevised, Waiting, bare_outline, waiting_at, waiting_without}
+use Rattle.runs.specs.Emissions.{OpenSlot, OpenSlots, at_number, changed_at_number, handed_on}
 use Rattle.runs.specs.Followed.{Followed, IsUnfollowed, also_followed, followed_with, turn_of, after_turn, with_handed}
-use Rattle.runs.specs.Hosting.{Hosting, IsApplied, IsBegun, logs_joined, noted_answer, new_hosting}
+use Rattle.runs.specs.Hosting.{Hosting, IsEventApplied, IsNetworkBegun, logs_joined, noted_answer, new_hosting}
 use Rattle.runs.specs.Joining.{NetworkIsNamedAt}
 use Rattle.requests.specs.Naming.{IsForgotten, Named, is_in, named_with, served_with}
 use Rattle.requests.specs.Preparing.{Prepares}
@@ -35,7 +35,7 @@ use Rattle.runs.specs.ServedNetworks.{IsTakenBack}
 use Rattle.requests.specs.Taking.{declared_count, takes}
 use Rattle.requests.specs.declared.request.Declaration.{Declaration}
 use Rattle.requests.specs.declared.request.Declaration.TheVariants.{Net, Node, Roster}
-use Rattle.runs.specs.ByJournals.{AreFollowed, AreSlotsAt, AreSlotsBy, FollowsJournals, HaveRoom, IsSlotBy, LinesFollowJournals, RunsFollowJournals}
+use Rattle.runs.specs.ByJournals.{AreFollowed, AreSlotsAt, AreSlotsBy, CanAllJoin, FollowsJournals, IsSlotBy, LinesFollowJournals, RunsFollowJournals}
 use Rattle.runs.proofs.NumberedRows.{at-changed, at-inserted, at-removed, at-set, equal-flip, has-inserted, is-at, keys-inserted, length-inserted, length-removed, length-set, once-changed, once-inserted, once-removed, once-set}
 use Rattle.runs.proofs.NetsByEntries.{slots-next, turn_in}
 use Rattle.runs.proofs.Keeping.{EventsKeep, LinesKeep, at-slot, line-keeps, runs-keep, served-keeps, settled-keeps}
@@ -169,15 +169,15 @@ answer-numbers logs now g e (Ok os) (Some l) at h =
     some-as m j true e k = sym (ap (λ n. is_some (log_at logs n)) (sym (eqb-true m.config.number j e)) ∙ k)
     some-as m j false e k = refl
 
-room-as : (ws us : Waiting) (n k : Named) (logs now : List Log) → us ≡ ws → k ≡ n → SameNumbers logs now → HaveRoom ws n logs → HaveRoom us k now
+room-as : (ws us : Waiting) (n k : Named) (logs now : List Log) → us ≡ ws → k ≡ n → SameNumbers logs now → CanAllJoin ws n logs → CanAllJoin us k now
 room-as ws us n k logs now w e same h =
     let count = same.count in
     let counted = h.counted in
     let short : length now ≤ length n.running = omega (arith, count, counted) in
-    subst (λ (x : Waiting × Named). HaveRoom x.0 x.1 now) (λ i. (sym w i, sym e i))
+    subst (λ (x : Waiting × Named). CanAllJoin x.0 x.1 now) (λ i. (sym w i, sym e i))
     (record { joined = λ g. same.there g ∙ h.joined g; counted = short; apart = h.apart; once = h.once; few = h.few })
 
-pub applied-follows : (g : ℕ) (e : Event) (r : Result (Vec Out Global) Refusal) (old new : Hosting) → FollowsJournals old → IsApplied g e r old new → FollowsJournals new
+pub applied-follows : (g : ℕ) (e : Event) (r : Result (Vec Out Global) Refusal) (old new : Hosting) → FollowsJournals old → IsEventApplied g e r old new → FollowsJournals new
 applied-follows g e r old new s h = record {
   room = room-as old.waiting new.waiting old.named new.named old.logs new.logs h.2.0 h.2.1 (answer-numbers old.logs new.logs g (step_of e) (items_of r) (log_at old.logs g) refl h.0) s.room;
   slots = answer-follows old.logs new.logs old.followed new.followed g e (items_of r) (log_at old.logs g) refl h.0 h.1 s.slots;
@@ -201,7 +201,7 @@ nothing-run c = record { applied = λ k x at. absurd (nothing-there k x at); out
 some-less : (a b c d : ℕ) → a + 1 ≡ b → b + c ≤ 4096 → d ≤ c → d < 4096
 some-less a b c d e f h = omega (arith, e, f, h)
 
-module _ (ws : Waiting) (n : Named) (logs : List Log) (f : Followed) (g : ℕ) (d : Outlined) (c : Config) (room : HaveRoom ws n logs) (at : waiting_at ws g ≡ Some d) (is : IsConfigOf g d c) where
+module _ (ws : Waiting) (n : Named) (logs : List Log) (f : Followed) (g : ℕ) (d : Outlined) (c : Config) (room : CanAllJoin ws n logs) (at : waiting_at ws g ≡ Some d) (is : IsConfigOf g d c) where
   waits-there : is_some (waiting_at ws g) ≡ true
   waits-there = ap (λ (o : Option Outlined). is_some o) at
 
@@ -234,7 +234,7 @@ module _ (ws : Waiting) (n : Named) (logs : List Log) (f : Followed) (g : ℕ) (
       go true = (nothing-run c, none-opened c (names-differ (names_of c.nodes) is.ascending))
       go false = s j
 
-  joined-room : HaveRoom (waiting_without ws g) (named_with g (Some d) n) (logs_joined c logs)
+  joined-room : CanAllJoin (waiting_without ws g) (named_with g (Some d) n) (logs_joined c logs)
   joined-room = record {
     joined = λ j. ap (λ (o : Option Log). is_some o) (ap (λ (xs : List Log). log_at xs j) joins-there ∙ log-with logs (record { config = c; entries = [] }) j) ∙ (joined j (c.number == j) refl ∙ sym (has-inserted g j n.running));
     counted = let a = length-log-with logs (record { config = c; entries = [] }) in let b = ap (λ (xs : List Log). length xs) joins-there in let e = keys-inserted g n.running not-running in let k = room.counted in omega (arith, a, b, e, k);
@@ -258,24 +258,24 @@ module _ (ws : Waiting) (n : Named) (logs : List Log) (f : Followed) (g : ℕ) (
           none-some k = false≢true k
       apart j false e h = rw e (room.apart j (sym (ap (λ b. is_some (if b then None else at_number ws j)) e) ∙ h))
 
-pub begun-follows : (g : ℕ) (old new : Hosting) → FollowsJournals old → IsBegun g old new → FollowsJournals new
+pub begun-follows : (g : ℕ) (old new : Hosting) → FollowsJournals old → IsNetworkBegun g old new → FollowsJournals new
 begun-follows g old new s h = go (waiting_at old.waiting g) refl h.0 h.1
   where
     go : (o : Option Outlined) → waiting_at old.waiting g ≡ o → NetworkIsNamedAt (also_followed logs_joined) g o old.waiting new.waiting (old.logs, old.followed) (new.logs, new.followed) → new.named ≡ named_with g o old.named → FollowsJournals new
     go None at k named = record {
-      room = subst (λ (x : Waiting × Named × List Log). HaveRoom x.0 x.1 x.2) (λ i. (sym k.0 i, sym named i, (sym k.1 i).0)) (record { joined = s.room.joined; counted = s.room.counted; apart = s.room.apart; once = s.room.once; few = s.room.few });
+      room = subst (λ (x : Waiting × Named × List Log). CanAllJoin x.0 x.1 x.2) (λ i. (sym k.0 i, sym named i, (sym k.1 i).0)) (record { joined = s.room.joined; counted = s.room.counted; apart = s.room.apart; once = s.room.once; few = s.room.few });
       slots = subst (λ (x : List Log × Followed). AreFollowed x.0 x.1) (sym k.1) s.slots;
     }
     go (Some d) at k named = record {
-      room = subst (λ (x : Waiting × Named × List Log). HaveRoom x.0 x.1 x.2) (λ i. (sym k.0 i, sym named i, (sym k.1.2 i).0)) (joined-room old.waiting old.named old.logs old.followed g d k.1.0 s.room at k.1.1);
+      room = subst (λ (x : Waiting × Named × List Log). CanAllJoin x.0 x.1 x.2) (λ i. (sym k.0 i, sym named i, (sym k.1.2 i).0)) (joined-room old.waiting old.named old.logs old.followed g d k.1.0 s.room at k.1.1);
       slots = subst (λ (x : List Log × Followed). AreFollowed x.0 x.1) (sym k.1.2) (joined-follows old.waiting old.named old.logs old.followed g d k.1.0 s.room at k.1.1 s.slots);
     }
 
 -- ---- a declaration
 
-revised-room : (g : ℕ) (change : Outlined → Outlined) (ws us : Waiting) (n : Named) (logs : List Log) → IsRevised g change ws us → HaveRoom ws n logs → HaveRoom us n logs
+revised-room : (g : ℕ) (change : Outlined → Outlined) (ws us : Waiting) (n : Named) (logs : List Log) → IsRevised g change ws us → CanAllJoin ws n logs → CanAllJoin us n logs
 revised-room g change ws us n logs h room =
-    subst (λ (x : Waiting). HaveRoom x n logs) (sym h.2)
+    subst (λ (x : Waiting). CanAllJoin x n logs) (sym h.2)
     (record {
       joined = room.joined;
       counted = room.counted;
@@ -291,17 +291,17 @@ revised-room g change ws us n logs h room =
     was j true e k = ap (λ m. is_some (waiting_at ws m)) (sym (eqb-true g j e)) ∙ there
     was j false e k = sym (ap (λ b. is_some (if b then Some (change h.0) else at_number ws j)) e) ∙ k
 
-declared-room : (g : ℕ) (d : Declaration) (ws us : Waiting) (n : Named) (logs : List Log) → takes ws n g d ≡ true → Prepares g d ws us → HaveRoom ws n logs → HaveRoom us n logs
+declared-room : (g : ℕ) (d : Declaration) (ws us : Waiting) (n : Named) (logs : List Log) → takes ws n g d ≡ true → Prepares g d ws us → CanAllJoin ws n logs → CanAllJoin us n logs
 declared-room g (Node u q) ws us n logs t p room = revised-room g _ ws us n logs p room
 declared-room g (Roster r) ws us n logs t p room = revised-room g _ ws us n logs p room
 declared-room g (Net b) ws us n logs t p room =
-    subst (λ (x : Waiting). HaveRoom x n logs) (sym p.1)
+    subst (λ (x : Waiting). CanAllJoin x n logs) (sym p.1)
     (record {
       joined = room.joined;
       counted = room.counted;
-      apart = λ j k. apart j (g == j) refl (sym (ap (λ (o : Option Outlined). is_some o) (at-inserted g (fresh b) j ws)) ∙ k);
-      once = once-inserted g (fresh b) ws p.0 room.once;
-      few = let a = length-inserted g (fresh b) ws in let k = ltb-true (declared_count ws n) 4096 taken.1 in omega (arith, a, k);
+      apart = λ j k. apart j (g == j) refl (sym (ap (λ (o : Option Outlined). is_some o) (at-inserted g (bare_outline b) j ws)) ∙ k);
+      once = once-inserted g (bare_outline b) ws p.0 room.once;
+      few = let a = length-inserted g (bare_outline b) ws in let k = ltb-true (declared_count ws n) 4096 taken.1 in omega (arith, a, k);
     })
   where
     taken : (not (is_some (waiting_at ws g) || is_in n.running g) ≡ true) × (nat_lt (declared_count ws n) 4096 ≡ true)
@@ -310,9 +310,9 @@ declared-room g (Net b) ws us n logs t p room =
     new : is_in n.running g ≡ false
     new = (or_parts (is_some (waiting_at ws g)) (is_in n.running g) (not-true (is_some (waiting_at ws g) || is_in n.running g) taken.0)).1
 
-    apart : (j : ℕ) (c : Bool) → (g == j) ≡ c → is_some (if g == j then Some (fresh b) else at_number ws j) ≡ true → is_in n.running j ≡ false
+    apart : (j : ℕ) (c : Bool) → (g == j) ≡ c → is_some (if g == j then Some (bare_outline b) else at_number ws j) ≡ true → is_in n.running j ≡ false
     apart j true e k = ap (is_in n.running) (sym (eqb-true g j e)) ∙ new
-    apart j false e k = room.apart j (sym (ap (λ c. is_some (if c then Some (fresh b) else at_number ws j)) e) ∙ k)
+    apart j false e k = room.apart j (sym (ap (λ c. is_some (if c then Some (bare_outline b) else at_number ws j)) e) ∙ k)
 
 -- ---- a line that settles
 
@@ -323,7 +323,7 @@ one-handed names i since o s = record { speakers = s.speakers; emissions = s.emi
     go true e = let less = ltb-true o.handed (length o.emissions) e in omega (arith, less)
     go false e = s.handed
 
-slots-handed : (config : Config) (entries : List Entry) (slot : ℕ) (m : OpenSlots) → AreSlotsBy config entries m → AreSlotsBy config entries (record m { slots = changed_at m.slots slot handed_on })
+slots-handed : (config : Config) (entries : List Entry) (slot : ℕ) (m : OpenSlots) → AreSlotsBy config entries m → AreSlotsBy config entries (record m { slots = changed_at_number m.slots slot handed_on })
 slots-handed config entries slot m s = record {
   names = s.names;
   single = s.single;
@@ -350,7 +350,7 @@ slots-handed config entries slot m s = record {
         subst (λ y. IsSlotBy m.names i (since_opened i entries) y) (one-there (handed_on x) o (ap (option_map handed_on) (sym is) ∙ at)) (one-handed m.names i (since_opened i entries) x (s.kept i x is))
 
 abbrev with_handed_on : ℕ → OpenSlots → OpenSlots
-with_handed_on slot m = record m { slots = changed_at m.slots slot handed_on }
+with_handed_on slot m = record m { slots = changed_at_number m.slots slot handed_on }
 
 handed-follows : (g slot : ℕ) (logs : List Log) (f : Followed) → AreFollowed logs f → AreFollowed logs (with_handed g slot f)
 handed-follows g slot logs f s j =
@@ -405,7 +405,7 @@ module _ (g : ℕ) (old : Hosting) (n : Named) (f : Followed) (s : FollowsJourna
   few-without : (a b c d x y : ℕ) → a + x ≤ b → b ≤ c → d + y ≡ c → x ≡ y → a ≤ d
   few-without a b c d x y h k l e = omega (arith, h, k, l, e)
 
-  room-without : HaveRoom (waiting_without old.waiting g) n (logs_without g old.logs)
+  room-without : CanAllJoin (waiting_without old.waiting g) n (logs_without g old.logs)
   room-without = record {
     joined = joined-without;
     counted = few-without (length (logs_without g old.logs)) (length old.logs) (length old.named.running) (length n.running) _ _ (length-without g old.logs) s.room.counted named.running.count
@@ -428,18 +428,18 @@ module _ (g : ℕ) (old : Hosting) (n : Named) (f : Followed) (s : FollowsJourna
 
 taken-back-follows : (g : ℕ) (old new : Hosting) → FollowsJournals old → IsTakenBack g old new → FollowsJournals new
 taken-back-follows g old new s h = record {
-  room = subst (λ (x : Waiting × List Log). HaveRoom x.0 new.named x.1) (λ i. (sym h.waiting i, sym h.logs i)) (room-without g old new.named new.followed s h.named h.followed);
+  room = subst (λ (x : Waiting × List Log). CanAllJoin x.0 new.named x.1) (λ i. (sym h.waiting i, sym h.logs i)) (room-without g old new.named new.followed s h.named h.followed);
   slots = subst (λ (x : List Log). AreFollowed x new.followed) (sym h.logs) (slots-without g old new.named new.followed s h.named h.followed);
 }
 
 -- ---- a line, and all lines
 
-served-room : (g : ℕ) (ws : Waiting) (n : Named) (logs : List Log) → HaveRoom ws n logs → HaveRoom ws (served_with g n) logs
+served-room : (g : ℕ) (ws : Waiting) (n : Named) (logs : List Log) → CanAllJoin ws n logs → CanAllJoin ws (served_with g n) logs
 served-room g ws n logs room = record { joined = room.joined; counted = room.counted; apart = room.apart; once = room.once; few = room.few }
 
-declared-follows : (g : ℕ) (d : Declaration) (n : Named) (old new : Hosting) → FollowsJournals old → HaveRoom new.waiting n old.logs → IsDeclaredSo g d n old new → FollowsJournals new
+declared-follows : (g : ℕ) (d : Declaration) (n : Named) (old new : Hosting) → FollowsJournals old → CanAllJoin new.waiting n old.logs → IsDeclaredSo g d n old new → FollowsJournals new
 declared-follows g d n old new s room h = record {
-  room = subst (λ (x : Named × List Log). HaveRoom new.waiting x.0 x.1) (λ i. (sym h.named_is i, sym h.logs i)) room;
+  room = subst (λ (x : Named × List Log). CanAllJoin new.waiting x.0 x.1) (λ i. (sym h.named_is i, sym h.logs i)) room;
   slots = subst (λ (x : List Log × Followed). AreFollowed x.0 x.1) (λ i. (sym h.logs i, sym h.followed i)) s.slots;
 }
 

@@ -10,13 +10,13 @@ use Rattle.types.specs.declared.event.Refusal.{Refusal}
 use Rattle.world.specs.Worlds.{items_of}
 use Rattle.network.specs.declared.plan.Emission.{Emission}
 use Rattle.runs.specs.declared.followed.Turn.TheVariants.{Within}
-use Rattle.runs.specs.Emissions.{OpenSlot, OpenSlots, at_number, changed_at, first_emitted, given_out, given_out_by, handed_on, noted_outs, waits}
+use Rattle.runs.specs.Emissions.{OpenSlot, OpenSlots, at_number, changed_at_number, first_emitted, given_out, given_out_by, handed_on, noted_outs, waits}
 use Rattle.runs.specs.Followed.{Followed, handed_at, handed_in, followed_after, open_slot, waiting, with_handed}
 use Rattle.runs.specs.Hosting.{Hosting, noted_answer}
 use Rattle.runs.specs.Settling.{HandedOnIsCounted, HeardWaitsOn, IsHanded, IsHeardBy, hearing}
 use Rattle.runs.specs.Settling.IsHeardBy.{by_all, by_one, refused}
-use Rattle.runs.specs.ServedNetworks.{AreTold}
-use Rattle.runs.specs.ServedNetworks.AreTold.{all_told, one_told}
+use Rattle.runs.specs.ServedNetworks.{HaveOthersHeard}
+use Rattle.runs.specs.ServedNetworks.HaveOthersHeard.{all_heard, one_heard}
 use Rattle.runs.proofs.NumberedRows.{at-changed, equal-self}
 
 -- ---- a slot
@@ -82,9 +82,9 @@ module _ (g slot n : ℕ) (e : Emission) where
   heard-behind us old now ended w (by_one {u = u} outs answer rest) = heard-behind _ _ now ended (answer-behind u (items_of (Ok outs)) _ _ answer.1 w) rest
   heard-behind us old now ended w (refused {u = u} r answer) = answer-behind u (items_of (Err r)) _ _ answer.1 w
 
-  told-behind : (us : List ℕ) (old now : Hosting) → IsFirst old → AreTold g slot e us old now → IsFirst now
-  told-behind us old now w all_told = w
-  told-behind us old now w (one_told ended heard memory rest) = told-behind _ _ now (heard-behind _ old _ ended w heard) rest
+  told-behind : (us : List ℕ) (old now : Hosting) → IsFirst old → HaveOthersHeard g slot e us old now → IsFirst now
+  told-behind us old now w all_heard = w
+  told-behind us old now w (one_heard ended heard memory rest) = told-behind _ _ now (heard-behind _ old _ ended w heard) rest
 
   -- as it is looked up
   is-waiting : (o : Option OpenSlot) → IsBehind o → (option_and_then waits o ≡ Some e) × (handed_in o ≡ n)
@@ -97,7 +97,7 @@ module _ (g slot n : ℕ) (e : Emission) where
       ∙ of-net (at_number f g) w
     where
       change : OpenSlots → OpenSlots
-      change m = record m { slots = changed_at m.slots slot handed_on }
+      change m = record m { slots = changed_at_number m.slots slot handed_on }
 
       of-slot : (o : Option OpenSlot) → IsBehind o → handed_in (option_map handed_on o) ≡ n + 1
       of-slot None v = absurd v
@@ -143,7 +143,7 @@ less-left g slot names old now first e ended is some small handed none =
     (handed_on_is_counted g slot e names old now (sym is ∙ some) (subst (λ (o : Option Refusal). IsHanded g slot e names old o now) none handed))
 
 pub less-left_told : (g slot : ℕ) (names : List ℕ) (old now : Hosting) (first : Option Emission) (e : Emission) → first ≡ waiting old.followed g slot → first ≡ Some e
-    → IfSome first (λ _. handed_at old.followed g slot < 2 ^ 63) → AreTold g slot e names old now
+    → IfSome first (λ _. handed_at old.followed g slot < 2 ^ 63) → HaveOthersHeard g slot e names old now
     → 2 ^ 63 - handed_at (with_handed g slot now.followed) g slot < 2 ^ 63 - handed_at old.followed g slot
 less-left_told g slot names old now first e is some small told =
     fewer-left (handed_at old.followed g slot) (handed_at (with_handed g slot now.followed) g slot) (subst (λ (o : Option Emission). IfSome o (λ _. handed_at old.followed g slot < 2 ^ 63)) some small)

@@ -11,15 +11,15 @@ use Rattle.types.specs.declared.event.Out.{Out}
 use Rattle.types.specs.declared.event.Refusal.{Refusal}
 use Rattle.network.specs.declared.plan.Emission.{Emission}
 use Rattle.runs.specs.Followed.{waiting}
-use Rattle.runs.specs.Hosting.{Hosting, IsApplied}
+use Rattle.runs.specs.Hosting.{Hosting, IsEventApplied}
 use Rattle.runs.specs.Settling.{AreHandedOn, IsHanded, IsHeardBy, handed_over, hearing, others}
 use Rattle.runs.specs.Settling.IsHeardBy.{by_all, by_one, refused}
 use Rattle.runs.specs.Settling.AreHandedOn.{one_waits, cut_short}
 use Rattle.types.specs.declared.event.Event.TheVariants.{Deliver}
 use Rattle.types.specs.declared.event.Refusal.TheVariants.{NoMemory}
-use Rattle.runs.specs.ServedNetworks.{AllIsHeard as heard, AreDelivered, AreTold, IsServed}
+use Rattle.runs.specs.ServedNetworks.{AllIsHeard as heard, AreDelivered, HaveOthersHeard, IsEventServed}
 use Rattle.runs.specs.ServedNetworks.AreDelivered.{next_node, none_left}
-use Rattle.runs.specs.ServedNetworks.AreTold.{all_told, one_told}
+use Rattle.runs.specs.ServedNetworks.HaveOthersHeard.{all_heard, one_heard}
 
 -- ---- one emission
 
@@ -75,16 +75,16 @@ hears-not-its-own g slot e u h same law is = own-is-none g slot e u h (u == e.fr
 
 -- a hearing that was answered, and the refusal that it was answered, if it was one
 answered-so : (g slot : ℕ) (e : Emission) (u : ℕ) (old new : Hosting) (event : Event) (answer : Result (Vec Out Global) Refusal) → event ≡ hearing slot u e
-    → IsApplied g event answer old new → IsHeardBy g slot e (u ∷ []) old (result_err answer) new
-answered-so g slot e u old new event (Ok outs) is answer = by_one outs (subst (λ x. IsApplied g x (Ok outs) old new) is answer) by_all
-answered-so g slot e u old new event (Err r) is answer = refused r (subst (λ x. IsApplied g x (Err r) old new) is answer)
+    → IsEventApplied g event answer old new → IsHeardBy g slot e (u ∷ []) old (result_err answer) new
+answered-so g slot e u old new event (Ok outs) is answer = by_one outs (subst (λ x. IsEventApplied g x (Ok outs) old new) is answer) by_all
+answered-so g slot e u old new event (Err r) is answer = refused r (subst (λ x. IsEventApplied g x (Err r) old new) is answer)
 
 another-hears : (e : Emission) (u : ℕ) (b : Bool) → (u == e.from) ≡ b → (b ≡ true → ⊥) → others e (u ∷ []) ≡ u ∷ []
 another-hears e u true is other = absurd (other refl)
 another-hears e u false is other = rw is refl
 
 pub one-hearing : (g slot : ℕ) (e : Emission) (u : ℕ) (old new : Hosting) (same : Bool) (event : Event) (answer : Result (Vec Out Global) Refusal) (ended : Option Refusal)
-    → (IsTrue same ↔ (u ≡ e.from)) → same ≡ false → event ≡ hearing slot u e → IsApplied g event answer old new → ended ≡ result_err answer
+    → (IsTrue same ↔ (u ≡ e.from)) → same ≡ false → event ≡ hearing slot u e → IsEventApplied g event answer old new → ended ≡ result_err answer
     → IsHeardBy g slot e (others e (u ∷ [])) old ended new
 one-hearing g slot e u old new same event answer ended law other is answered was =
     let alone = another-hears e u (u == e.from) refl (λ k. false≢true (sym other ∙ law.1 (eqb-true u e.from k))) in
@@ -108,15 +108,15 @@ waits-on g slot names old new first e handed r is some h short =
 -- ---- where a refusal does not end it
 
 pub told-alone : (g slot : ℕ) (e : Emission) (u : ℕ) (old new : Hosting) (ended : Option Refusal) → IsHeardBy g slot e (others e (u ∷ [])) old ended new → ended ≢ Some NoMemory
-    → AreTold g slot e (u ∷ []) old new
-told-alone g slot e u old new ended heard memory = one_told ended heard memory all_told
+    → HaveOthersHeard g slot e (u ∷ []) old new
+told-alone g slot e u old new ended heard memory = one_heard ended heard memory all_heard
 
-pub told-first : (g slot : ℕ) (e : Emission) (u : ℕ) (us : List ℕ) (old now new : Hosting) → AreTold g slot e (u ∷ []) old now → AreTold g slot e us now new → AreTold g slot e (u ∷ us) old new
-told-first g slot e u us old now new (one_told ended heard memory all_told) rest = one_told ended heard memory rest
+pub told-first : (g slot : ℕ) (e : Emission) (u : ℕ) (us : List ℕ) (old now new : Hosting) → HaveOthersHeard g slot e (u ∷ []) old now → HaveOthersHeard g slot e us now new → HaveOthersHeard g slot e (u ∷ us) old new
+told-first g slot e u us old now new (one_heard ended heard memory all_heard) rest = one_heard ended heard memory rest
 
 -- the same where it is the first that waits, as the code reads it
 pub first-is-told : (g slot : ℕ) (names : List ℕ) (old now after new : Hosting) (first : Option Emission) (e : Emission) → first ≡ waiting old.followed g slot → first ≡ Some e
-    → AreTold g slot e names old now → after ≡ handed_over g slot None now → heard g slot names after new → heard g slot names old new
+    → HaveOthersHeard g slot e names old now → after ≡ handed_over g slot None now → heard g slot names after new → heard g slot names old new
 first-is-told g slot names old now after new first e is some each handed rest =
     heard.one_waits e (sym is ∙ some) each (subst (λ (h : Hosting). heard g slot names h new) handed rest)
 
@@ -127,7 +127,7 @@ none-delivered g bytes [] h small = none_left
 none-delivered g bytes (u ∷ us) h small = absurd (omega (arith, small))
 
 pub all-delivered : (g : ℕ) (bytes us others : List ℕ) (u : ℕ) (old now new : Hosting) (r : Result (Vec Out Global) Refusal) (before mid after : List (Result (Vec Out Global) Refusal)) → us ≡ u ∷ others
-    → IsServed g (Deliver u bytes) r old now → mid ≡ before ++ r ∷ []
+    → IsEventServed g (Deliver u bytes) r old now → mid ≡ before ++ r ∷ []
     → ((rs : List (Result (Vec Out Global) Refusal)) × (after ≡ mid ++ rs) × AreDelivered g bytes others now rs new) → (rs : List (Result (Vec Out Global) Refusal)) × (after ≡ before ++ rs) × AreDelivered g bytes us old rs new
 all-delivered g bytes us others u old now new r before mid after is one pushed rest = (
   r ∷ rest.0,

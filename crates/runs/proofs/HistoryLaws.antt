@@ -10,13 +10,13 @@ use Rattle.types.specs.declared.event.Refusal.TheVariants.{NoMemory}
 use Rattle.protocol.specs.Hosts.{Config}
 use Rattle.network.specs.Decoding.{step_of}
 use Rattle.hoststep.specs.Logs.{Log}
-use Rattle.world.specs.Worlds.{IsAnsweredAt, and_then, log_at, logs_with, with_new_network, without_network}
+use Rattle.world.specs.Worlds.{IsAnsweredAt, and_then, history_without, log_at, logs_with, with_new_network}
 use Rattle.world.proofs.Histories.{history-answered, history-joined}
 use Rattle.world.proofs.Leaving.{history-left}
 use Rattle.requests.specs.Outlines.{Outlined, Waiting, waiting_at}
 use Rattle.runs.specs.Followed.{also_followed}
 use Rattle.runs.specs.Histories.{HaveHistory, ScriptsHaveHistories}
-use Rattle.runs.specs.Hosting.{Hosting, IsApplied, IsBegun, logs_joined}
+use Rattle.runs.specs.Hosting.{Hosting, IsEventApplied, IsNetworkBegun, logs_joined}
 use Rattle.runs.specs.Joining.{HasJoined, HaveJoined, NetworkIsNamedAt}
 use Rattle.runs.specs.Unprinted.{IsFinishedUnprinted, TellsUnprinted, Unprinted}
 use Rattle.runs.proofs.Keeping.{EventsKeep, LinesKeep, at-slot, order-keeps, served-keeps, settled-keeps}
@@ -32,7 +32,7 @@ joined-has c logs has = go (log_at logs c.number) refl (nat_lt (length logs) 409
     go None none false = has
     go (Some l) there b = has
 
-begun-has : (g : ℕ) (old new : Hosting) → HaveHistory old.logs → IsBegun g old new → HaveHistory new.logs
+begun-has : (g : ℕ) (old new : Hosting) → HaveHistory old.logs → IsNetworkBegun g old new → HaveHistory new.logs
 begun-has g old new has h = go (waiting_at old.waiting g) h.0
   where
     go : (o : Option Outlined) → NetworkIsNamedAt (also_followed logs_joined) g o old.waiting new.waiting (old.logs, old.followed) (new.logs, new.followed) → HaveHistory new.logs
@@ -53,7 +53,7 @@ no-refusal : (v : Vec Out Global) (r : Refusal) → ◌≢◌ {A = Result (Vec O
 no-refusal v r is = cc
 
 -- what is refused changes no journal
-applied-has : (g : ℕ) (e : Event) (r : Result (Vec Out Global) Refusal) (old new : Hosting) → HaveHistory old.logs → IsApplied g e r old new → HaveHistory new.logs
+applied-has : (g : ℕ) (e : Event) (r : Result (Vec Out Global) Refusal) (old new : Hosting) → HaveHistory old.logs → IsEventApplied g e r old new → HaveHistory new.logs
 applied-has g e (Ok outs) old new has h = (and_then has.0 g e, history-answered has.0 old.logs new.logs g e (Ok outs) has.1 h.0 (no-refusal outs NoMemory))
 applied-has g e (Err x) old new has h = go (log_at old.logs g) h.0
   where
@@ -76,7 +76,7 @@ lines-have = record {
   serves = λ g b old new has h. subst (λ (x : List Log). HaveHistory x) (sym h.logs) has;
   served = served-keeps Has events-have;
   settled = λ g slot ended old new plain has h. settled-keeps Has g slot (at-slot Has events-have g slot) _ _ old new ended has h;
-  taken_back = λ g old new has h. subst (λ (x : List Log). HaveHistory x) (sym h.logs) (without_network g has.0, history-left has.0 old.logs g has.1);
+  taken_back = λ g old new has h. subst (λ (x : List Log). HaveHistory x) (sym h.logs) (history_without g has.0, history-left has.0 old.logs g has.1);
 }
 
 unprinted-has : (old new : Unprinted) (fields : List Bytes) (printed : Option Bytes) → Has old.hosting → TellsUnprinted old fields printed new → Has new.hosting

@@ -28,11 +28,11 @@ use Rattle.runs.specs.declared.outcome.Outcome.{Outcome}
 use Rattle.runs.specs.declared.outcome.Outcome.TheVariants.{Declared, Answer, Answers, Settled}
 use Rattle.runs.specs.Emissions.{OpenSlot, first_emitted}
 use Rattle.runs.specs.Followed.{names_at}
-use Rattle.runs.specs.Hosting.{Hosting, IsApplied, IsBegun, new_hosting}
+use Rattle.runs.specs.Hosting.{Hosting, IsEventApplied, IsNetworkBegun, new_hosting}
 use Rattle.runs.specs.Running.{Does, IsDeclaredSo, RefusesLine, Tells}
-use Rattle.runs.specs.ServedNetworks.{AllIsHeard as heard, AreDelivered, AreDeliveredTo, AreTold, IsDropped, IsHeardAt, IsHeardByOthers, IsHeardOf, IsServed, IsTakenBack}
+use Rattle.runs.specs.ServedNetworks.{AllIsHeard as heard, AreDelivered, AreDeliveredTo, HaveOthersHeard, IsDropAnswered, IsEventServed, IsHeardAt, IsHeardByOthers, IsHeardOf, IsTakenBack}
 use Rattle.runs.specs.ServedNetworks.AreDelivered.{next_node, none_left}
-use Rattle.runs.specs.ServedNetworks.AreTold.{all_told, one_told}
+use Rattle.runs.specs.ServedNetworks.HaveOthersHeard.{all_heard, one_heard}
 use Rattle.runs.specs.Settling.{AreHandedOn, HasSettled, HasSettledAt, IsHeardBy, handed_over, hearing}
 use Rattle.runs.specs.Settling.IsHeardBy.{by_all, by_one, refused}
 use Rattle.runs.specs.Settling.AreHandedOn.{none_waits, one_waits, cut_short}
@@ -41,7 +41,7 @@ use Rattle.runs.specs.Settling.AreHandedOn.{none_waits, one_waits, cut_short}
 
 -- each hearing at a slot keeps this, and so does an emission there that has been handed on
 pub record HearingsKeep (P : Hosting → Type 0) (g slot : ℕ) : Type 0 where
-  pub hears : (u : ℕ) (e : Emission) (r : Result (Vec Out Global) Refusal) (old new : Hosting) → P old → IsApplied g (hearing slot u e) r old new → P new
+  pub hears : (u : ℕ) (e : Emission) (r : Result (Vec Out Global) Refusal) (old new : Hosting) → P old → IsEventApplied g (hearing slot u e) r old new → P new
   pub over : (h : Hosting) → P h → P (handed_over g slot None h)
 
 module _ (P : Hosting → Type 0) (g slot : ℕ) (k : HearingsKeep P g slot) where
@@ -60,9 +60,9 @@ module _ (P : Hosting → Type 0) (g slot : ℕ) (k : HearingsKeep P g slot) whe
   settled-keeps (Some names) None old new ended p h = subst P (sym h.0) p
   settled-keeps (Some names) (Some o) old new ended p h = handed-on-keeps names old new ended p h
 
-  told-keeps : (e : Emission) (us : List ℕ) (old new : Hosting) → P old → AreTold g slot e us old new → P new
-  told-keeps e us old new p all_told = p
-  told-keeps e us old new p (one_told ended one memory rest) = told-keeps e _ _ new (heard-keeps e _ old _ ended p one) rest
+  told-keeps : (e : Emission) (us : List ℕ) (old new : Hosting) → P old → HaveOthersHeard g slot e us old new → P new
+  told-keeps e us old new p all_heard = p
+  told-keeps e us old new p (one_heard ended one memory rest) = told-keeps e _ _ new (heard-keeps e _ old _ ended p one) rest
 
   pub all-heard-keeps : (names : List ℕ) (old new : Hosting) → P old → heard g slot names old new → P new
   all-heard-keeps names old new p (heard.none_waits none) = p
@@ -72,7 +72,7 @@ module _ (P : Hosting → Type 0) (g slot : ℕ) (k : HearingsKeep P g slot) whe
 
 -- each event keeps this, and so does an emission that has been handed on
 pub record EventsKeep (P : Hosting → Type 0) : Type 0 where
-  pub applied : (g : ℕ) (e : Event) (r : Result (Vec Out Global) Refusal) (old new : Hosting) → P old → IsApplied g e r old new → P new
+  pub applied : (g : ℕ) (e : Event) (r : Result (Vec Out Global) Refusal) (old new : Hosting) → P old → IsEventApplied g e r old new → P new
   pub over : (g slot : ℕ) (h : Hosting) → P h → P (handed_over g slot None h)
 
 module _ (P : Hosting → Type 0) (k : EventsKeep P) where
@@ -92,22 +92,22 @@ module _ (P : Hosting → Type 0) (k : EventsKeep P) where
       at None h = subst P (sym h) p
       at (Some e) h = by e.slot (names_at old.followed g) h
 
-  pub served-keeps : (g : ℕ) (e : Event) (r : Result (Vec Out Global) Refusal) (old new : Hosting) → P old → IsServed g e r old new → P new
+  pub served-keeps : (g : ℕ) (e : Event) (r : Result (Vec Out Global) Refusal) (old new : Hosting) → P old → IsEventServed g e r old new → P new
   served-keeps g e r old new p h = heard-of-keeps (is_in old.named.served g) g (items_of r) h.0 new (k.applied g e r old h.0 p h.1) h.2
 
 -- ---- lines
 
 -- lines of each kind keep this, where an event is heard of in a served network
 pub record LinesKeep (P : Hosting → Type 0) : Type 0 where
-  pub begun : (g : ℕ) (old new : Hosting) → P old → IsBegun g old new → P new
+  pub begun : (g : ℕ) (old new : Hosting) → P old → IsNetworkBegun g old new → P new
   pub declared : (g : ℕ) (d : Declaration) (old new : Hosting) → P old → IsDeclaredSo g d old.named old new → P new
   pub serves : (g : ℕ) (b : Budgets) (old new : Hosting) → P old → IsDeclaredSo g (Net b) (served_with g old.named) old new → P new
-  pub served : (g : ℕ) (e : Event) (r : Result (Vec Out Global) Refusal) (old new : Hosting) → P old → IsServed g e r old new → P new
+  pub served : (g : ℕ) (e : Event) (r : Result (Vec Out Global) Refusal) (old new : Hosting) → P old → IsEventServed g e r old new → P new
   pub settled : (g slot : ℕ) (ended : Option Refusal) (old new : Hosting) → is_in old.named.served g ≡ false → P old → HasSettled g slot old ended new → P new
   pub taken_back : (g : ℕ) (old new : Hosting) → P old → IsTakenBack g old new → P new
 
 -- which networks are served stays where one is named
-begun-served : (g j : ℕ) (old new : Hosting) → IsBegun g old new → is_in new.named.served j ≡ is_in old.named.served j
+begun-served : (g j : ℕ) (old new : Hosting) → IsNetworkBegun g old new → is_in new.named.served j ≡ is_in old.named.served j
 begun-served g j old new h = go (waiting_at old.waiting g) h.1
   where
     go : (o : Option Outlined) → new.named ≡ named_with g o old.named → is_in new.named.served j ≡ is_in old.named.served j
@@ -126,7 +126,7 @@ module _ (P : Hosting → Type 0) (k : LinesKeep P) where
   delivered-to-keeps g bytes None old new rs p h = subst P (sym h.0) p
   delivered-to-keeps g bytes (Some names) old new rs p h = delivered-keeps g bytes names old new rs p h
 
-  dropped-keeps : (b : Bool) (g : ℕ) (old new : Hosting) (r : Result (List Out) Refusal) → P old → IsDropped b g old r new → P new
+  dropped-keeps : (b : Bool) (g : ℕ) (old new : Hosting) (r : Result (List Out) Refusal) → P old → IsDropAnswered b g old r new → P new
   dropped-keeps false g old new r p h = subst P (sym h.1) p
   dropped-keeps true g old new r p h = k.taken_back g old new p h.1
 

@@ -17,14 +17,14 @@ use Rattle.protocol.specs.Runs.{net_after, outs_given, refusal_of, state_of}
 use Rattle.protocol.proofs.Networks.Effects.{effect-keeps, numbers, opened_after}
 use Rattle.configuration.specs.Configs.{names_of}
 use Rattle.network.specs.Marks.{slot_and_node_of}
-use Rattle.hoststep.specs.Deciding.{decided_at, values_in}
+use Rattle.hoststep.specs.Deciding.{decided_at, externalized_values}
 use Rattle.hoststep.proofs.Growing.{after-one}
 use Rattle.hoststep.proofs.SlicesThen.{open-numbers}
 use Rattle.runs.specs.declared.followed.Turn.{Turn}
 use Rattle.runs.specs.declared.followed.Turn.TheVariants as turn
-use Rattle.runs.specs.Emissions.{OpenSlot, OpenSlots, at_number, changed_at, first_emitted, given_out, given_out_by, just_opened, noted_outs, with_slot, without_slot}
+use Rattle.runs.specs.Emissions.{OpenSlot, OpenSlots, at_number, changed_at_number, first_emitted, given_out, given_out_by, just_opened, noted_outs, with_slot, without_slot}
 use Rattle.runs.specs.Followed.{after_turn}
-use Rattle.runs.specs.ByJournals.{AreSlotsBy, IsSlotBy, values_at}
+use Rattle.runs.specs.ByJournals.{AreSlotsBy, IsSlotBy, values_decided_at}
 use Rattle.runs.proofs.NumberedRows.{at-changed, at-inserted, at-removed, equal-flip, once-changed, once-inserted, once-removed, or-swapped}
 use Rattle.runs.proofs.SlotsByEntries.{AreFrom, slot-next, slot-still, sent-elsewhere, values-by, values-at}
 use Rattle.runs.proofs.OutsAtPlaces.{IsGivenAt, IsGivenBy, effect-given, run-in-place}
@@ -180,7 +180,7 @@ module _ (config : Config) (entries : List Entry) (m : OpenSlots) (s : AreSlotsB
   since-anew i is_opened = since-more i entries entry ∙ ap (λ b. if b then [] else since_opened i entries ++ entry ∷ []) is_opened
 
   -- a slot at which it gives out nothing
-  still : (i : ℕ) (o : OpenSlot) → is_opening i e ≡ false → filter (λ x. x.slot == i) (emissions os) ≡ [] → ((u : ℕ) → values_at i u (entry ∷ []) ≡ []) → at_number m.slots i ≡ Some o
+  still : (i : ℕ) (o : OpenSlot) → is_opening i e ≡ false → filter (λ x. x.slot == i) (emissions os) ≡ [] → ((u : ℕ) → values_decided_at i u (entry ∷ []) ≡ []) → at_number m.slots i ≡ Some o
       → IsSlotBy m.names i (since_opened i (entries ++ entry ∷ [])) o
   still i o not_opened none nothing at =
       subst (λ (xs : List Entry). IsSlotBy m.names i xs o) (sym (since-next i not_opened)) (slot-still m.names i (since_opened i entries) entry o none nothing (s.kept i o at))
@@ -189,7 +189,7 @@ module _ (config : Config) (entries : List Entry) (m : OpenSlots) (s : AreSlotsB
   silent-at : (i : ℕ) (o : OpenSlot) → slot_and_node_of e ≡ None → os ≡ [] → is_opening i e ≡ false → at_number m.slots i ≡ Some o → IsSlotBy m.names i (since_opened i (entries ++ entry ∷ [])) o
   silent-at i o nowhere none not_opened at =
       still i o not_opened (ap (λ (ys : List Out). filter (λ x. x.slot == i) (emissions ys)) none)
-      (λ u. values-at i u entry ∙ ap (λ p. map (λ d. d.value) (filter (λ d. (d.slot == i) && (d.node == u)) (decided_at p (values_in os)))) nowhere) at
+      (λ u. values-at i u entry ∙ ap (λ p. map (λ d. d.value) (filter (λ d. (d.slot == i) && (d.node == u)) (decided_at p (externalized_values os)))) nowhere) at
 
 -- ---- what it does to what is kept
 
@@ -269,18 +269,18 @@ module _ (config : Config) (entries : List Entry) (m : OpenSlots) (s : AreSlotsB
       elsewhere : (i : ℕ) (o : OpenSlot) → (j == i) ≡ false → at_number m.slots i ≡ Some o → IsSlotBy m.names i (since_opened i (entries ++ more ∷ [])) o
       elsewhere i o other at =
           still config entries m s e os free i o (not_opening i) (sent-elsewhere i j u (emissions os) by.from other)
-          (λ w. values-by i w j u more named ∙ ap (λ b. if b && (u == w) then values_in os else []) other) at
+          (λ w. values-by i w j u more named ∙ ap (λ b. if b && (u == w) then externalized_values os else []) other) at
 
       said-nothing : emissions os ≡ [] → (i : ℕ) (o : OpenSlot) → at_number m.slots i ≡ Some o → IsSlotBy m.names i (since_opened i (entries ++ more ∷ [])) o
       said-nothing none i o at =
           still config entries m s e os free i o (not_opening i) (ap (filter (λ x. x.slot == i)) none)
           (λ w. values-by i w j u more named ∙ nothing ((j == i) && (u == w))) at
         where
-          nothing : (b : Bool) → (if b then values_in os else []) ≡ []
+          nothing : (b : Bool) → (if b then externalized_values os else []) ≡ []
           nothing true = by.beside none
           nothing false = refl
 
-      said-next : AreSlotsBy config (entries ++ more ∷ []) (record m { slots = changed_at m.slots j (λ o. fold (given_out u) o os) })
+      said-next : AreSlotsBy config (entries ++ more ∷ []) (record m { slots = changed_at_number m.slots j (λ o. fold (given_out u) o os) })
       said-next = record {
         names = s.names;
         single = s.single;
@@ -316,7 +316,7 @@ module _ (config : Config) (entries : List Entry) (m : OpenSlots) (s : AreSlotsB
           go None is = unchanged-next (said-nothing (none-first os is))
           go (Some x) is =
               let so = first-from j u os x by.from is in
-              subst (λ (at : ℕ × ℕ). AreSlotsBy config (entries ++ more ∷ []) (record m { slots = changed_at m.slots at.0 (λ o. fold (given_out at.1) o os) }))
+              subst (λ (at : ℕ × ℕ). AreSlotsBy config (entries ++ more ∷ []) (record m { slots = changed_at_number m.slots at.0 (λ o. fold (given_out at.1) o os) }))
               (λ k. (sym so.1 k, sym so.0 k)) said-next
 
   -- what is given out, as the step names its slot and its node

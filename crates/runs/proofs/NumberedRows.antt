@@ -8,7 +8,7 @@ use Rattle.std.proofs.Common.{Less, Equal, Greater}
 use Rattle.std.specs.BTreeMap.{insert_entry, is_at}
 use Rattle.std.specs.BTreeSet.{insert_key}
 use Rattle.std.specs.Map.{remove_entry, set_value}
-use Rattle.runs.specs.Emissions.{at_number, changed_at, replace_found}
+use Rattle.runs.specs.Emissions.{at_number, changed_at_number, replace_found}
 use Rattle.runs.specs.ByJournals.{StandOnce}
 
 -- ---- tests of numbers
@@ -143,7 +143,7 @@ module _ {X : Type 0} (k : ℕ) where
           rw (is-at k e.0, eq) (at-behind n k (Some w) e es (set_value (is_at (nat_cmp k)) es w) eq (ih (sym (ap (λ o. is_some o) (at-later k e es eq)) ∙ there)))
 
   -- what stands at each number after what stands at one was changed
-  pub at-changed : (change : X → X) (n : ℕ) (es : List (ℕ × X)) → at_number (changed_at es k change) n ≡ (if k == n then option_map change (at_number es n) else at_number es n)
+  pub at-changed : (change : X → X) (n : ℕ) (es : List (ℕ × X)) → at_number (changed_at_number es k change) n ≡ (if k == n then option_map change (at_number es n) else at_number es n)
   at-changed change n es = by (at_number es k) refl (k == n) refl
     where
       by : (o : Option X) → at_number es k ≡ o → (b : Bool) → (k == n) ≡ b → at_number (replace_found o es k change) n ≡ (if b then option_map change (at_number es n) else at_number es n)
@@ -165,7 +165,7 @@ module _ {X : Type 0} (k : ℕ) where
           let more : is_some (at_number es k) ≡ true = sym (ap (λ o. is_some o) (at-later k e es eq)) ∙ there in
           rw (is-at k e.0, eq) (at-set w e.0 es more ∙ rw eq once.0, ih more once.1)
 
-  pub once-changed : (change : X → X) (es : List (ℕ × X)) → StandOnce es → StandOnce (changed_at es k change)
+  pub once-changed : (change : X → X) (es : List (ℕ × X)) → StandOnce es → StandOnce (changed_at_number es k change)
   once-changed change es once = by (at_number es k) refl
     where
       by : (o : Option X) → at_number es k ≡ o → StandOnce (replace_found o es k change)

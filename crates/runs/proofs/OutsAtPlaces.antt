@@ -25,14 +25,14 @@ use Rattle.protocol.specs.Networks.Step.{Opens, Closes, Proposes, Delivers, Hear
 use Rattle.protocol.specs.Hosts.{Entry}
 use Rattle.protocol.specs.Runs.{net_after}
 use Rattle.network.specs.Marks.{slot_and_node_of}
-use Rattle.hoststep.specs.Deciding.{values_in}
+use Rattle.hoststep.specs.Deciding.{externalized_values}
 use Rattle.hoststep.proofs.DecidedOnce.{no-values-emitted, values-append}
 use Rattle.runs.proofs.SlotsByEntries.{AreFrom}
 
 -- all that is emitted is this node's, at this slot; and where nothing is emitted, nothing is decided
 pub record IsGivenBy (i u : ℕ) (os : List Out) : Type 0 where
   pub from : AreFrom i u (emissions os)
-  pub beside : emissions os ≡ [] → values_in os ≡ []
+  pub beside : emissions os ≡ [] → externalized_values os ≡ []
 
 -- what an event gives out, by the slot and the node that it names
 abbrev pub IsGivenAt : Option (ℕ × ℕ) → List Out → Type 0
@@ -69,10 +69,10 @@ from-emitted n old (Some s) = go (same_sent old (Some s))
     go true = tt
     go false = ((refl, refl), tt)
 
-no-values : (xs ys : List Out) → values_in xs ≡ [] → values_in ys ≡ [] → values_in (xs ++ ys) ≡ []
+no-values : (xs ys : List Out) → externalized_values xs ≡ [] → externalized_values ys ≡ [] → externalized_values (xs ++ ys) ≡ []
 no-values xs ys h k = values-append xs ys ∙ ap₂ (λ (a b : List (List ℕ)). a ++ b) h k
 
-no-values-timer : (b : Bool) (x : Out) → values_in (x ∷ []) ≡ [] → values_in (when b x) ≡ []
+no-values-timer : (b : Bool) (x : Out) → externalized_values (x ∷ []) ≡ [] → externalized_values (when b x) ≡ []
 no-values-timer true x h = h
 no-values-timer false x h = refl
 
@@ -84,11 +84,11 @@ none-emitted : (xs ys : List Out) → emissions (xs ++ ys) ≡ [] → (emissions
 none-emitted xs ys h = none-of-either (emissions xs) (emissions ys) (sym (filter_map-append _ xs ys) ∙ h)
 
 -- a node that externalizes emits that
-emits-decision : (n : Node) (old new : Votes) → emissions (emission_between n (sent_vote old) (sent_vote new)) ≡ [] → values_in (if is_externalized new.phase && not (is_externalized old.phase) then externalization new.ballot else []) ≡ []
+emits-decision : (n : Node) (old new : Votes) → emissions (emission_between n (sent_vote old) (sent_vote new)) ≡ [] → externalized_values (if is_externalized new.phase && not (is_externalized old.phase) then externalization new.ballot else []) ≡ []
 unfolding sent_vote sent_in
 emits-decision n old new h = go new.phase old.phase new.ballot old.ballot h
   where
-    go : (p q : Phase) (b c : Option Ballot) → emissions (emission_between n (option_map (sent_in q old) c) (option_map (sent_in p new) b)) ≡ [] → values_in (if is_externalized p && not (is_externalized q) then externalization b else []) ≡ []
+    go : (p q : Phase) (b c : Option Ballot) → emissions (emission_between n (option_map (sent_in q old) c) (option_map (sent_in p new) b)) ≡ [] → externalized_values (if is_externalized p && not (is_externalized q) then externalization b else []) ≡ []
     go phase.Preparing q b c h = refl
     go phase.Committing q b c h = refl
     go phase.Externalized phase.Externalized b c h = refl

@@ -17,12 +17,12 @@ use Rattle.protocol.specs.Rows.{is_kind, is_row_of}
 use Rattle.protocol.specs.Networks.{emissions}
 use Rattle.protocol.specs.Hosts.{Entry}
 use Rattle.network.specs.Marks.{slot_and_node_of}
-use Rattle.hoststep.specs.Deciding.{ExternalizedValue, decided_at, decisions_by, decisions_in, values_in}
+use Rattle.hoststep.specs.Deciding.{ExternalizedValue, decided_at, decisions_by, decisions_in, externalized_values}
 use Rattle.hoststep.proofs.DecisionLists.{decisions_by-append}
 use Rattle.network.specs.declared.plan.Emission.{Emission}
 use Rattle.runs.specs.declared.emissions.Speaker.{Speaker}
 use Rattle.runs.specs.Emissions.{OpenSlot, count_of, with_next_emission, given_out, next_number, emission_of_number, speaker_at, with_decision, with_emission, with_speaker}
-use Rattle.runs.specs.ByJournals.{IsSlotBy, count_among, numbered_behind, sent_at, speaker_of, values_at}
+use Rattle.runs.specs.ByJournals.{IsSlotBy, count_among, numbered_behind, sent_at, speaker_of, values_decided_at}
 use Rattle.runs.proofs.NumberedRows.{equal-flip, equal-self}
 
 -- ---- one node among those of a slot
@@ -156,15 +156,15 @@ module _ (names : List ℕ) (single : all_differ names ≡ true) (u : ℕ) (host
       go v true = refl
       go v false = refl
 
-  says-outs : (outs : List Out) (es : List Sent) (d : ℕ → Option (List ℕ)) (o : OpenSlot) → AreBy outs → Says names es d o → Says names (es ++ emissions outs) (decided_then (values_in outs) d) (fold (given_out u) o outs)
+  says-outs : (outs : List Out) (es : List Sent) (d : ℕ → Option (List ℕ)) (o : OpenSlot) → AreBy outs → Says names es d o → Says names (es ++ emissions outs) (decided_then (externalized_values outs) d) (fold (given_out u) o outs)
   says-outs [] es d o by s = subst (λ (xs : List Sent). Says names xs (decided_then [] d) o) (sym (append-nil es)) (subst (λ (f : ℕ → Option (List ℕ)). Says names es f o) (decided-none d) s)
   says-outs (ArmNomination r ∷ outs) es d o by s = says-outs outs es d o by s
   says-outs (ArmBallot n ∷ outs) es d o by s = says-outs outs es d o by s
   says-outs (Emit e ∷ outs) es d o by s =
-      subst (λ (xs : List Sent). Says names xs (decided_then (values_in outs) d) (fold (given_out u) (with_next_emission e.sender (kind_of e.body) o) outs)) (append_assoc es (e ∷ []) (emissions outs))
+      subst (λ (xs : List Sent). Says names xs (decided_then (externalized_values outs) d) (fold (given_out u) (with_next_emission e.sender (kind_of e.body) o) outs)) (append_assoc es (e ∷ []) (emissions outs))
       (says-outs outs (es ++ e ∷ []) d (with_next_emission e.sender (kind_of e.body) o) by.1 (says-emission es d o e by.0 s))
   says-outs (Externalized x ∷ outs) es d o by s =
-      subst (λ (f : ℕ → Option (List ℕ)). Says names (es ++ emissions outs) f (fold (given_out u) (record o { speakers = with_speaker u (with_decision x) o.speakers }) outs)) (decided-more d x (values_in outs))
+      subst (λ (f : ℕ → Option (List ℕ)). Says names (es ++ emissions outs) f (fold (given_out u) (record o { speakers = with_speaker u (with_decision x) o.speakers }) outs)) (decided-more d x (externalized_values outs))
       (says-outs outs es (decided_then (x ∷ []) d) (record o { speakers = with_speaker u (with_decision x) o.speakers }) by (says-decision es d o x s))
 
 -- ---- one entry more
@@ -194,7 +194,7 @@ sent-more i xs x =
 abbrev is_there : ℕ → ℕ → ExternalizedValue → Bool
 is_there i u d = (d.slot == i) && (d.node == u)
 
-values-more : (i u : ℕ) (xs : List Entry) (x : Entry) → values_at i u (xs ++ x ∷ []) ≡ values_at i u xs ++ values_at i u (x ∷ [])
+values-more : (i u : ℕ) (xs : List Entry) (x : Entry) → values_decided_at i u (xs ++ x ∷ []) ≡ values_decided_at i u xs ++ values_decided_at i u (x ∷ [])
 values-more i u xs x =
     ap (λ (ds : List ExternalizedValue). map (λ d. d.value) (filter (is_there i u) ds)) (decisions_by-append xs (x ∷ []))
     ∙ (ap (λ (ds : List ExternalizedValue). map (λ d. d.value) ds) (filter-append (is_there i u) (decisions_by xs) (decisions_by (x ∷ [])))
@@ -208,25 +208,25 @@ values-of i u j w true e (v ∷ vs) = rw e (ap (λ (xs : List (List ℕ)). v ∷
 values-of i u j w false e (v ∷ vs) = rw e (values-of i u j w false e vs)
 
 -- what an entry decides at a slot
-pub values-at : (i u : ℕ) (x : Entry) → values_at i u (x ∷ []) ≡ map (λ (d : ExternalizedValue). d.value) (filter (is_there i u) (decided_at (slot_and_node_of x.event) (values_in x.outs)))
+pub values-at : (i u : ℕ) (x : Entry) → values_decided_at i u (x ∷ []) ≡ map (λ (d : ExternalizedValue). d.value) (filter (is_there i u) (decided_at (slot_and_node_of x.event) (externalized_values x.outs)))
 values-at i u x = ap (λ (ds : List ExternalizedValue). map (λ d. d.value) (filter (is_there i u) ds)) (append-nil (decisions_in x))
 
-pub values-by : (i u j w : ℕ) (x : Entry) → slot_and_node_of x.event ≡ Some (j, w) → values_at i u (x ∷ []) ≡ (if (j == i) && (w == u) then values_in x.outs else [])
+pub values-by : (i u j w : ℕ) (x : Entry) → slot_and_node_of x.event ≡ Some (j, w) → values_decided_at i u (x ∷ []) ≡ (if (j == i) && (w == u) then externalized_values x.outs else [])
 values-by i u j w x at =
-    values-at i u x ∙ (ap (λ (p : Option (ℕ × ℕ)). map (λ (d : ExternalizedValue). d.value) (filter (is_there i u) (decided_at p (values_in x.outs)))) at
-    ∙ values-of i u j w ((j == i) && (w == u)) refl (values_in x.outs))
+    values-at i u x ∙ (ap (λ (p : Option (ℕ × ℕ)). map (λ (d : ExternalizedValue). d.value) (filter (is_there i u) (decided_at p (externalized_values x.outs)))) at
+    ∙ values-of i u j w ((j == i) && (w == u)) refl (externalized_values x.outs))
 
 last-more : {A : Type 0} (o : Option A) (xs ys : List A) → last_or o (xs ++ ys) ≡ last_or (last_or o xs) ys
 last-more o [] ys = refl
 last-more o (x ∷ xs) ys = last-more (Some x) xs ys
 
 -- an entry that gives out nothing at the slot
-pub slot-still : (names : List ℕ) (i : ℕ) (since : List Entry) (x : Entry) (o : OpenSlot) → filter (λ e. e.slot == i) (emissions x.outs) ≡ [] → ((u : ℕ) → values_at i u (x ∷ []) ≡ [])
+pub slot-still : (names : List ℕ) (i : ℕ) (since : List Entry) (x : Entry) (o : OpenSlot) → filter (λ e. e.slot == i) (emissions x.outs) ≡ [] → ((u : ℕ) → values_decided_at i u (x ∷ []) ≡ [])
     → IsSlotBy names i since o → IsSlotBy names i (since ++ x ∷ []) o
 slot-still names i since x o none nothing s =
     let same : sent_at i since ≡ sent_at i (since ++ x ∷ []) = sym (sent-more i since x ∙ (ap (λ (es : List Sent). sent_at i since ++ es) none ∙ append-nil (sent_at i since))) in
-    let still : (u : ℕ) → last_or None (values_at i u since) ≡ last_or None (values_at i u (since ++ x ∷ [])) = λ u.
-    ap (λ (vs : List (List ℕ)). last_or None vs) (sym (values-more i u since x ∙ (ap (λ (vs : List (List ℕ)). values_at i u since ++ vs) (nothing u) ∙ append-nil (values_at i u since)))) in
+    let still : (u : ℕ) → last_or None (values_decided_at i u since) ≡ last_or None (values_decided_at i u (since ++ x ∷ [])) = λ u.
+    ap (λ (vs : List (List ℕ)). last_or None vs) (sym (values-more i u since x ∙ (ap (λ (vs : List (List ℕ)). values_decided_at i u since ++ vs) (nothing u) ∙ append-nil (values_decided_at i u since)))) in
     record {
       speakers = s.speakers ∙ ap₂ (λ (es : List Sent) (d : ℕ → Option (List ℕ)). map (speaker_of es d) names) same (fun_ext still);
       emissions = s.emissions ∙ ap (numbered_behind []) same;
@@ -237,25 +237,25 @@ slot-still names i since x o none nothing s =
 pub slot-next : (names : List ℕ) → all_differ names ≡ true → (i u : ℕ) → list_any (λ v. v == u) names ≡ true → (since : List Entry) (x : Entry) (o : OpenSlot)
     → slot_and_node_of x.event ≡ Some (i, u) → AreFrom i u (emissions x.outs) → IsSlotBy names i since o → IsSlotBy names i (since ++ x ∷ []) (fold (given_out u) o x.outs)
 slot-next names single i u hosted since x o at by s =
-    let d : ℕ → Option (List ℕ) = λ v. last_or None (values_at i v since) in
+    let d : ℕ → Option (List ℕ) = λ v. last_or None (values_decided_at i v since) in
     let said : Says names (sent_at i since) d o = record { speakers = s.speakers; emissions = s.emissions; handed = s.handed } in
     let now = says-outs names single u hosted x.outs (sent_at i since) d o (by-sender i u (emissions x.outs) by) said in
     let sent : sent_at i since ++ emissions x.outs ≡ sent_at i (since ++ x ∷ []) =
     ap (λ (es : List Sent). sent_at i since ++ es) (sym (sent-there i u (emissions x.outs) by)) ∙ sym (sent-more i since x) in
-    let valued : decided_then names single u hosted (values_in x.outs) d ≡ (λ v. last_or None (values_at i v (since ++ x ∷ []))) = fun_ext (λ v. decided v) in
+    let valued : decided_then names single u hosted (externalized_values x.outs) d ≡ (λ v. last_or None (values_decided_at i v (since ++ x ∷ []))) = fun_ext (λ v. decided v) in
     record {
       speakers = now.speakers ∙ ap₂ (λ (es : List Sent) (f : ℕ → Option (List ℕ)). map (speaker_of es f) names) sent valued;
       emissions = now.emissions ∙ ap (numbered_behind []) sent;
       handed = now.handed;
     }
   where
-    decided : (v : ℕ) → (if v == u then last_or (last_or None (values_at i v since)) (values_in x.outs) else last_or None (values_at i v since)) ≡ last_or None (values_at i v (since ++ x ∷ []))
+    decided : (v : ℕ) → (if v == u then last_or (last_or None (values_decided_at i v since)) (externalized_values x.outs) else last_or None (values_decided_at i v since)) ≡ last_or None (values_decided_at i v (since ++ x ∷ []))
     decided v = go (v == u) refl
       where
-        more : last_or None (values_at i v (since ++ x ∷ [])) ≡ last_or (last_or None (values_at i v since)) (if (i == i) && (u == v) then values_in x.outs else [])
-        more = ap (λ (vs : List (List ℕ)). last_or None vs) (values-more i v since x ∙ ap (λ (vs : List (List ℕ)). values_at i v since ++ vs) (values-by i v i u x at))
-            ∙ last-more None (values_at i v since) (if (i == i) && (u == v) then values_in x.outs else [])
+        more : last_or None (values_decided_at i v (since ++ x ∷ [])) ≡ last_or (last_or None (values_decided_at i v since)) (if (i == i) && (u == v) then externalized_values x.outs else [])
+        more = ap (λ (vs : List (List ℕ)). last_or None vs) (values-more i v since x ∙ ap (λ (vs : List (List ℕ)). values_decided_at i v since ++ vs) (values-by i v i u x at))
+            ∙ last-more None (values_decided_at i v since) (if (i == i) && (u == v) then externalized_values x.outs else [])
 
-        go : (b : Bool) → (v == u) ≡ b → (if b then last_or (last_or None (values_at i v since)) (values_in x.outs) else last_or None (values_at i v since)) ≡ last_or None (values_at i v (since ++ x ∷ []))
+        go : (b : Bool) → (v == u) ≡ b → (if b then last_or (last_or None (values_decided_at i v since)) (externalized_values x.outs) else last_or None (values_decided_at i v since)) ≡ last_or None (values_decided_at i v (since ++ x ∷ []))
         go true e = sym (more ∙ rw (equal-self i, equal-flip u v ∙ e) refl)
         go false e = sym (more ∙ rw (equal-self i, equal-flip u v ∙ e) refl)

@@ -22,12 +22,12 @@ use Rattle.requests.specs.Outlines.{Outlined, waiting_at}
 use Rattle.requests.specs.Taking.{declared_count, is_declared, takes}
 use Rattle.runs.specs.declared.followed.Turn.{Turn}
 use Rattle.runs.specs.declared.followed.Turn.TheVariants.{Opens, Closes, Within}
-use Rattle.runs.specs.Emissions.{OpenSlots, at_number, changed_at, first_emitted, given_out, given_out_by, handed_on, just_opened, waits}
+use Rattle.runs.specs.Emissions.{OpenSlots, at_number, changed_at_number, first_emitted, given_out, given_out_by, handed_on, just_opened, waits}
 use Rattle.runs.specs.Followed.{Followed, after_turn, also_followed, turn_of, waiting, with_handed}
-use Rattle.runs.specs.Hosting.{Hosting, IsApplied, IsBegun, logs_joined, new_hosting, noted_answer}
+use Rattle.runs.specs.Hosting.{Hosting, IsEventApplied, IsNetworkBegun, logs_joined, new_hosting, noted_answer}
 use Rattle.runs.specs.Joining.{NetworkIsNamedAt}
 use Rattle.runs.specs.Settling.{HasSettled, hearing}
-use Rattle.runs.specs.ServedNetworks.{AllIsHeard as heard, IsHeardAt, IsHeardByOthers, IsHeardOf, IsServed, IsTakenBack}
+use Rattle.runs.specs.ServedNetworks.{AllIsHeard as heard, IsEventServed, IsHeardAt, IsHeardByOthers, IsHeardOf, IsTakenBack}
 use Rattle.runs.specs.Running.{IsDeclaredSo}
 use Rattle.runs.specs.ByJournals.{AreSlotsAt, FollowsJournals, LinesLeaveNothing, NothingWaits, RunsLeaveNothing, StandOnce}
 use Rattle.runs.proofs.NumberedRows.{at-changed, at-inserted, at-removed, has-inserted, is-at}
@@ -73,7 +73,7 @@ once-of : (l : Option Log) (m : OpenSlots) → AreSlotsAt l (Some m) → StandOn
 once-of None m h = absurd h
 once-of (Some l) m h = h.1.once
 
-applied-leaves : (g : ℕ) (e : Event) (r : Result (Vec Out Global) Refusal) (old new : Hosting) (j i : ℕ) → FollowsJournals old → IsApplied g e r old new
+applied-leaves : (g : ℕ) (e : Event) (r : Result (Vec Out Global) Refusal) (old new : Hosting) (j i : ℕ) → FollowsJournals old → IsEventApplied g e r old new
     → ((os : List Out) → items_of r ≡ Ok os → IsElsewhere g os j i) → waiting old.followed j i ≡ None → waiting new.followed j i ≡ None
 applied-leaves g e r old new j i s h else_where none = go (items_of r) else_where h.1
   where
@@ -95,7 +95,7 @@ applied-leaves g e r old new j i s h else_where none = go (items_of r) else_wher
 -- ---- hearings
 
 -- what a hearing at a slot emits is of that slot
-heard-there : (g slot u : ℕ) (e : Emission) (old new : Hosting) (outs : Vec Out Global) (x : Sent) → IsApplied g (hearing slot u e) (Ok outs) old new → first_emitted outs.items ≡ Some x → x.slot ≡ slot
+heard-there : (g slot u : ℕ) (e : Emission) (old new : Hosting) (outs : Vec Out Global) (x : Sent) → IsEventApplied g (hearing slot u e) (Ok outs) old new → first_emitted outs.items ≡ Some x → x.slot ≡ slot
 heard-there g slot u e old new outs x h first = go (log_at old.logs g) h.0
   where
     go : (l : Option Log) → IsAnsweredAt l old.logs (Hears slot u e.from e.kind e.number) (Ok outs.items) new.logs → x.slot ≡ slot
@@ -112,7 +112,7 @@ handed-leaves : (g slot j i : ℕ) (f : Followed) → IsApart g slot j i → wai
 handed-leaves g slot j i f apart none = ap (λ (m : Option OpenSlots). waits_in m i) (at-changed g change j f) ∙ go (g == j) refl apart
   where
     change : OpenSlots → OpenSlots
-    change m = record m { slots = changed_at m.slots slot handed_on }
+    change m = record m { slots = changed_at_number m.slots slot handed_on }
 
     within : (m : Option OpenSlots) → (slot == i) ≡ false → waits_in m i ≡ None → waits_in (option_map change m) i ≡ None
     within None other w = refl
@@ -128,11 +128,11 @@ handed-leaves g slot j i f apart none = ap (λ (m : Option OpenSlots). waits_in 
 abbrev NoneAt : ℕ → ℕ → Hosting → Type 0
 NoneAt j i h = FollowsJournals h × (waiting h.followed j i ≡ None)
 
-heard-leaves : (g slot j i : ℕ) → IsApart g slot j i → (u : ℕ) (e : Emission) (r : Result (Vec Out Global) Refusal) (old new : Hosting) → NoneAt j i old → IsApplied g (hearing slot u e) r old new → NoneAt j i new
+heard-leaves : (g slot j i : ℕ) → IsApart g slot j i → (u : ℕ) (e : Emission) (r : Result (Vec Out Global) Refusal) (old new : Hosting) → NoneAt j i old → IsEventApplied g (hearing slot u e) r old new → NoneAt j i new
 heard-leaves g slot j i apart u e r old new p h =
     (applied-follows g (hearing slot u e) r old new p.0 h, applied-leaves g (hearing slot u e) r old new j i p.0 h (else_where r h apart) p.1)
   where
-    else_where : (r : Result (Vec Out Global) Refusal) → IsApplied g (hearing slot u e) r old new → IsApart g slot j i → (os : List Out) → items_of r ≡ Ok os → IsElsewhere g os j i
+    else_where : (r : Result (Vec Out Global) Refusal) → IsEventApplied g (hearing slot u e) r old new → IsApart g slot j i → (os : List Out) → items_of r ≡ Ok os → IsElsewhere g os j i
     else_where (Err x) h apart os is = absurd (no-answer os x (sym is))
     else_where (Ok outs) h (inl other) os is = inl other
     else_where (Ok outs) h (inr other) os is =
@@ -172,7 +172,7 @@ another us g j absent there = go (g == j) refl
     go true is = absurd (false≢true (sym absent ∙ (ap (is_in us) (eqb-true g j is) ∙ there)))
     go false is = refl
 
-module _ (g : ℕ) (e : Event) (r : Result (Vec Out Global) Refusal) (old now : Hosting) (s : FollowsJournals old) (nothing : NothingWaits old) (applied : IsApplied g e r old now) where
+module _ (g : ℕ) (e : Event) (r : Result (Vec Out Global) Refusal) (old now : Hosting) (s : FollowsJournals old) (nothing : NothingWaits old) (applied : IsEventApplied g e r old now) where
   now-follows : FollowsJournals now
   now-follows = applied-follows g e r old now s applied
 
@@ -225,7 +225,7 @@ module _ (g : ℕ) (e : Event) (r : Result (Vec Out Global) Refusal) (old now : 
     of-answer (Err x) is_a true plain h = as-before h (λ ys isn. absurd (no-answer ys x (sym isn ∙ is_a)))
     of-answer (Ok os) is_a true plain h = of-outs os is_a (first_emitted os) refl h
 
-served-leaves : (g : ℕ) (e : Event) (r : Result (Vec Out Global) Refusal) (old new : Hosting) → FollowsJournals old → NothingWaits old → IsServed g e r old new → NothingWaits new
+served-leaves : (g : ℕ) (e : Event) (r : Result (Vec Out Global) Refusal) (old new : Hosting) → FollowsJournals old → NothingWaits old → IsEventServed g e r old new → NothingWaits new
 served-leaves g e r old new s nothing h j i is =
     of-answer g e r old h.0 s nothing h.1 new j i (ap (λ (n : Named). is_in n.served j) (sym (served-keeps (AreNamed old.named) (events-name old.named) g e r old new refl h)) ∙ is) (items_of r) refl (is_in old.named.served g) refl h.2
 
@@ -237,7 +237,7 @@ settled-leaves g slot ended old new s nothing plain h j i is =
 
 -- ---- other lines
 
-begun-leaves : (g : ℕ) (old new : Hosting) → NothingWaits old → IsBegun g old new → NothingWaits new
+begun-leaves : (g : ℕ) (old new : Hosting) → NothingWaits old → IsNetworkBegun g old new → NothingWaits new
 begun-leaves g old new nothing h = go (waiting_at old.waiting g) h.0 h.1
   where
     go : (o : Option Outlined) → NetworkIsNamedAt (also_followed logs_joined) g o old.waiting new.waiting (old.logs, old.followed) (new.logs, new.followed) → new.named ≡ named_with g o old.named → NothingWaits new

@@ -32,8 +32,8 @@ abbrev pub sent_at : ℕ → List Entry → List Sent
 sent_at i xs = filter (λ e. e.slot == i) (flat_map (λ x. emissions x.outs) xs)
 
 -- what a node decided there, in order
-abbrev pub values_at : ℕ → ℕ → List Entry → List (List ℕ)
-values_at i u xs = map (λ d. d.value) (filter (λ d. (d.slot == i) && (d.node == u)) (decisions_by xs))
+abbrev pub values_decided_at : ℕ → ℕ → List Entry → List (List ℕ)
+values_decided_at i u xs = map (λ d. d.value) (filter (λ d. (d.slot == i) && (d.node == u)) (decisions_by xs))
 
 -- how many of these envelopes are a node's, of a kind
 abbrev pub count_among : ℕ → Kind → List Sent → ℕ
@@ -61,7 +61,7 @@ speaker_of es decided u = record {
 -- of a slot with these nodes, by the entries since it was opened: what each node has emitted and decided, and all
 -- emissions in order, of which no more have been handed on than there are
 pub record IsSlotBy (names : List ℕ) (i : ℕ) (since : List Entry) (o : OpenSlot) : Type 0 where
-  pub speakers : o.speakers ≡ map (speaker_of (sent_at i since) (λ u. last_or None (values_at i u since))) names
+  pub speakers : o.speakers ≡ map (speaker_of (sent_at i since) (λ u. last_or None (values_decided_at i u since))) names
   pub emissions : o.emissions ≡ numbered_behind [] (sent_at i since)
   pub handed : o.handed ≤ length o.emissions
 
@@ -79,8 +79,8 @@ pub record AreSlotsBy (config : Config) (entries : List Entry) (m : OpenSlots) :
   pub opens : (i : ℕ) → is_some (at_number m.slots i) ≡ is_open (state_of config entries) i
   pub kept : (i : ℕ) (o : OpenSlot) → at_number m.slots i ≡ Some o → IsSlotBy m.names i (since_opened i entries) o
 
--- of the network of a number, by its journal, which is a run: where there is a journal, the network is followed, and
--- where there is none, it is not
+-- of the network of a number, by its journal: if there is none, the network is not followed. If there is one, it is a
+-- run, and what is followed of the network is what its entries say.
 abbrev pub AreSlotsAt : Option Log → Option OpenSlots → Type 0
 AreSlotsAt None None = Unit {0}
 AreSlotsAt None (Some m) = ⊥
@@ -93,7 +93,7 @@ AreFollowed logs f = (g : ℕ) → AreSlotsAt (log_at logs g) (at_number f g)
 
 -- the networks that have joined are those that were declared before an event named them, none that waits has joined, and
 -- there is room for all that wait
-pub record HaveRoom (ws : Waiting) (n : Named) (logs : List Log) : Type 0 where
+pub record CanAllJoin (ws : Waiting) (n : Named) (logs : List Log) : Type 0 where
   pub joined : (g : ℕ) → is_some (log_at logs g) ≡ is_in n.running g
   pub counted : length logs ≤ length n.running
   pub apart : (g : ℕ) → is_some (waiting_at ws g) ≡ true → is_in n.running g ≡ false
@@ -103,7 +103,7 @@ pub record HaveRoom (ws : Waiting) (n : Named) (logs : List Log) : Type 0 where
 -- the networks of a script, in a state in which what is kept of open slots is what their journals have. (Those that
 -- join after the last line are not followed: no line comes that could settle.)
 pub record FollowsJournals (h : Hosting) : Type 0 where
-  pub room : HaveRoom h.waiting h.named h.logs
+  pub room : CanAllJoin h.waiting h.named h.logs
   pub slots : AreFollowed h.logs h.followed
 
 -- what is kept of open slots is what the journals have, before the first line, and each line that is run keeps it
@@ -118,9 +118,8 @@ RunsFollowJournals =
     (text : Bytes) (before after : Option Bytes) (new : Hosting)
     → HasRun Tells RefusesLine new_hosting text before after (Ok tt) new → FollowsJournals new
 
--- Where what is kept of open slots is what the journals have, each emission that is kept is found by its number among
--- what its node has emitted at the slot, as the one that the entries emitted; so that is what a node gets that hears
--- it.
+-- If what is kept of open slots is what the journals have, each emission that is kept is found by its number among what
+-- its node has emitted there. It is the one that the entries emitted, and so the one that a node gets that hears it.
 abbrev pub KeptAreFound : Type 0
 KeptAreFound =
     (h : Hosting) → FollowsJournals h → (g i n : ℕ) (l : Log) (o : OpenSlot) (e : Emission) → log_at h.logs g ≡ Some l
@@ -134,8 +133,9 @@ KeptAreFound =
 abbrev pub NothingWaits : Hosting → Type 0
 NothingWaits h = (g i : ℕ) → is_in h.named.served g ≡ true → waiting h.followed g i ≡ None
 
--- in a served network no emission waits at any slot, before the first line, and each line that is run keeps it; so what
--- waits where an event of a served network was applied is what that event gave out
+-- In a served network no emission waits at any slot before the first line. Each line that is run keeps it so, if what
+-- is kept of open slots is what the journals have. So what waits after an event of a served network was applied is what
+-- that event gave out.
 abbrev pub LinesLeaveNothing : Type 0
 LinesLeaveNothing =
     NothingWaits new_hosting

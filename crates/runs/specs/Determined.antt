@@ -24,33 +24,33 @@ AreFollowedAlike one other = (g : ℕ) → at_number one g ≡ at_number other g
 
 -- the networks of two scripts are alike: the same wait, the same numbers are named, the same is followed of each
 -- network, and the journals are the same. In which order numbers and followed networks are kept does not matter.
-pub record AreAlike (one other : Hosting) : Type 0 where
+pub record AreRunsAlike (one other : Hosting) : Type 0 where
   pub waiting : one.waiting ≡ other.waiting
   pub named : AreNamedAlike one.named other.named
   pub followed : AreFollowedAlike one.followed other.followed
   pub logs : one.logs ≡ other.logs
 
--- afterwards the networks are alike, and the traces are the same where they were the same before
+-- afterwards the networks are alike, and the traces are the same if they were the same before
 abbrev pub BecomeAlike : Unprinted → Unprinted → Unprinted → Unprinted → Type 0
-BecomeAlike one other new last = AreAlike new.hosting last.hosting × (one.trace ≡ other.trace → new.trace ≡ last.trace)
+BecomeAlike one other new last = AreRunsAlike new.hosting last.hosting × (one.trace ≡ other.trace → new.trace ≡ last.trace)
 
 -- What a line does is determined: networks that are alike are alike after the same line.
 abbrev pub LinesDoOneThing : Type 0
 LinesDoOneThing =
-    (one other new last : Unprinted) (fields : List Bytes) (p q : Option Bytes) → AreAlike one.hosting other.hosting
+    (one other new last : Unprinted) (fields : List Bytes) (p q : Option Bytes) → AreRunsAlike one.hosting other.hosting
     → TellsUnprinted one fields p new → TellsUnprinted other fields q last
     → BecomeAlike one other new last
 
 -- What lines do that are all run is determined: networks that are alike are alike after the same lines.
 abbrev pub RunsDoOneThing : Type 0
 RunsDoOneThing =
-    (one other new last : Unprinted) (lines : List (ℕ × Bytes)) (p q : Bytes) → AreAlike one.hosting other.hosting
+    (one other new last : Unprinted) (lines : List (ℕ × Bytes)) (p q : Bytes) → AreRunsAlike one.hosting other.hosting
     → Runs TellsUnprinted RefusesUnprinted one lines p (Ok tt) new
     → Runs TellsUnprinted RefusesUnprinted other lines q (Ok tt) last
     → BecomeAlike one other new last
 
--- What the end of a script does is determined: where the same networks wait and the journals are the same before it,
--- the journals are the same after it. So are the traces, where they were the same before.
+-- What the end of a script does is determined: if the same networks wait and the journals are the same before it, the
+-- journals are the same after it. So are the traces, if they were the same before.
 abbrev pub EndsDoOneThing : Type 0
 EndsDoOneThing =
     (one other new last : Unprinted) → one.hosting.waiting ≡ other.hosting.waiting

@@ -35,8 +35,8 @@ replace_found None xs n change = xs
 replace_found (Some x) xs n change = set_value (is_at (nat_cmp n)) xs (change x)
 
 -- a list with what stands at a number changed, if anything stands there
-abbrev pub changed_at : {X : Type 0} → List (ℕ × X) → ℕ → (X → X) → List (ℕ × X)
-changed_at xs n change = replace_found (at_number xs n) xs n change
+abbrev pub changed_at_number : {X : Type 0} → List (ℕ × X) → ℕ → (X → X) → List (ℕ × X)
+changed_at_number xs n change = replace_found (at_number xs n) xs n change
 
 -- ---- a node
 
@@ -120,7 +120,7 @@ first_emitted (ArmBallot counter ∷ outs) = first_emitted outs
 -- an event has given this out; what it has emitted first names its node and its slot
 abbrev pub given_out_by : Option Sent → List Out → OpenSlots → OpenSlots
 given_out_by None outs m = m
-given_out_by (Some e) outs m = record m { slots = changed_at m.slots e.slot (λ o. fold (given_out e.sender) o outs) }
+given_out_by (Some e) outs m = record m { slots = changed_at_number m.slots e.slot (λ o. fold (given_out e.sender) o outs) }
 
 -- the open slots where an event has given this out; what it has emitted first names its node and its slot
 abbrev pub noted_outs : List Out → OpenSlots → OpenSlots

@@ -11,7 +11,7 @@ use Rattle.network.specs.declared.plan.Emission.{Emission}
 use Rattle.runs.specs.declared.followed.Turn.{Turn}
 use Rattle.runs.specs.declared.followed.Turn.TheVariants.{Opens, Closes, Within}
 use Rattle.runs.specs.Joining.{Joins}
-use Rattle.runs.specs.Emissions.{OpenSlot, OpenSlots, at_number, changed_at, handed_on, noted_outs, waits, with_slot, without_slot}
+use Rattle.runs.specs.Emissions.{OpenSlot, OpenSlots, at_number, changed_at_number, handed_on, noted_outs, waits, with_slot, without_slot}
 
 -- the networks that are followed, ascending by number
 abbrev pub Followed : Type 0
@@ -53,7 +53,7 @@ handed_at f g slot = handed_in (open_slot f g slot)
 
 -- the followed networks, where the first emission that waited at a slot has been handed on
 abbrev pub with_handed : ℕ → ℕ → Followed → Followed
-with_handed g slot f = changed_at f g (λ m. record m { slots = changed_at m.slots slot handed_on })
+with_handed g slot f = changed_at_number f g (λ m. record m { slots = changed_at_number m.slots slot handed_on })
 
 -- what an event does to the slots that are open
 abbrev pub turn_of : Event → Turn
@@ -69,4 +69,4 @@ after_turn Within outs m = noted_outs outs m
 
 -- the followed networks, where an event of the network of a number has been applied
 abbrev pub followed_after : ℕ → Turn → List Out → Followed → Followed
-followed_after g turn outs f = changed_at f g (after_turn turn outs)
+followed_after g turn outs f = changed_at_number f g (after_turn turn outs)

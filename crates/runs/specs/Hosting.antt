@@ -11,7 +11,7 @@ use Rattle.runs.specs.Followed.{Followed, also_followed, followed_after, turn_of
 use Rattle.runs.specs.Joining.{HaveJoined, NetworkIsNamed, Joins}
 use Rattle.requests.specs.Naming.{Named, named_with, new_named}
 
--- the networks that wait for an event that names them, the numbers that events have named, and of the networks that
+-- the networks that wait for an event that names them, which numbers are named, run and served, and of the networks that
 -- joined what is kept for lines that settle, and the journals
 pub record Hosting : Type 0 where
   pub waiting : Waiting
@@ -34,10 +34,9 @@ has_room logs g = not (is_some (log_at logs g)) && nat_lt (length logs) 4096
 abbrev pub logs_joined : Joins (List Log)
 logs_joined c logs = if has_room logs c.number then logs_with (record { config = c; entries = [] }) logs else logs
 
--- the network of a number is named: where the line is the first that does, the network joins, and what its nodes emit
--- is followed from then on
-abbrev pub IsBegun : ℕ → Hosting → Hosting → Type 0
-IsBegun g old new =
+-- the network of a number is named: if it waits, it joins, and what its nodes emit is followed from then on
+abbrev pub IsNetworkBegun : ℕ → Hosting → Hosting → Type 0
+IsNetworkBegun g old new =
     NetworkIsNamed (also_followed logs_joined) g old.waiting new.waiting (old.logs, old.followed) (new.logs, new.followed)
     × (new.named ≡ named_with g (waiting_at old.waiting g) old.named)
 
@@ -58,7 +57,7 @@ noted_answer g e (Ok outs) f = followed_after g (turn_of e) outs f
 noted_answer g e (Err r) f = f
 
 -- an event is put to the network of a number, and answered
-abbrev pub IsApplied : ℕ → Event → Result (Vec Out Global) Refusal → Hosting → Hosting → Type 0
-IsApplied g e r old new =
+abbrev pub IsEventApplied : ℕ → Event → Result (Vec Out Global) Refusal → Hosting → Hosting → Type 0
+IsEventApplied g e r old new =
     IsAnswered old.logs g e r new.logs × (new.followed ≡ noted_answer g e (items_of r) old.followed)
     × DeclaresNothing old new

@@ -7,7 +7,7 @@ use Rattle.requests.specs.Outlines.{Outlined, IsConfigOf, Waiting, waiting_at, w
 abbrev pub Joins : Type 0 → Type 0
 Joins S = Config → S → S
 
--- an event names a network: where it waits, it joins and waits no more; else nothing changes
+-- an event names a network: if it waits, it joins and waits no more; else nothing changes
 abbrev pub NetworkIsNamedAt : {S : Type 0} → Joins S → ℕ → Option Outlined → Waiting → Waiting → S → S → Type 0
 NetworkIsNamedAt joins g None ws us old new = (us ≡ ws) × (new ≡ old)
 NetworkIsNamedAt joins g (Some d) ws us old new =
@@ -17,11 +17,11 @@ NetworkIsNamedAt joins g (Some d) ws us old new =
 abbrev pub NetworkIsNamed : {S : Type 0} → Joins S → ℕ → Waiting → Waiting → S → S → Type 0
 NetworkIsNamed joins g ws us old new = NetworkIsNamedAt joins g (waiting_at ws g) ws us old new
 
--- an event names a network: where it waits, it waits no more, and its configuration is this
-abbrev pub IsTaken : ℕ → Option Outlined → Option Config → Waiting → Waiting → Type 0
-IsTaken g None named ws us = (named ≡ None) × (us ≡ ws)
-IsTaken g (Some d) None ws us = ⊥
-IsTaken g (Some d) (Some c) ws us = IsConfigOf g d c × (us ≡ waiting_without ws g)
+-- an event names a network: if it waits, it waits no more, and its configuration is this; else there is none
+abbrev pub IsConfigTaken : ℕ → Option Outlined → Option Config → Waiting → Waiting → Type 0
+IsConfigTaken g None named ws us = (named ≡ None) × (us ≡ ws)
+IsConfigTaken g (Some d) None ws us = ⊥
+IsConfigTaken g (Some d) (Some c) ws us = IsConfigOf g d c × (us ≡ waiting_without ws g)
 
 -- a network joins, if it has nodes
 abbrev pub HasJoined : {S : Type 0} → Joins S → ℕ → Outlined → S → S → Type 0

@@ -6,12 +6,12 @@ use Rattle.types.specs.declared.event.Event.TheVariants.{OpenSlot, CloseSlot}
 use Rattle.requests.specs.Outlines.{Waiting}
 use Rattle.runs.specs.Plans.{Plan}
 use Rattle.requests.specs.Preparing.{IsPrepared}
-use Rattle.runs.specs.Submitting.{IsComplete, IsDeclared, IsSubmitted}
-use Rattle.requests.specs.Telling.{Allowed, AsksOf, BadLinesAreUntold, IsBadToAsk, Refuses, is_closing}
+use Rattle.runs.specs.Submitting.{IsComplete, IsNetworkDeclared, IsSubmitted}
+use Rattle.requests.specs.Telling.{Allowed, AsksOf, BadLinesAreUntold, IsBadToAsk, RefusesAsked, is_closing}
 
 -- the network of a number is named, and its slot is to be opened
 abbrev pub IsOpened : ℕ → ℕ → Plan → Plan → Type 0
-IsOpened g slot old new = IsDeclared g old.submitted new.submitted × (new.opens ≡ old.opens ++ (g, slot) ∷ [])
+IsOpened g slot old new = IsNetworkDeclared g old.submitted new.submitted × (new.opens ≡ old.opens ++ (g, slot) ∷ [])
 
 -- an event is put as a job
 abbrev pub IsJob : ℕ → Event → Plan → Plan → Type 0
@@ -43,7 +43,7 @@ only_jobs = record { settling = false; closing = false }
 
 -- a line is bad in a script that gives jobs: one that closes a slot too, or has one settle
 abbrev pub RefusesToPut : Plan → List Bytes → Type 0
-RefusesToPut old fields = Refuses only_jobs old.submitted.waiting old.submitted.named fields
+RefusesToPut old fields = RefusesAsked only_jobs old.submitted.waiting old.submitted.named fields
 
 -- no line is both bad and planned
 abbrev pub BadLinesPutNothing : Type 0

@@ -20,6 +20,6 @@ abbrev pub line_behind : Result (Vec Out Global) Refusal → Bytes
 line_behind r = 10 ∷ reply_text (items_of r)
 
 -- the lines of answers, with a line feed between each and the next
-abbrev pub lines_of : List (Result (Vec Out Global) Refusal) → Bytes
-lines_of [] = []
-lines_of (r ∷ rs) = reply_text (items_of r) ++ flat_map line_behind rs
+abbrev pub reply_lines : List (Result (Vec Out Global) Refusal) → Bytes
+reply_lines [] = []
+reply_lines (r ∷ rs) = reply_text (items_of r) ++ flat_map line_behind rs

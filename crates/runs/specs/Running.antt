@@ -19,10 +19,10 @@ use Rattle.world.specs.Worlds.{items_of}
 use Rattle.runs.specs.declared.outcome.Outcome.{Outcome}
 use Rattle.runs.specs.declared.outcome.Outcome.TheVariants.{Declared, Answer, Answers, Settled}
 use Rattle.runs.specs.Followed.{Followed, open_slot}
-use Rattle.runs.specs.Hosting.{Hosting, IsBegun}
-use Rattle.runs.specs.ReplyLines.{lines_of}
-use Rattle.runs.specs.ServedNetworks.{AreAllDelivered, IsDropped, IsPut}
-use Rattle.runs.specs.Settling.{IsSettled, line_of}
+use Rattle.runs.specs.Hosting.{Hosting, IsNetworkBegun}
+use Rattle.runs.specs.ReplyLines.{reply_lines}
+use Rattle.runs.specs.ServedNetworks.{AreAllDelivered, IsDropAnswered, IsEventPut}
+use Rattle.runs.specs.Settling.{IsSettled, settling_line}
 
 -- a declaration of the network of a number is taken, and nothing of the networks that joined changes; the numbers are these
 -- from then on
@@ -35,46 +35,46 @@ pub record IsDeclaredSo (g : ℕ) (d : Declaration) (named : Named) (old new : H
 
 -- bytes come to all nodes of the network of a number, and these are the answers
 abbrev pub IsPutToAll : ℕ → Bytes → Hosting → List (Result (Vec Out Global) Refusal) → Hosting → Type 0
-IsPutToAll g bytes old rs new = (begun : Hosting) × IsBegun g old begun × AreAllDelivered g bytes begun rs new
+IsPutToAll g bytes old rs new = (begun : Hosting) × IsNetworkBegun g old begun × AreAllDelivered g bytes begun rs new
 
--- what a line does that orders this of the network of a number, and what comes of it. A declaration that is taken names
--- nothing; one with the word `served` says moreover that the network is. An event is put to its network. A line that
--- settles hands on what nodes have emitted. Bytes for all nodes of a served network come to each of them. A served network
--- that is dropped is taken back.
+-- What a line does that orders this of the network of a number, and what comes of it. A declaration that is taken names
+-- nothing; one with the word `served` says moreover that the network is. An event is put to its network, but no hearing
+-- to one that is served. A line that settles hands on what nodes of a network that is not served have emitted. Bytes
+-- for all nodes come to each node of a served network, and `drop` takes one back; if none is declared, that is refused.
 abbrev pub Does : ℕ → Order → Hosting → Outcome → Hosting → Type 0
 Does g (order.Request (Declare d)) old Declared new = IsDeclaredSo g d old.named old new
-Does g (order.Request (Apply e)) old (Answer r) new = (may_apply old.named g e ≡ true) × IsPut g e old r new
+Does g (order.Request (Apply e)) old (Answer r) new = (may_apply old.named g e ≡ true) × IsEventPut g e old r new
 Does g (order.Request (Settle slot)) old (Settled i ended) new =
     (is_in old.named.served g ≡ false) × IsSettled g slot old ended new × (i ≡ slot)
 Does g (order.Serve b) old Declared new = IsDeclaredSo g (Net b) (served_with g old.named) old new
 Does g (order.ForAll bytes) old (Answers rs) new =
     (is_unserved old.waiting old.named g ≡ false) × IsPutToAll g bytes old rs.items new
 Does g order.Drop old (Answer r) new =
-    (is_unserved old.waiting old.named g ≡ false) × IsDropped (is_declared old.waiting old.named g) g old (items_of r) new
+    (is_unserved old.waiting old.named g ≡ false) × IsDropAnswered (is_declared old.waiting old.named g) g old (items_of r) new
 Does g o old outcome new = ⊥
 
 -- a line with these fields does what it orders of the network of a number, and this comes of it
-abbrev pub IsCarriedOut : ℕ → List Bytes → Hosting → Outcome → Hosting → Type 0
-IsCarriedOut g fields old outcome new = (o : Order) × Orders fields g o × Does g o old outcome new
+abbrev pub IsLineCarriedOut : ℕ → List Bytes → Hosting → Outcome → Hosting → Type 0
+IsLineCarriedOut g fields old outcome new = (o : Order) × Orders fields g o × Does g o old outcome new
 
--- what is printed of what came of a line, by what is followed after it: of a declaration nothing, of an event its answer, and
--- of bytes for all nodes each answer; of a slot that settles the first refusal, or what has been decided. What others
--- hear of an event in a served network prints nothing.
+-- What is printed of what came of a line, by what is followed after it. Of a declaration it is nothing, of an event or
+-- a `drop` its answer, and of bytes for all nodes each answer. Of a slot that settles it is the refusal that ended it,
+-- or else what has been decided. What others hear of an event in a served network prints nothing.
 abbrev pub printed_of : Outcome → ℕ → Followed → Option Bytes
 printed_of Declared g f = None
 printed_of (Answer r) g f = Some (reply_text (items_of r))
-printed_of (Answers rs) g f = Some (lines_of rs.items)
-printed_of (Settled slot ended) g f = Some (line_of ended (open_slot f g slot))
+printed_of (Answers rs) g f = Some (reply_lines rs.items)
+printed_of (Settled slot ended) g f = Some (settling_line ended (open_slot f g slot))
 
 -- what a line tells: what it orders is done, and what comes of it printed
 abbrev pub Tells : Hosting → List Bytes → Option Bytes → Hosting → Type 0
 Tells old fields printed new =
-    (g : ℕ) × (outcome : Outcome) × IsCarriedOut g fields old outcome new × (printed ≡ printed_of outcome g new.followed)
+    (g : ℕ) × (outcome : Outcome) × IsLineCarriedOut g fields old outcome new × (printed ≡ printed_of outcome g new.followed)
 
--- a line is bad in a script of networks
+-- a line is bad in a script of networks: it has none of the forms, or what it orders is not taken
 abbrev pub RefusesLine : Hosting → List Bytes → Type 0
 RefusesLine old fields = RefusesOrder old.waiting old.named fields
 
--- no line is both bad and run: where memory is enough, the bad lines are exactly those that are called so
+-- no line is both bad and run: if memory is enough, the bad lines are exactly those that are called so
 abbrev pub BadLinesTellNothing : Type 0
 BadLinesTellNothing = BadLinesAreUntold Tells RefusesLine

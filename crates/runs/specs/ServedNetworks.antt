@@ -14,25 +14,25 @@ use Rattle.requests.specs.Naming.{IsForgotten, is_in}
 use Rattle.requests.specs.Outlines.{waiting_without}
 use Rattle.runs.specs.Emissions.{first_emitted}
 use Rattle.runs.specs.Followed.{IsUnfollowed, names_at, waiting}
-use Rattle.runs.specs.Hosting.{Hosting, IsApplied, IsBegun}
+use Rattle.runs.specs.Hosting.{Hosting, IsEventApplied, IsNetworkBegun}
 use Rattle.runs.specs.Settling.{IsHeardBy, handed_over, others}
 
 -- ---- who hears of an event
 
 -- each of these nodes hears an emission, unless it is its own, one after the other; a hearing that is refused is not tried
 -- again, and the next one follows. Memory is enough for each.
-pub data AreTold (g slot : ℕ) (e : Emission) : List ℕ → Hosting → Hosting → Type 0 where
-  all_told : {h : Hosting} → AreTold g slot e [] h h
-  one_told : {u : ℕ} {us : List ℕ} {old now new : Hosting} (ended : Option Refusal)
+pub data HaveOthersHeard (g slot : ℕ) (e : Emission) : List ℕ → Hosting → Hosting → Type 0 where
+  all_heard : {h : Hosting} → HaveOthersHeard g slot e [] h h
+  one_heard : {u : ℕ} {us : List ℕ} {old now new : Hosting} (ended : Option Refusal)
       → IsHeardBy g slot e (others e (u ∷ [])) old ended now → ended ≢ Some NoMemory
-      → AreTold g slot e us now new → AreTold g slot e (u ∷ us) old new
+      → HaveOthersHeard g slot e us now new → HaveOthersHeard g slot e (u ∷ us) old new
 
 -- what waits at a slot is heard by all others, the first emission first, until none waits; those that come meanwhile wait
 -- behind the others
 pub data AllIsHeard (g slot : ℕ) (names : List ℕ) : Hosting → Hosting → Type 0 where
   none_waits : {h : Hosting} → waiting h.followed g slot ≡ None → AllIsHeard g slot names h h
   one_waits : {old now new : Hosting} (e : Emission) → waiting old.followed g slot ≡ Some e
-      → AreTold g slot e names old now
+      → HaveOthersHeard g slot e names old now
       → AllIsHeard g slot names (handed_over g slot None now) new → AllIsHeard g slot names old new
 
 -- the other nodes of a network hear what waits, if the network is there
@@ -52,14 +52,14 @@ IsHeardOf false g r old new = new ≡ old
 IsHeardOf true g (Err r) old new = new ≡ old
 IsHeardOf true g (Ok outs) old new = IsHeardAt g (first_emitted outs) old new
 
--- an event is put to the network of a number and answered, and then heard of where the network is served
-abbrev pub IsServed : ℕ → Event → Result (Vec Out Global) Refusal → Hosting → Hosting → Type 0
-IsServed g e r old new =
-    (now : Hosting) × IsApplied g e r old now × IsHeardOf (is_in old.named.served g) g (items_of r) now new
+-- an event is put to the network of a number and answered, and then heard of if the network is served
+abbrev pub IsEventServed : ℕ → Event → Result (Vec Out Global) Refusal → Hosting → Hosting → Type 0
+IsEventServed g e r old new =
+    (now : Hosting) × IsEventApplied g e r old now × IsHeardOf (is_in old.named.served g) g (items_of r) now new
 
 -- an event is put to the network of a number, which it may be the first to name, and answered
-abbrev pub IsPut : ℕ → Event → Hosting → Result (Vec Out Global) Refusal → Hosting → Type 0
-IsPut g e old r new = (begun : Hosting) × IsBegun g old begun × IsServed g e r begun new
+abbrev pub IsEventPut : ℕ → Event → Hosting → Result (Vec Out Global) Refusal → Hosting → Type 0
+IsEventPut g e old r new = (begun : Hosting) × IsNetworkBegun g old begun × IsEventServed g e r begun new
 
 -- ---- bytes for all nodes
 
@@ -68,7 +68,7 @@ pub data AreDelivered (g : ℕ) (bytes : Bytes) : List ℕ → Hosting → List 
     → Type 0 where
   none_left : {h : Hosting} → AreDelivered g bytes [] h [] h
   next_node : {u : ℕ} {us : List ℕ} {old now new : Hosting} {rs : List (Result (Vec Out Global) Refusal)}
-      (r : Result (Vec Out Global) Refusal) → IsServed g (Deliver u bytes) r old now
+      (r : Result (Vec Out Global) Refusal) → IsEventServed g (Deliver u bytes) r old now
       → AreDelivered g bytes us now rs new
       → AreDelivered g bytes (u ∷ us) old (r ∷ rs) new
 
@@ -91,6 +91,6 @@ pub record IsTakenBack (g : ℕ) (old new : Hosting) : Type 0 where
   pub logs : new.logs ≡ logs_without g old.logs
 
 -- the network of a number is taken back, if lines have declared it, and nothing is given out; else that is the refusal
-abbrev pub IsDropped : Bool → ℕ → Hosting → Result (List Out) Refusal → Hosting → Type 0
-IsDropped false g old r new = (r ≡ Err NoSuchNetwork) × (new ≡ old)
-IsDropped true g old r new = (r ≡ Ok []) × IsTakenBack g old new
+abbrev pub IsDropAnswered : Bool → ℕ → Hosting → Result (List Out) Refusal → Hosting → Type 0
+IsDropAnswered false g old r new = (r ≡ Err NoSuchNetwork) × (new ≡ old)
+IsDropAnswered true g old r new = (r ≡ Ok []) × IsTakenBack g old new

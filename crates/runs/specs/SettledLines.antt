@@ -7,7 +7,7 @@ use Rattle.scripts.specs.Values.{text_of_value}
 use Rattle.runs.specs.Emissions.{OpenSlot}
 use Rattle.runs.specs.declared.emissions.Speaker.{Speaker}
 
--- the value of a node, or `-` where it has none
+-- the value of a node, or `-` if it has none
 abbrev pub text_of_decided : Option Bytes → Bytes
 text_of_decided None = codes "-"
 text_of_decided (Some v) = text_of_value v

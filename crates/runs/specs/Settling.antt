@@ -10,7 +10,7 @@ use Rattle.types.specs.declared.event.Refusal.TheVariants.{NoSuchNetwork, SlotNo
 use Rattle.network.specs.declared.plan.Emission.{Emission}
 use Rattle.runs.specs.Emissions.{OpenSlot}
 use Rattle.runs.specs.Followed.{handed_at, names_at, open_slot, waiting, with_handed}
-use Rattle.runs.specs.Hosting.{Hosting, IsApplied, IsBegun}
+use Rattle.runs.specs.Hosting.{Hosting, IsEventApplied, IsNetworkBegun}
 use Rattle.requests.specs.Replies.{refusal_text}
 use Rattle.runs.specs.SettledLines.{settled_text}
 
@@ -29,9 +29,9 @@ others e names = filter (λ u. not (u == e.from)) names
 pub data IsHeardBy (g slot : ℕ) (e : Emission) : List ℕ → Hosting → Option Refusal → Hosting → Type 0 where
   by_all : {h : Hosting} → IsHeardBy g slot e [] h None h
   by_one : {u : ℕ} {us : List ℕ} {old now new : Hosting} {ended : Option Refusal} (outs : Vec Out Global)
-      → IsApplied g (hearing slot u e) (Ok outs) old now
+      → IsEventApplied g (hearing slot u e) (Ok outs) old now
       → IsHeardBy g slot e us now ended new → IsHeardBy g slot e (u ∷ us) old ended new
-  refused : {u : ℕ} {us : List ℕ} {old new : Hosting} (r : Refusal) → IsApplied g (hearing slot u e) (Err r) old new
+  refused : {u : ℕ} {us : List ℕ} {old new : Hosting} (r : Refusal) → IsEventApplied g (hearing slot u e) (Err r) old new
       → IsHeardBy g slot e (u ∷ us) old (Some r) new
 
 -- ---- all that wait
@@ -64,7 +64,7 @@ HeardWaitsOn =
     → waiting old.followed g slot ≡ Some e → IsHeardBy g slot e us old ended now
     → (waiting now.followed g slot ≡ Some e) × (handed_at now.followed g slot ≡ handed_at old.followed g slot)
 
--- the emission that is handed on is the one that was heard, and it is one more
+-- after the emission that waited first was handed on, one more has been handed on at the slot
 abbrev pub HandedOnIsCounted : Type 0
 HandedOnIsCounted =
     (g slot : ℕ) (e : Emission) (names : List ℕ) (old now : Hosting) → waiting old.followed g slot ≡ Some e
@@ -74,14 +74,14 @@ HandedOnIsCounted =
 -- ---- what is printed
 
 -- the line of a slot that settles: the refusal, if there is one; else what each node has decided there
-abbrev pub line_of : Option Refusal → Option OpenSlot → Bytes
-line_of None o = settled_text o
-line_of (Some r) o = refusal_text r
+abbrev pub settling_line : Option Refusal → Option OpenSlot → Bytes
+settling_line None o = settled_text o
+settling_line (Some r) o = refusal_text r
 
 -- ---- what a line that settles does
 
--- by the names of the nodes of the network, if it is there, and the slot, if it is open: where either is wanting, that
--- is the refusal, and nobody hears anything; else what waits is handed on
+-- By the names of the nodes of the network, if it is there, and the slot, if it is open. If one of them is not, that is
+-- the refusal, and nobody hears anything; else what waits is handed on.
 abbrev pub HasSettledAt : ℕ → ℕ → Option (List ℕ) → Option OpenSlot → Hosting → Option Refusal → Hosting → Type 0
 HasSettledAt g slot None o old ended new = (new ≡ old) × (ended ≡ Some NoSuchNetwork)
 HasSettledAt g slot (Some names) None old ended new = (new ≡ old) × (ended ≡ Some SlotNotOpen)
@@ -94,4 +94,4 @@ HasSettled g slot old ended new =
 
 -- a slot of a network settles, by a line that may be the first that names it, with what ended it
 abbrev pub IsSettled : ℕ → ℕ → Hosting → Option Refusal → Hosting → Type 0
-IsSettled g slot old ended new = (begun : Hosting) × IsBegun g old begun × HasSettled g slot begun ended new
+IsSettled g slot old ended new = (begun : Hosting) × IsNetworkBegun g old begun × HasSettled g slot begun ended new

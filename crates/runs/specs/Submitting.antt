@@ -4,14 +4,15 @@ use Rattle.scripts.specs.Script.{Bytes}
 use Rattle.types.specs.declared.event.Event.{Event}
 use Rattle.protocol.specs.Hosts.{History}
 use Rattle.protocol.specs.Submissions.{config_of}
-use Rattle.crowds.specs.Submitted.{and_then, with_config}
+use Rattle.crowds.specs.Submitted.{with_config}
+use Rattle.world.specs.Worlds.{and_then}
 use Rattle.requests.specs.Outlines.{Waiting, waiting_at}
 use Rattle.runs.specs.Joining.{HaveJoined, NetworkIsNamed, Joins}
 use Rattle.requests.specs.Naming.{Named, named_with, new_named}
 use Rattle.requests.specs.Preparing.{IsPrepared}
-use Rattle.requests.specs.Telling.{Allowed, AsksOf, BadLinesAreUntold, Refuses}
+use Rattle.requests.specs.Telling.{Allowed, AsksOf, BadLinesAreUntold, RefusesAsked}
 
--- the networks that wait for an event that names them, the numbers that events have named, and what has been submitted
+-- the networks that wait for an event that names them, which numbers are named, run and served, and what has been submitted
 pub record Submitting : Type 0 where
   pub waiting : Waiting
   pub named : Named
@@ -21,20 +22,20 @@ pub record Submitting : Type 0 where
 abbrev pub new_submitting : Submitting
 new_submitting = record { waiting = []; named = new_named; history = record { configs = []; calls = [] } }
 
--- a network is declared; where one of its number is declared, it is left out
+-- a network is declared; if one of its number is declared, it is left out
 abbrev pub declared_once : Joins History
 declared_once c h = if is_some (config_of h.configs c.number) then h else with_config h c
 
--- the network of a number is named: where the line is the first that does, the network is declared
-abbrev pub IsDeclared : ℕ → Submitting → Submitting → Type 0
-IsDeclared g old new =
+-- the network of a number is named: if it waits, it is declared in what is submitted
+abbrev pub IsNetworkDeclared : ℕ → Submitting → Submitting → Type 0
+IsNetworkDeclared g old new =
     NetworkIsNamed declared_once g old.waiting new.waiting old.history new.history
     × (new.named ≡ named_with g (waiting_at old.waiting g) old.named)
 
 -- an event of the network of a number is submitted
 abbrev pub IsSubmitted : ℕ → Event → Submitting → Submitting → Type 0
 IsSubmitted g e old new =
-    (begun : Submitting) × IsDeclared g old begun × (new.waiting ≡ begun.waiting) × (new.named ≡ begun.named)
+    (begun : Submitting) × IsNetworkDeclared g old begun × (new.waiting ≡ begun.waiting) × (new.named ≡ begun.named)
     × (new.history ≡ and_then begun.history g e)
 
 -- what a line tells, and nothing is printed: a declaration that is taken submits and names nothing, an event is
@@ -52,7 +53,7 @@ no_settling = record { settling = false; closing = true }
 
 -- a line is bad in a script that is submitted, in which no slot settles
 abbrev pub RefusesToSubmit : Submitting → List Bytes → Type 0
-RefusesToSubmit old fields = Refuses no_settling old.waiting old.named fields
+RefusesToSubmit old fields = RefusesAsked no_settling old.waiting old.named fields
 
 -- no line is both bad and submitted
 abbrev pub BadLinesSubmitNothing : Type 0

@@ -8,20 +8,20 @@ use Rattle.world.specs.Worlds.{log_at}
 use Rattle.runs.specs.declared.outcome.Outcome.{Outcome}
 use Rattle.runs.specs.declared.outcome.Outcome.TheVariants.{Declared, Answer, Answers, Settled}
 use Rattle.runs.specs.Hosting.{Hosting, IsFinished}
-use Rattle.runs.specs.Running.{IsCarriedOut, RefusesLine}
+use Rattle.runs.specs.Running.{IsLineCarriedOut, RefusesLine}
 
 -- for each line that was run, in order, the network that it names, and how many entries the journal of that one has
 -- after it
 abbrev pub Trace : Type 0
 Trace = List (ℕ × ℕ)
 
--- the networks of a script whose lines print nothing, and the trace of the lines, where it is kept
+-- the networks of a script whose lines print nothing, and the trace of the lines, if it is kept
 pub record Unprinted : Type 0 where
   pub hosting : Hosting
   pub trace : Option Trace
 
--- no event of a line was refused for want of memory, by what came of it: none that it asks for, and no hearing where it
--- settles. (Those that follow an event of a served network never were.)
+-- no event of a line was refused for want of memory, by what came of it: none that it asks for, and no hearing if it
+-- settles a slot. (Those that follow an event of a served network never were.)
 abbrev pub HadMemory : Outcome → Type 0
 HadMemory Declared = Unit {0}
 HadMemory (Answer r) = r ≢ Err NoMemory
@@ -29,36 +29,37 @@ HadMemory (Answers rs) = All (λ r. r ≢ Err NoMemory) rs.items
 HadMemory (Settled slot ended) = ended ≢ Some NoMemory
 
 -- how many entries a journal has
-abbrev pub entries_in : Option Log → ℕ
-entries_in None = 0
-entries_in (Some l) = length l.entries
+abbrev pub entry_count : Option Log → ℕ
+entry_count None = 0
+entry_count (Some l) = length l.entries
 
 -- a trace with a line more, which names the network of a number
 abbrev pub trace_after : ℕ → List Log → Option Trace → Option Trace
 trace_after g logs None = None
-trace_after g logs (Some t) = Some (t ++ (g, entries_in (log_at logs g)) ∷ [])
+trace_after g logs (Some t) = Some (t ++ (g, entry_count (log_at logs g)) ∷ [])
 
--- what a line tells where nothing is printed: what it orders is done as in a script whose answers are printed, no event of it
--- was refused for want of memory, and the trace has it
+-- What a line tells if nothing is printed: what it orders is done as in a script whose answers are printed. No event of
+-- it was refused for want of memory, and the trace has the line.
 abbrev pub TellsUnprinted : Unprinted → List Bytes → Option Bytes → Unprinted → Type 0
 TellsUnprinted old fields printed new =
-    (g : ℕ) × (outcome : Outcome) × IsCarriedOut g fields old.hosting outcome new.hosting × (printed ≡ None)
+    (g : ℕ) × (outcome : Outcome) × IsLineCarriedOut g fields old.hosting outcome new.hosting × (printed ≡ None)
     × HadMemory outcome × (new.trace ≡ trace_after g new.hosting.logs old.trace)
 
 -- a line is bad in a script that prints nothing, as in one whose answers are printed
 abbrev pub RefusesUnprinted : Unprinted → List Bytes → Type 0
 RefusesUnprinted old fields = RefusesLine old.hosting fields
 
--- after a line that names the network of a number there are more entries than so many, or not
+-- the line names the network of a number, which has more than n entries after it
 abbrev pub has_more : ℕ → ℕ → ℕ × ℕ → Bool
 has_more g n line = (line.0 == g) && nat_lt n line.1
 
+-- the line names the network of a number, which has at most n entries after it
 abbrev pub has_no_more : ℕ → ℕ → ℕ × ℕ → Bool
 has_no_more g n line = (line.0 == g) && not (nat_lt n line.1)
 
--- the line that an entry of a network comes from, by the lines from a number on: the first one after which, as after each
--- later one that names the network, it has more entries than come before that one. (After one that takes the network back
--- it has none.)
+-- The line that an entry of a network comes from, by the lines from a number on. It is the first one after which, as
+-- after each later one that names the network, it has more entries than come before that one. (After one that takes the
+-- network back it has none.)
 abbrev pub origin_from : ℕ → Trace → ℕ → ℕ → Option ℕ
 origin_from k [] g n = None
 origin_from k (line ∷ t) g n =

@@ -3,7 +3,7 @@
 ghost use Rattle.std.specs.Prelude.{◌+◌, ◌==◌, ◌<◌, ◌≡◌, ◌^◌, ◌++◌, [], IfOk, IfSome, OnOk, fold, length, map, option_map, string_bytes};
 ghost use Rattle.std.specs.List.{position_from};
 ghost use Rattle.configuration.specs.Configs.{names_of};
-ghost use Rattle.runs.specs.Emissions.{at_number, changed_at, count_of, with_next_emission, first_emitted, given_out, handed_on, just_opened, next_number, noted_outs, silent, waits, with_decision, with_emission, with_slot, with_speaker, without_slot};
+ghost use Rattle.runs.specs.Emissions.{at_number, changed_at_number, count_of, with_next_emission, first_emitted, given_out, handed_on, just_opened, next_number, noted_outs, silent, waits, with_decision, with_emission, with_slot, with_speaker, without_slot};
 ghost use Rattle.runs.specs.Followed.{after_turn};
 ghost use Rattle.runs.specs.SettledLines.{text_of_decided, text_of_speaker, text_of_speakers};
 
@@ -75,7 +75,7 @@ impl OpenSlot {
         }
     }
 
-    /// Adds for each node, ascending, ` NAME=VALUE`, or ` NAME=-` where it has not externalized.
+    /// Adds for each node, ascending, ` NAME=VALUE`, or ` NAME=-` if it has not externalized.
     pub fn push_decided(&self, text: &mut String) -> Result<(), AllocError>
         ensures { OnOk result (string_bytes text.new ≡ string_bytes text.old ++ text_of_speakers self.now.speakers) }
     {
@@ -253,7 +253,7 @@ impl OpenSlots {
 
     /// The first emission that waited at a slot has been handed on.
     pub fn hand_on(&mut self, slot: u64)
-        ensures { self.new ≡ record self.old { slots = changed_at self.old.slots slot handed_on } }
+        ensures { self.new ≡ record self.old { slots = changed_at_number self.old.slots slot handed_on } }
     {
         if let Some(open) = self.slots.get_mut(&slot) {
             open.hand_on();
@@ -275,7 +275,7 @@ impl OpenSlots {
 
     /// One event of a node at a slot has given this out.
     fn note_at(&mut self, slot: u64, node: &NodeId, outs: &[Out]) -> Result<(), AllocError>
-        ensures { OnOk result (self.new ≡ record self.old { slots = changed_at self.old.slots slot (λ o. fold (given_out node.now) o outs.now) }) }
+        ensures { OnOk result (self.new ≡ record self.old { slots = changed_at_number self.old.slots slot (λ o. fold (given_out node.now) o outs.now) }) }
     {
         match self.slots.get_mut(&slot) {
             Some(open) => open.note(node, outs),
@@ -291,7 +291,6 @@ fn silent_nodes(alloc: Global, names: &[NodeId]) -> Result<Vec<Speaker>, AllocEr
     names.iter().map(|name| Speaker::new(*name)).collect(alloc)
 }
 
-/// One more.
 fn one_more(count: u64) -> Result<u64, AllocError>
     ensures { IfOk result (λ n. n ≡ count + 1) }
 {
@@ -358,7 +357,7 @@ fn push_speakers(text: &mut String, speakers: &[Speaker]) -> Result<(), AllocErr
     Ok(())
 }
 
-/// Adds a value, or `-` where there is none.
+/// Adds a value, or `-` if there is none.
 fn push_value_or_none(text: &mut String, decided: &Option<Value>) -> Result<(), AllocError>
     ensures { OnOk result (string_bytes text.new ≡ string_bytes text.old ++ text_of_decided decided.now) }
 {

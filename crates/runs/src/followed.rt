@@ -62,7 +62,7 @@ impl Followed {
         let _slots = self.running.remove(&number);
     }
 
-    /// The hosted nodes of a network, ascending, where it is followed.
+    /// The hosted nodes of a network, ascending, if it is followed.
     pub fn names(&self, number: u32) -> Option<&[NodeId]>
         ensures { option_map (λ names. names.now) result ≡ names_at self.now number }
     {

@@ -4,9 +4,9 @@ ghost use Rattle.std.specs.Prelude.{◌≡◌, ◌<◌, ◌^◌, ◌∷◌, [], 
 ghost use Rattle.types.specs.declared.event.Event.TheVariants.{Hear};
 ghost use Rattle.runs.specs.ByJournals.{KeptAreFound, LinesFollowJournals, LinesLeaveNothing, RunsFollowJournals, RunsLeaveNothing};
 ghost use Rattle.runs.specs.Followed.{handed_at, names_at, open_slot, waiting};
-ghost use Rattle.runs.specs.Hosting.{IsApplied, IsBegun, IsFinished, new_hosting};
+ghost use Rattle.runs.specs.Hosting.{IsEventApplied, IsFinished, IsNetworkBegun, new_hosting};
 ghost use Rattle.runs.specs.ServedNetworks.{IsTakenBack};
-ghost use Rattle.runs.specs.Running.{BadLinesTellNothing, Does, IsCarriedOut, RefusesLine, printed_of};
+ghost use Rattle.runs.specs.Running.{BadLinesTellNothing, Does, IsLineCarriedOut, RefusesLine, printed_of};
 ghost use Rattle.runs.specs.Settling.{AreHandedOn, HandedOnIsCounted, HasSettled, HeardWaitsOn, IsHanded, IsHeardBy, others};
 ghost use Rattle.requests.specs.Telling.{HasNoNode, IsBadOrder, is_hearing as hears, may_apply};
 ghost use Rattle.requests.specs.declared.order.Order.TheVariants as order;
@@ -58,8 +58,8 @@ impl HostRun {
         }
     }
 
-    /// The journals of the networks that an event has named and no `drop` has taken back, and after
-    /// [`HostRun::finish`] of all that are declared with nodes.
+    /// The journals of the networks that an event has named after they were declared and no `drop` has taken back, and
+    /// after [`HostRun::finish`] of all that are declared with nodes. They ascend by number.
     pub fn world(&self) -> &World<BoxShelf>
         ensures { result.now ≡ self.now.logs }
     {
@@ -68,7 +68,7 @@ impl HostRun {
 
     /// No line follows: the networks that are declared with nodes, and that no event has named, join the
     /// world, and nothing has happened to them. A network without nodes does not, and is no fault. An error
-    /// says that memory is short.
+    /// says that it is out of memory.
     pub fn finish(&mut self) -> Result<(), AllocError>
         ensures { OnOk result (IsFinished self.old self.new) }
     {
@@ -81,7 +81,7 @@ impl HostRun {
         alloc: Global,
         fields: &[&[u8]],
     ) -> Result<(u32, Outcome), LineError>
-        ensures done { IfOk result (λ r. IsCarriedOut r.0 (map (λ field. field.now) fields.now) self.old r.1 self.new) }
+        ensures done { IfOk result (λ r. IsLineCarriedOut r.0 (map (λ field. field.now) fields.now) self.old r.1 self.new) }
         ensures bad { result ≡ Err LineError.Bad → RefusesLine self.old (map (λ field. field.now) fields.now) }
     {
         let (number, order) = order_of(alloc, fields)?;
@@ -116,7 +116,8 @@ impl HostRun {
         }
     }
 
-    /// An event is put to the network of a number. It is a bad line where lines may not ask for it.
+    /// An event is put to the network of a number. It is a bad line if lines may not ask for it, or if the network is
+    /// declared and has no node.
     fn put(&mut self, alloc: Global, number: u32, event: Event) -> Result<Outcome, LineError>
         ensures done { IfOk result (λ outcome. Does number (order.Request (Apply event)) self.old outcome self.new) }
         ensures bad { result ≡ Err LineError.Bad → IsBadOrder self.old.waiting self.old.named number (order.Request (Apply event)) }
@@ -128,7 +129,8 @@ impl HostRun {
         Ok(Outcome::Answer(self.serve(alloc, number, event)?))
     }
 
-    /// A slot of the network of a number is to settle. It is a bad line where the network is served.
+    /// A slot of the network of a number is to settle. It is a bad line if the network is served, or if it is declared
+    /// and has no node.
     fn settle(&mut self, alloc: Global, number: u32, slot: u64) -> Result<Outcome, LineError>
         ensures done { IfOk result (λ outcome. Does number (order.Request (Settle slot)) self.old outcome self.new) }
         ensures bad { result ≡ Err LineError.Bad → IsBadOrder self.old.waiting self.old.named number (order.Request (Settle slot)) }
@@ -140,8 +142,8 @@ impl HostRun {
         Ok(Outcome::Settled(slot, self.hand_on_waiting(alloc, number, slot)?))
     }
 
-    /// Bytes come to all nodes of the network of a number. It is a bad line where the network is declared and not served,
-    /// and where it has no node.
+    /// Bytes come to all nodes of the network of a number. It is a bad line if the network is declared and not served,
+    /// or has no node.
     fn put_to_all(
         &mut self,
         alloc: Global,
@@ -158,7 +160,8 @@ impl HostRun {
         Ok(Outcome::Answers(self.deliver_to_all(alloc, number, bytes)?))
     }
 
-    /// The network of a number is to be taken back. It is a bad line where it is declared and not served.
+    /// The network of a number is to be taken back. If no line has declared it, that is refused. It is a bad line if it
+    /// is declared and not served.
     fn take_back(&mut self, alloc: Global, number: u32) -> Result<Outcome, LineError>
         ensures done { IfOk result (λ outcome. Does number order.Drop self.old outcome self.new) }
         ensures bad { result ≡ Err LineError.Bad → IsBadOrder self.old.waiting self.old.named number order.Drop }
@@ -173,10 +176,10 @@ impl HostRun {
         Ok(Outcome::Answer(Ok(Vec::new(alloc))))
     }
 
-    /// Readies the network of a number for an event that names it: where it is declared and this is the
-    /// first, it is put into the world. It is a bad line where the network has no node.
+    /// Readies the network of a number for an event that names it: if it is declared and this is the first, it is
+    /// put into the world. It is a bad line if the network has no node.
     fn begin(&mut self, number: u32) -> Result<(), LineError>
-        ensures begun { OnOk result (IsBegun number self.old self.new) }
+        ensures begun { OnOk result (IsNetworkBegun number self.old self.new) }
         ensures bad { result ≡ Err LineError.Bad → HasNoNode self.old.waiting number }
     {
         self.nets.begin(&mut self.world, number)
@@ -184,7 +187,7 @@ impl HostRun {
 
     /// Puts an event to the network of a number, and keeps what settling needs of what it gives out.
     fn apply(&mut self, number: u32, event: Event) -> Result<Result<Vec<Out>, Refusal>, AllocError>
-        ensures { IfOk result (λ answer. IsApplied number event answer self.old self.new) }
+        ensures { IfOk result (λ answer. IsEventApplied number event answer self.old self.new) }
     {
         let turn = turn_of(&event);
         let answer = self.world.apply(number, event);
@@ -230,7 +233,7 @@ impl HostRun {
         self.hand_on_all(number, slot, &names)
     }
 
-    /// The hosted nodes of a network, ascending, where an event has named it after it was declared.
+    /// The hosted nodes of a network, ascending, if an event has named it after it was declared.
     fn names(&self, number: u32) -> Option<&[NodeId]>
         ensures { option_map (λ names. names.now) result ≡ names_at self.now.followed number }
     {
@@ -330,7 +333,7 @@ impl HostRun {
         Ok(None)
     }
 
-    /// Has a node hear an emission, where it is that of another one; answers the refusal.
+    /// Has a node hear an emission, unless it is its own; answers the refusal.
     fn hear(
         &mut self,
         number: u32,
@@ -363,7 +366,7 @@ impl LineRunner for HostRun {
     }
 }
 
-/// A law: no line is both bad and run. So a line is called bad exactly where it is, but for want of memory.
+/// A law: no line is both bad and run. So a line is called bad exactly if it is, but for want of memory.
 pub fn bad_lines_tell_nothing()
     ensures { BadLinesTellNothing }
 {}
@@ -385,16 +388,17 @@ pub fn emission_handed_on_was_heard()
 {}
 
 /// A law: in a served network no emission waits between two lines. So it is before the first line, each line that is
-/// run keeps it, and so it is after the lines of a text, all of which were run. What waits where an event was applied is
-/// what it gave out, then, and that is what the others hear.
+/// run keeps it, and so it is after the lines of a text, all of which were run. So after an event what waits is what it
+/// gave out, and that is what the others hear.
 #[tactic(auto, using(crate::proofs::Waiting::lines_leave_nothing))]
 pub fn served_networks_leave_nothing()
     ensures lines { LinesLeaveNothing }
     ensures runs { RunsLeaveNothing }
 {}
 
-/// A law: each emission that is kept of an open slot is found by its number among what its node has emitted
-/// there, as the one that the entries of the journal emitted. So that is what a node gets that hears it.
+/// A law: each emission that is kept of an open slot is found by its number among what its node has emitted there. It
+/// is the one that the entries of the journal emitted, and so the one that a node gets that hears it. This holds if
+/// what is kept of open slots is what the journals have.
 #[tactic(auto, using(crate::proofs::HeardByNumber::kept_are_found))]
 pub fn kept_emissions_are_found()
     ensures { KeptAreFound }

@@ -15,8 +15,8 @@ use types::Event;
 
 /// What the lines of one script give to a pool of workers: the networks that they declare, the slots that are
 /// opened first, and the jobs, all other events. Networks, nodes and rosters are declared as in a
-/// [`HostRun`](crate::HostRun), with the same faults, and the place of each line decides as there; nothing is
-/// printed, and a line that settles or closes is bad.
+/// [`HostRun`](crate::HostRun), with the same faults, and the place of each line decides as there. Nothing is
+/// printed. A line that settles or closes is bad, and so are a line with `served` or `*`, and `drop`.
 #[derive(Drop)]
 pub struct JobRun {
     run: SubmissionRun,
@@ -47,15 +47,15 @@ impl JobRun {
     }
 
     /// No line follows: the networks that are declared with nodes, and that no event has named, are declared
-    /// in the submission. An error says that memory is short.
+    /// in the submission. An error says that it is out of memory.
     pub fn finish(&mut self) -> Result<(), AllocError>
         ensures { OnOk result (IsCompletePlan self.old self.new) }
     {
         self.run.finish()
     }
 
-    /// The networks with the jobs, and the slots that are opened first with the numbers of their networks, each
-    /// in the order of the lines.
+    /// The networks with the jobs, and the slots that are opened first with the numbers of their networks. Jobs and
+    /// slots stand in the order of their lines, and networks in that in which they joined the submission.
     pub fn into_parts(self) -> (Submission, Vec<(u32, u64)>)
         ensures jobs { result.0 ≡ self.submitted.history }
         ensures opens { result.1.items ≡ self.opens }
@@ -73,7 +73,8 @@ impl JobRun {
         Ok(())
     }
 
-    /// An event of the network of a number is a job. It is a bad line where it closes a slot.
+    /// An event of the network of a number is a job, but for an opening, which comes first. It is a bad line if it
+    /// closes a slot, or if the network is declared and has no node.
     fn put(&mut self, number: u32, event: Event) -> Result<(), LineError>
         ensures planned { OnOk result (IsJobOrOpening number event self.old self.new) }
         ensures bad { result ≡ Err LineError.Bad → IsNoJob self.old.submitted.waiting number event }
@@ -109,8 +110,7 @@ impl LineRunner for JobRun {
     }
 }
 
-/// A law: no line is both bad and planned. So a line is called bad exactly where it is, but for want of
-/// memory.
+/// A law: no line is both bad and planned. So a line is called bad exactly if it is, but for want of memory.
 #[tactic(auto, using(crate::proofs::BadLines::bad_lines_put_nothing))]
 pub fn bad_lines_put_nothing()
     ensures { BadLinesPutNothing }

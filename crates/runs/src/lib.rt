@@ -1,10 +1,11 @@
-//! Scripts of networks: their lines declare networks with their nodes, put events to them, and hand
-//! emissions on.
+//! Scripts of networks: their lines declare networks with their nodes, put events to them, hand emissions on, and take
+//! served networks back.
 //!
-//! A [`HostRun`] runs the lines of one script over the journals of the networks that it declares, each with
-//! an archive of its own, and prints an answer a line. An [`UnprintedRun`] does the same in silence, a
-//! [`SubmissionRun`] takes what lines submit, and a [`JobRun`] makes jobs of them. All four are
-//! [`scripts::LineRunner`]s, to be run by `scripts::run_script` and its kin.
+//! A [`HostRun`] runs the lines of one script over the journals of the networks that it declares, each with an archive
+//! of its own. It prints what each line is answered, and of a declaration nothing. An [`UnprintedRun`] does that in
+//! silence, and ends if an event is refused for want of memory. A [`SubmissionRun`] takes what lines submit, and a
+//! [`JobRun`] makes jobs of them. All four are [`scripts::LineRunner`]s, to be run by `scripts::run_script` and its
+//! kin.
 #![tactic(auto)]
 
 mod emissions;

@@ -1,9 +1,9 @@
 //! The networks of a script, by number: what their lines have declared, and how far they are.
 
 ghost use Rattle.std.specs.Prelude.{◌≡◌, [], Err, IfOk, None, OnOk, false, true};
-ghost use Rattle.requests.specs.Outlines.{IsRevised, fresh, waiting_at, waiting_with, waiting_without, with_node, with_roster};
+ghost use Rattle.requests.specs.Outlines.{IsRevised, bare_outline, waiting_at, waiting_with, waiting_without, with_node, with_roster};
 ghost use Rattle.runs.specs.Followed.{IsUnfollowed, also_followed};
-ghost use Rattle.runs.specs.Joining.{HasJoined, HaveJoined, NetworkIsNamed, IsTaken};
+ghost use Rattle.runs.specs.Joining.{HasJoined, HaveJoined, NetworkIsNamed, IsConfigTaken};
 ghost use Rattle.requests.specs.Naming.{IsForgotten, is_in, named_with, new_named, served_with};
 ghost use Rattle.requests.specs.Preparing.{Prepares};
 ghost use Rattle.requests.specs.Taking.{is_declared, takes};
@@ -11,14 +11,14 @@ ghost use Rattle.requests.specs.declared.request.Declaration.TheVariants.{Net, N
 ghost use Rattle.requests.specs.Telling.{HasNoNode, is_unserved};
 
 use crate::followed::Followed;
-use crate::networks::Networks;
+use crate::networks::JoinsNetworks;
 use configuration::{Budgets, NetConfig, Reservation};
 use requests::{Declaration, Named, Outline, Waiting};
 use scripts::LineError;
 use std::alloc::{AllocError, Global};
 use types::{Nested, NodeId};
 
-/// The most networks of a script (this host's profile).
+/// The most networks that lines may have declared at a time (this host's profile).
 const MAX_NETWORKS: usize = 4096;
 
 /// The networks of a script: those that wait for an event that names them, and those that one has named.
@@ -45,7 +45,7 @@ impl Nets {
         }
     }
 
-    /// A line declares this, of the network of a number. It is a bad line exactly where that is not taken.
+    /// A line declares this, of the network of a number. It is a bad line exactly if that is not taken.
     pub fn prepare(&mut self, number: u32, declaration: Declaration) -> Result<(), LineError>
         ensures prepared { OnOk result (Prepares number declaration self.old.waiting self.new.waiting) }
         ensures taken { OnOk result (takes self.old.waiting self.old.named number declaration ≡ true) }
@@ -60,11 +60,11 @@ impl Nets {
         }
     }
 
-    /// Declares a network with its budgets. It is a bad line where the number is used already, or where
-    /// 4,096 networks are declared.
+    /// Declares a network with its budgets. It is a bad line if one of that number is declared, or if 4,096 networks
+    /// are.
     fn declare(&mut self, number: u32, budgets: Budgets) -> Result<(), LineError>
         ensures absent { OnOk result (waiting_at self.old.waiting number ≡ None) }
-        ensures declared { OnOk result (self.new.waiting ≡ waiting_with self.old.waiting number (fresh budgets)) }
+        ensures declared { OnOk result (self.new.waiting ≡ waiting_with self.old.waiting number (bare_outline budgets)) }
         ensures taken { OnOk result (takes self.old.waiting self.old.named number (Net budgets) ≡ true) }
         ensures bad { result ≡ Err LineError.Bad → takes self.old.waiting self.old.named number (Net budgets) ≡ false }
         ensures named { self.new.named ≡ self.old.named }
@@ -78,8 +78,8 @@ impl Nets {
         self.waiting.declare(number, budgets)
     }
 
-    /// Declares a network with its budgets as served. It is a bad line where the number is used already, or where
-    /// 4,096 networks are declared.
+    /// Declares a network with its budgets as served. It is a bad line if one of that number is declared, or if 4,096
+    /// networks are.
     pub fn serve(&mut self, number: u32, budgets: Budgets) -> Result<(), LineError>
         ensures prepared { OnOk result (Prepares number (Net budgets) self.old.waiting self.new.waiting) }
         ensures taken { OnOk result (takes self.old.waiting self.old.named number (Net budgets) ≡ true) }
@@ -124,8 +124,8 @@ impl Nets {
         self.followed.forget(number);
     }
 
-    /// Adds a node to a network. It is a bad line where the network is not declared or has been named by an
-    /// event, and where the configuration refuses the node.
+    /// Adds a node to a network. It is a bad line if the network is not declared, or has a node of that name or 256
+    /// nodes. So it is if an event has named the number, be it before the network was declared.
     fn host(&mut self, number: u32, name: NodeId, slices: Nested) -> Result<(), LineError>
         ensures hosted { OnOk result (IsRevised number (λ d. with_node d name slices) self.old.waiting self.new.waiting) }
         ensures taken { OnOk result (takes self.old.waiting self.old.named number (Node name slices) ≡ true) }
@@ -139,8 +139,9 @@ impl Nets {
         self.waiting.host(number, name, slices)
     }
 
-    /// Gives a network its roster. It is a bad line where the network is not declared or has been named by an
-    /// event, and where the configuration refuses the roster.
+    /// Gives a network its roster. It is a bad line if the network is not declared or has a roster, or if the
+    /// configuration refuses this one. So it is if an event has named the number, be it before the network was
+    /// declared.
     fn reserve(&mut self, number: u32, roster: Reservation) -> Result<(), LineError>
         ensures reserved { OnOk result
             (IsRevised number (λ d. with_roster d roster.names.items roster.shares) self.old.waiting self.new.waiting) }
@@ -155,9 +156,13 @@ impl Nets {
         self.waiting.reserve(number, roster)
     }
 
-    /// An event names a network. Where it is the first and the network is declared, the network is complete
-    /// and joins. It is a bad line where the network has no node.
-    pub fn begin<N: Networks>(&mut self, networks: &mut N, number: u32) -> Result<(), LineError>
+    /// An event names a network. If it is the first and the network is declared, the network is complete and
+    /// joins. It is a bad line if the network has no node.
+    pub fn begin<N: JoinsNetworks>(
+        &mut self,
+        networks: &mut N,
+        number: u32,
+    ) -> Result<(), LineError>
         ensures named { OnOk result (NetworkIsNamed (also_followed N.joins) number self.old.waiting self.new.waiting (networks.old, self.old.followed) (networks.new, self.new.followed)
             × (self.new.named ≡ named_with number (waiting_at self.old.waiting number) self.old.named)) }
         ensures bad { result ≡ Err LineError.Bad → HasNoNode self.old.waiting number }
@@ -171,8 +176,8 @@ impl Nets {
     }
 
     /// No line follows: the networks that are declared with nodes, and that no event has named, join in the
-    /// order of their numbers. An error says that memory is short.
-    pub fn finish<N: Networks>(&mut self, networks: &mut N) -> Result<(), AllocError>
+    /// order of their numbers. An error says that it is out of memory.
+    pub fn finish<N: JoinsNetworks>(&mut self, networks: &mut N) -> Result<(), AllocError>
         ensures { OnOk result (HaveJoined N.joins self.old.waiting networks.old networks.new) }
     {
         let Some((number, outline)) = self.waiting.take_first() else {
@@ -182,10 +187,10 @@ impl Nets {
         self.finish(networks)
     }
 
-    /// An event names a network. The configuration is answered where the network waited.
+    /// An event names a network. Its configuration is answered if the network waited.
     fn name(&mut self, number: u32) -> Result<Option<NetConfig>, LineError>
         ensures taken { IfOk result (λ named.
-            IsTaken number (waiting_at self.old.waiting number) named self.old.waiting self.new.waiting) }
+            IsConfigTaken number (waiting_at self.old.waiting number) named self.old.waiting self.new.waiting) }
         ensures followed { self.new.followed ≡ self.old.followed }
         ensures named { OnOk result (self.new.named ≡ named_with number (waiting_at self.old.waiting number) self.old.named) }
         ensures bad { result ≡ Err LineError.Bad → HasNoNode self.old.waiting number }
@@ -206,8 +211,8 @@ impl Nets {
     }
 }
 
-/// What lines have declared of the network of a number joins, where it has nodes.
-fn join_complete<N: Networks>(
+/// What lines have declared of the network of a number joins, if it has nodes.
+fn join_complete<N: JoinsNetworks>(
     alloc: Global,
     networks: &mut N,
     number: u32,

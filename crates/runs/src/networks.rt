@@ -10,22 +10,23 @@ use world::{MAX_NETWORKS, World};
 
 /// What the networks of a script join when an event names them, or after the last line. `joins` says what it
 /// is with one network more.
-pub(crate) trait Networks {
+pub(crate) trait JoinsNetworks {
     ghost use Rattle.runs.specs.Joining.{Joins};
 
     ghost joins: { Joins Self };
 
-    /// A network joins, and nothing has happened to it. An error says that memory is short.
+    /// A network joins, and nothing has happened to it. An error says that it is out of memory.
     fn join(&mut self, alloc: Global, config: NetConfig) -> Result<(), AllocError>
         ensures { OnOk result (self.new ≡ joins config self.old) };
 }
 
-impl Networks for World<BoxShelf> {
+impl JoinsNetworks for World<BoxShelf> {
     ghost use Rattle.runs.specs.Hosting.{logs_joined};
 
     ghost joins = { logs_joined };
 
-    /// Lines declare no number twice, and at most as many networks as there is room for.
+    /// A network whose number is there, or for which there is no room, is left out. No line brings one: lines declare
+    /// no number that is declared, and at most 4,096 networks at a time.
     fn join(&mut self, alloc: Global, config: NetConfig) -> Result<(), AllocError> {
         if self.journal(config.number()).is_some() || self.journals().len() >= MAX_NETWORKS {
             return Ok(());
@@ -38,7 +39,7 @@ impl Networks for World<BoxShelf> {
     }
 }
 
-impl Networks for Submission {
+impl JoinsNetworks for Submission {
     ghost use Rattle.runs.specs.Submitting.{declared_once};
 
     ghost joins = { declared_once };

@@ -45,7 +45,7 @@ pub(crate) fn but_for_memory(refusal: Option<Refusal>) -> Result<(), AllocError>
     }
 }
 
-/// Lets all answers pass but that memory is short, which is an error.
+/// Lets all answers pass but a refusal for want of memory, which is an error.
 fn had_memory(answers: &[Result<Vec<Out>, Refusal>]) -> Result<(), AllocError>
     ensures { OnOk result (All (λ r. r ≢ Err NoMemory) answers.now) }
 {

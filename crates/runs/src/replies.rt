@@ -4,7 +4,7 @@ ghost use Rattle.std.specs.Prelude.{◌≡◌, ◌++◌, IfOk, OnOk, string_byte
 ghost use Rattle.std.specs.List.{flat_map};
 ghost use Rattle.world.specs.Worlds.{items_of};
 ghost use Rattle.requests.specs.Replies.{IsReply};
-ghost use Rattle.runs.specs.ReplyLines.{answer_of, line_behind, lines_of};
+ghost use Rattle.runs.specs.ReplyLines.{answer_of, line_behind, reply_lines};
 
 use crowds::Reply;
 use requests::{line_of_outs, line_of_refusal};
@@ -12,7 +12,7 @@ use std::alloc::{AllocError, Global};
 use types::{Out, Refusal};
 
 /// The line of an answer: `ok` followed by what the event gives out, or `refused` with the number and the
-/// name of the refusal.
+/// name of the refusal. Behind these stands the number of the fault if bytes are no envelope.
 pub(crate) fn reply(alloc: Global, answer: &Result<Vec<Out>, Refusal>) -> Result<String, AllocError>
     ensures { IfOk result (λ text. IsReply (items_of answer.now) (string_bytes text)) }
 {
@@ -27,7 +27,7 @@ pub(crate) fn replies(
     alloc: Global,
     answers: &[Result<Vec<Out>, Refusal>],
 ) -> Result<String, AllocError>
-    ensures { IfOk result (λ text. string_bytes text ≡ lines_of answers.now) }
+    ensures { IfOk result (λ text. string_bytes text ≡ reply_lines answers.now) }
 {
     let [first, others @ ..] = answers else {
         return Ok(String::new(alloc));

@@ -2,7 +2,7 @@
 
 ghost use Rattle.std.specs.Prelude.{◌≡◌, Err, OnOk, false, true};
 ghost use Rattle.requests.specs.Preparing.{Prepares};
-ghost use Rattle.runs.specs.Submitting.{BadLinesSubmitNothing, IsComplete, IsDeclared, IsSubmitted, new_submitting};
+ghost use Rattle.runs.specs.Submitting.{BadLinesSubmitNothing, IsComplete, IsNetworkDeclared, IsSubmitted, new_submitting};
 ghost use Rattle.requests.specs.Taking.{takes};
 ghost use Rattle.requests.specs.Telling.{HasNoNode};
 
@@ -15,7 +15,8 @@ use std::marker::Model;
 use types::Event;
 
 /// What the lines of one script submit to its networks. Networks, nodes and rosters are declared as in a
-/// [`HostRun`](crate::HostRun), with the same faults; nothing is printed, and a line that settles is bad.
+/// [`HostRun`](crate::HostRun), with the same faults. Nothing is printed. A line that settles is bad, and so are a line
+/// with `served` or `*`, and `drop`.
 #[derive(Drop)]
 pub struct SubmissionRun {
     nets: Nets,
@@ -54,7 +55,7 @@ impl SubmissionRun {
     }
 
     /// No line follows: the networks that are declared with nodes, and that no event has named, are declared
-    /// in the submission. A network without nodes is not, and is no fault. An error says that memory is short.
+    /// in the submission. A network without nodes is not, and is no fault. An error says that it is out of memory.
     pub fn finish(&mut self) -> Result<(), AllocError>
         ensures { OnOk result (IsComplete self.old self.new) }
     {
@@ -68,7 +69,7 @@ impl SubmissionRun {
         self.submission
     }
 
-    /// A line declares this, of the network of a number. It is a bad line exactly where that is not taken.
+    /// A line declares this, of the network of a number. It is a bad line exactly if that is not taken.
     pub(crate) fn prepare(&mut self, number: u32, declaration: Declaration) -> Result<(), LineError>
         ensures prepared { OnOk result (Prepares number declaration self.old.waiting self.new.waiting) }
         ensures taken { OnOk result (takes self.old.waiting self.old.named number declaration ≡ true) }
@@ -79,16 +80,16 @@ impl SubmissionRun {
         self.nets.prepare(number, declaration)
     }
 
-    /// Readies the network of a number for an event that names it: where it is declared and this is the
-    /// first, it is declared in the submission. It is a bad line where the network has no node.
+    /// Readies the network of a number for an event that names it: if it is declared and this is the first, it is
+    /// declared in the submission. It is a bad line if the network has no node.
     pub(crate) fn begin(&mut self, number: u32) -> Result<(), LineError>
-        ensures begun { OnOk result (IsDeclared number self.old self.new) }
+        ensures begun { OnOk result (IsNetworkDeclared number self.old self.new) }
         ensures bad { result ≡ Err LineError.Bad → HasNoNode self.old.waiting number }
     {
         self.nets.begin(&mut self.submission, number)
     }
 
-    /// An event is submitted to the network of a number. It is a bad line where the network has no node.
+    /// An event is submitted to the network of a number. It is a bad line if the network has no node.
     pub(crate) fn submit(&mut self, number: u32, event: Event) -> Result<(), LineError>
         ensures told { OnOk result (IsSubmitted number event self.old self.new) }
         ensures bad { result ≡ Err LineError.Bad → HasNoNode self.old.waiting number }
@@ -122,8 +123,7 @@ impl LineRunner for SubmissionRun {
     }
 }
 
-/// A law: no line is both bad and submitted. So a line is called bad exactly where it is, but for want of
-/// memory.
+/// A law: no line is both bad and submitted. So a line is called bad exactly if it is, but for want of memory.
 #[tactic(auto, using(crate::proofs::BadLines::bad_lines_submit_nothing))]
 pub fn bad_lines_submit_nothing()
     ensures { BadLinesSubmitNothing }

@@ -31,7 +31,7 @@ impl Trace {
         }
     }
 
-    /// A line has been run, after which the network that it names has so many entries.
+    /// A line has been run that names this network, which has this many entries after it.
     pub fn note(&mut self, net: u32, entries: usize) -> Result<(), AllocError>
         ensures { OnOk result (self.new ≡ self.old ++ (net, entries) ∷ []) }
     {
@@ -54,7 +54,7 @@ impl Trace {
     }
 }
 
-/// The line from which an entry of a network comes, where it was found among the lines so far, with one line more.
+/// The line from which an entry of a network comes, with one line more than those among which `found` was looked for.
 fn origin_with(
     found: Option<usize>,
     number: usize,

@@ -14,8 +14,8 @@ use std::alloc::{AllocError, Global};
 use std::marker::Model;
 use world::World;
 
-/// The networks of one script, whose lines are run as a [`HostRun`] runs them and print nothing. Where one of
-/// their events is refused for want of memory, that is no answer of a line: memory is short, and the run ends.
+/// The networks of one script, whose lines are run as a [`HostRun`] runs them and print nothing. If one of their
+/// events is refused for want of memory, that is no answer of a line: the run ends, out of memory.
 #[derive(Drop)]
 pub struct UnprintedRun {
     run: HostRun,
@@ -45,7 +45,7 @@ impl UnprintedRun {
         }
     }
 
-    /// The same, which keeps from which line each entry comes.
+    /// The state before the first line, which keeps from which line each entry comes. It takes no memory.
     pub fn with_origins(alloc: Global) -> UnprintedRun
         ensures { result ≡ record { hosting = new_hosting; trace = Some [] } }
     {
@@ -57,23 +57,23 @@ impl UnprintedRun {
 
     /// No line follows: the networks that are declared with nodes, and that no event has named, join the
     /// world, and nothing has happened to them. A network without nodes does not, and is no fault. An error
-    /// says that memory is short.
+    /// says that it is out of memory.
     pub fn finish(&mut self) -> Result<(), AllocError>
         ensures { OnOk result (IsFinishedUnprinted self.old self.new) }
     {
         self.run.finish()
     }
 
-    /// The journals of the networks that an event has named, and after [`UnprintedRun::finish`] of all that are
-    /// declared with nodes.
+    /// The journals of the networks that an event has named after they were declared and no `drop` has taken back, and
+    /// after [`UnprintedRun::finish`] of all that are declared with nodes. They ascend by number.
     pub fn world(&self) -> &World<BoxShelf>
         ensures { result.now ≡ self.now.hosting.logs }
     {
         self.run.world()
     }
 
-    /// From which line an entry of a network comes, counted from 0 over the lines that were run; neither
-    /// empty lines nor comments are. `None` where there is no such entry, and where origins are not kept.
+    /// From which line an entry of a network comes, counted from 0 over the lines that were run. Empty lines and
+    /// comments are not run. `None` if there is no such entry, or if origins are not kept.
     pub fn origin(&self, net: u32, entry: usize) -> Option<usize>
         ensures { result ≡ origin_in self.now.trace net entry }
     {

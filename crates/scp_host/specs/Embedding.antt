@@ -2,7 +2,7 @@
 use Rattle.std.specs.Prelude.{◌≡◌, ◌+◌, ◌^◌, ◌++◌, ℕ, Bool, true, false, [], length, drop, nat_le, Option, Some, None, if◌then◌else◌}
 use Rattle.scripts.specs.Script.{Bytes}
 use Rattle.feed.specs.WholeLines.{given}
-use Rattle.feed.specs.Served.{Reply, is_kept}
+use Rattle.feed.specs.Served.{LineReply, is_kept}
 use Rattle.feed.specs.declared.reading.TheConstants.{LONGEST_LINE}
 use Rattle.serving.specs.Hosts.{Live, Serves, new_live}
 use Rattle.scp_host.specs.declared.status.Status.{Status}
@@ -28,25 +28,25 @@ code_of NoNumber = 4
 
 -- the host answered its next line as a live host answers the line with that number, and has its block; and whether a
 -- journal keeps the line
-abbrev pub IsAnswered : Bool → Bytes → Host → Host → Type 0
-IsAnswered kept line old new =
-    (a : Reply) × Serves old.live new.count (given LONGEST_LINE line) a new.live
+abbrev pub IsNextLineAnswered : Bool → Bytes → Host → Host → Type 0
+IsNextLineAnswered kept line old new =
+    (a : LineReply) × Serves old.live new.count (given LONGEST_LINE line) a new.live
     × (new.count ≡ old.count + 1) × (new.block ≡ a.text) × (kept ≡ is_kept a)
 
 -- what a host makes of a line. If it is out of memory, what is left of the host is not said.
-abbrev pub HasAnswered : Status → Bytes → Host → Host → Type 0
-HasAnswered Done line old new = IsAnswered false line old new
-HasAnswered Kept line old new = IsAnswered true line old new
-HasAnswered NoMemory line old new = Unit {0}
-HasAnswered NoHost line old new = ⊥
-HasAnswered NoNumber line old new = (old.count + 1 ≡ 2 ^ 64) × (new ≡ old)
+abbrev pub HostHasAnswered : Status → Bytes → Host → Host → Type 0
+HostHasAnswered Done line old new = IsNextLineAnswered false line old new
+HostHasAnswered Kept line old new = IsNextLineAnswered true line old new
+HostHasAnswered NoMemory line old new = Unit {0}
+HostHasAnswered NoHost line old new = ⊥
+HostHasAnswered NoNumber line old new = (old.count + 1 ≡ 2 ^ 64) × (new ≡ old)
 
 -- a line is handed to what a handle holds. A host that was out of memory is held no more.
 abbrev pub HasLine : Status → Bytes → Option Host → Option Host → Type 0
 HasLine status line None new = (status ≡ NoHost) × (new ≡ None)
 HasLine NoMemory line (Some old) new = new ≡ None
 HasLine status line (Some old) None = ⊥
-HasLine status line (Some old) (Some new) = HasAnswered status line old new
+HasLine status line (Some old) (Some new) = HostHasAnswered status line old new
 
 -- a handle holds a new host, unless it is out of memory: then it holds what it held
 abbrev pub HasMade : Status → Bool → Option Host → Option Host → Type 0
@@ -55,9 +55,9 @@ HasMade NoMemory bytes old new = new ≡ old
 HasMade _ bytes old new = ⊥
 
 -- the block of the last line that the host was given
-abbrev pub block_of : Option Host → Bytes
-block_of None = []
-block_of (Some host) = host.block
+abbrev pub last_block : Option Host → Bytes
+last_block None = []
+last_block (Some host) = host.block
 
 -- room with a block at its front, if it fits
 abbrev pub filled : Bytes → Bytes → Bytes

@@ -3,7 +3,7 @@
 ghost use Rattle.std.specs.Prelude.{◌≡◌, length, option_map, string_bytes};
 ghost use Rattle.feed.specs.Served.{is_kept, reply_of};
 ghost use Rattle.feed.specs.WholeLines.{given};
-ghost use Rattle.scp_host.specs.Embedding.{HasAnswered, filled, just_made};
+ghost use Rattle.scp_host.specs.Embedding.{HostHasAnswered, filled, just_made};
 
 use crate::status::Status;
 use feed::{Answer, LONGEST_LINE, LineServer};
@@ -46,7 +46,7 @@ impl Embedded {
 
     /// Answers the next line. If it is out of memory the host is no longer what it was, and nobody may use it.
     pub(crate) fn line(&mut self, alloc: Global, line: &[u8]) -> Status
-        ensures { HasAnswered result line.now self.old self.new }
+        ensures { HostHasAnswered result line.now self.old self.new }
     {
         let Some(number) = self.count.checked_add(1) else {
             return Status::NoNumber;

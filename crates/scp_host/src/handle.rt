@@ -2,7 +2,7 @@
 
 ghost use Rattle.std.specs.Prelude.{◌≡◌, None, Option, Some, length, option_map};
 ghost use Rattle.scp_host.specs.declared.embedded.Embedded.{Embedded};
-ghost use Rattle.scp_host.specs.Embedding.{HasLine, HasMade, block_of, filled};
+ghost use Rattle.scp_host.specs.Embedding.{HasLine, HasMade, filled, last_block};
 ghost use Rattle.scp_host.specs.Owned.{handle_owns, kept_coded};
 
 use crate::embedded::Embedded;
@@ -67,8 +67,8 @@ impl ScpHost {
 
     /// How long the block of the last line is, and that block, if it fits.
     pub(crate) fn block(&mut self, alloc: Global, room: &mut [u8]) -> usize
-        ensures length { result ≡ length (block_of self.old.kept) }
-        ensures room { room.new ≡ filled (block_of self.old.kept) room.old }
+        ensures length { result ≡ length (last_block self.old.kept) }
+        ensures room { room.new ≡ filled (last_block self.old.kept) room.old }
         ensures host { self.new.kept ≡ self.old.kept }
     {
         let Some(kept) = self.take(alloc) else {

@@ -14,7 +14,7 @@ mod parts;
 mod status;
 
 ghost use Rattle.std.specs.Prelude.{◌≡◌, None, length};
-ghost use Rattle.scp_host.specs.Embedding.{HasLine, HasMade, block_of, code_of, filled};
+ghost use Rattle.scp_host.specs.Embedding.{HasLine, HasMade, code_of, filled, last_block};
 ghost use Rattle.scp_host.specs.declared.status.Status.{Status};
 
 pub use handle::ScpHost;
@@ -45,8 +45,8 @@ pub extern "C" fn scp_host_line(alloc: Global, host: &mut ScpHost, line: &[u8]) 
 /// fits, and else nothing is.
 #[unsafe(no_mangle)]
 pub extern "C" fn scp_host_block(alloc: Global, host: &mut ScpHost, room: &mut [u8]) -> usize
-    ensures length { result ≡ length (block_of host.old.kept) }
-    ensures room { room.new ≡ filled (block_of host.old.kept) room.old }
+    ensures length { result ≡ length (last_block host.old.kept) }
+    ensures room { room.new ≡ filled (last_block host.old.kept) room.old }
     ensures host { host.new.kept ≡ host.old.kept }
 {
     host.block(alloc, room)

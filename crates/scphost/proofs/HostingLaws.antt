@@ -19,7 +19,7 @@ use Rattle.journal.specs.Resuming.{HasResumed}
 use Rattle.journal.specs.declared.fault.JournalFault.{JournalFault}
 use Rattle.journal.specs.declared.fault.JournalFault.TheVariants as journal
 use Rattle.serving.specs.Hosts.{Live, Remembers, Serves, new_live}
-use Rattle.serving.specs.Keeping.{empty_lines_are_skipped, kept_lines_are_whole, only_kept_lines_count}
+use Rattle.serving.specs.Keeping.{live_empty_lines_are_skipped, live_kept_lines_are_whole, live_only_kept_lines_count}
 use Rattle.command_line.specs.declared.replay.ReplayFrom.{ReplayFrom}
 use Rattle.command_line.specs.declared.replay.ReplayFrom.TheVariants.{Line, Open}
 use Rattle.scphost.specs.Hosting.{HasGoneOn, HasMadeShorter, HasServed, IsFrom, IsNotGoneOn}
@@ -70,7 +70,7 @@ not_begun bytes from input old end is = (
       acts = [];
       hosts = begins;
       did = (tt, Appends-nil old);
-      safe = survives Serves LONGEST_LINE only_kept_lines_count empty_lines_are_skipped kept_lines_are_whole (new_live bytes) 1 [] [] [] [] (new_live bytes) begins;
+      safe = survives Serves LONGEST_LINE live_only_kept_lines_count live_empty_lines_are_skipped live_kept_lines_are_whole (new_live bytes) 1 [] [] [] [] (new_live bytes) begins;
     },
     (refl, refl),
   ),

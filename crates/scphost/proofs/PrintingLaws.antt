@@ -5,7 +5,7 @@ use Rattle.protocol.specs.Hosts.{History}
 use Rattle.runs.specs.Submitting.{Submitting}
 use Rattle.answers.specs.Comparisons.{IsComparison}
 use Rattle.answers.specs.Crowding.{TellsCrowd}
-use Rattle.scphost.specs.Printing.{HasAnswered, IsCompared, IsCrowd, IsPerformed, IsPooled, IsPrinted, IsReported}
+use Rattle.scphost.specs.Printing.{HasAnswered, IsCompared, IsCrowdAnswer, IsPerformed, IsPooled, IsPrinted, IsReported}
 use Rattle.scphost.specs.Reporting.{IsReport}
 use Rattle.answers.specs.Scripts.{IsSubmittedBy, IsStoryOf, StopsPlan, StopsStories, StopsStory, StopsSubmissions, Story}
 use Rattle.scphost.specs.Stops.{End}
@@ -32,7 +32,7 @@ has-compared explain subject one other old new end first second a told also righ
 pub has-crowded : (subject : Subject) (one other old new : Option Bytes) (end : End) (first second : Submitting)
     (h k : History) (a : Answer) → IsSubmittedBy one first → IsSubmittedBy other second → h ≡ first.history
     → k ≡ second.history → TellsCrowd h k subject a → IsPrinted a old new end
-    → HasAnswered (IsCrowd subject one other) (StopsSubmissions one other) old new end
+    → HasAnswered (IsCrowdAnswer subject one other) (StopsSubmissions one other) old new end
 has-crowded subject one other old new end first second h k a told also e f right printed =
     let right' = subst (λ x. TellsCrowd first.history x subject a) f (subst (λ x. TellsCrowd x k subject a) e right) in
     inl (a, (first, second, told, also, right'), printed)

@@ -7,8 +7,8 @@ use Rattle.std.proofs.Common.{◌∙◌, refl, sym, ap, subst, arith, drop_at, l
 use Rattle.std.proofs.lemmas.List.{length-map, length-take, take-map}
 use Rattle.std.proofs.lemmas.List.Elements.{All-cons, All-head, All-nil, All-tail}
 use Rattle.scripts.specs.Script.{Bytes}
-use Rattle.feed.specs.Reading.{Held, given_of}
-use Rattle.feed.specs.Served.{AreAnswered, Reply, reply_of}
+use Rattle.feed.specs.Reading.{HeldLine, given_of}
+use Rattle.feed.specs.Served.{AreAnswered, LineReply, reply_of}
 use Rattle.feed.specs.declared.answering.Answer.{Answer}
 use Rattle.feed.proofs.TogetherLaws.{few_answers}
 use Rattle.serving.specs.Blocks.{TellsOfNoWant, want_of_memory}
@@ -39,27 +39,27 @@ none_found true text cases is = absurd (true≢false is)
 none_found false text cases is = not-there text cases
 
 -- ---- answers up to the first that says so
-pub remembered_first : (s t : Live) (n k : ℕ) (lines : List (Option Bytes)) (answers : List Reply) → AreAnswered Serves s n lines answers t → AllTellOfNoWant (take k answers)
+pub remembered_first : (s t : Live) (n k : ℕ) (lines : List (Option Bytes)) (answers : List LineReply) → AreAnswered Serves s n lines answers t → AllTellOfNoWant (take k answers)
     → (u : Live) × AreAnswered Remembers s n lines (take k answers) u × (length answers ≤ k → u ≡ t)
 remembered_first s t n zero lines [] are tell = (s, refl, λ few. sym are)
 remembered_first s t n (suc k) lines [] are tell = (s, refl, λ few. sym are)
 remembered_first s t n zero lines (a ∷ answers) are tell = (s, refl, λ few. absurd (omega (arith, few)))
 remembered_first s t n (suc k) [] (a ∷ answers) are tell = absurd are
 remembered_first s t n (suc k) (line ∷ lines) (a ∷ answers) are tell =
-    let rest = remembered_first are.0 t (n + 1) k lines answers are.2 (All-tail (λ (b : Reply). TellsOfNoWant b.text) a (take k answers) tell) in
-    (rest.0, (are.0, (are.1, All-head (λ (b : Reply). TellsOfNoWant b.text) a (take k answers) tell), rest.1), λ few. rest.2 (omega (arith, few)))
+    let rest = remembered_first are.0 t (n + 1) k lines answers are.2 (All-tail (λ (b : LineReply). TellsOfNoWant b.text) a (take k answers) tell) in
+    (rest.0, (are.0, (are.1, All-head (λ (b : LineReply). TellsOfNoWant b.text) a (take k answers) tell), rest.1), λ few. rest.2 (omega (arith, few)))
 
 -- one more of them says nothing of it
-pub told_more : (k : ℕ) (answers : List Reply) (d : Reply) → AllTellOfNoWant (take k answers) → k < length answers → TellsOfNoWant (get_or answers k d).text → AllTellOfNoWant (take (k + 1) answers)
+pub told_more : (k : ℕ) (answers : List LineReply) (d : LineReply) → AllTellOfNoWant (take k answers) → k < length answers → TellsOfNoWant (get_or answers k d).text → AllTellOfNoWant (take (k + 1) answers)
 told_more k [] d tell l one = absurd (omega (arith, l))
-told_more zero (a ∷ answers) d tell l one = All-cons (λ (b : Reply). TellsOfNoWant b.text) a [] one (All-nil (λ (b : Reply). TellsOfNoWant b.text))
+told_more zero (a ∷ answers) d tell l one = All-cons (λ (b : LineReply). TellsOfNoWant b.text) a [] one (All-nil (λ (b : LineReply). TellsOfNoWant b.text))
 told_more (suc k) (a ∷ answers) d tell l one =
     let same : suc (k + 1) ≡ suc k + 1 = omega arith in
     subst (λ (m : ℕ). AllTellOfNoWant (take m (a ∷ answers))) same
-    (All-cons (λ (b : Reply). TellsOfNoWant b.text) a (take (k + 1) answers) (All-head (λ (b : Reply). TellsOfNoWant b.text) a (take k answers) tell)
-    (told_more k answers d (All-tail (λ (b : Reply). TellsOfNoWant b.text) a (take k answers) tell) (omega (arith, l)) one))
+    (All-cons (λ (b : LineReply). TellsOfNoWant b.text) a (take (k + 1) answers) (All-head (λ (b : LineReply). TellsOfNoWant b.text) a (take k answers) tell)
+    (told_more k answers d (All-tail (λ (b : LineReply). TellsOfNoWant b.text) a (take k answers) tell) (omega (arith, l)) one))
 
-pub remembered_batch : (s new : Live) (n k : ℕ) (lines : List Held) (answers left : List (Option Answer)) → left ≡ take k answers
+pub remembered_batch : (s new : Live) (n k : ℕ) (lines : List HeldLine) (answers left : List (Option Answer)) → left ≡ take k answers
     → (t : Live) × AreAnswered Serves s n (map given_of lines) (map reply_of answers) t × (length answers ≡ length lines → t ≡ new) → AllTellOfNoWant (take k (map reply_of answers))
     → (u : Live) × AreAnswered Remembers s n (map given_of lines) (map reply_of left) u × (length left ≡ length lines → u ≡ new)
 remembered_batch s new n k lines answers left is (t, are, last) tell =

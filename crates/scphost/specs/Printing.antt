@@ -17,7 +17,7 @@ use Rattle.answers.specs.Crowding.{TellsCrowd}
 use Rattle.scphost.specs.Hosting.{HasMadeShorter, HasServed}
 use Rattle.scphost.specs.Reporting.{IsReport}
 use Rattle.scphost.specs.Translating.{IsDecoding, IsEncoding, StopsDecoding, StopsEncoding}
-use Rattle.answers.specs.Scripts.{IsPlannedBy, IsSubmittedBy, IsStoryOf, Story, longest_script}
+use Rattle.answers.specs.Scripts.{IsPlannedBy, IsStoryOf, IsSubmittedBy, Story, longest_script}
 use Rattle.answers.specs.Scripts.{StopsPlan, StopsStories, StopsStory, StopsSubmissions}
 use Rattle.scphost.specs.Stops.{End, IsEndOf}
 use Rattle.answers.specs.declared.answer.Answer.{Answer}
@@ -54,8 +54,8 @@ IsCompared explain subject one other a = (first second : Story) × IsStoryOf exp
     × IsComparison first.run.hosting.logs second.run.hosting.logs subject.net subject.slot subject.node explain a
 
 -- the answer compares what two scripts submit, in this order
-abbrev pub IsCrowd : Subject → Option Bytes → Option Bytes → Answer → Type 0
-IsCrowd subject one other a = (first second : Submitting) × IsSubmittedBy one first × IsSubmittedBy other second
+abbrev pub IsCrowdAnswer : Subject → Option Bytes → Option Bytes → Answer → Type 0
+IsCrowdAnswer subject one other a = (first second : Submitting) × IsSubmittedBy one first × IsSubmittedBy other second
     × TellsCrowd first.history second.history subject a
 
 -- the answer tells what became of the networks of a script whose events were jobs of so many workers
@@ -88,14 +88,14 @@ IsRunOn (Some workers) script old new end = HasAnswered (IsPooled workers script
 -- envelope has none, and `serve` is not performed so
 abbrev pub IsPerformed : Call → Option Bytes → Option Bytes → Option Bytes → Option Bytes → End → Type 0
 IsPerformed (Table asked) first second old new end =
-    HasRunLines TableLines.Tells TableLines.Refuses None first old new end
+    HasRunLines TableLines.TellsListener TableLines.RefusesTableLine None first old new end
 IsPerformed (Run asked) first second old new end = IsRunOn asked.workers first old new end
 IsPerformed (Closure asked) first second old new end =
     HasAnswered (IsReported asked.format asked.subject first) (StopsStory false first) old new end
 IsPerformed (Compare asked) first second old new end =
     HasAnswered (IsCompared asked.explain asked.subject first second) (StopsStories asked.explain first second) old new end
 IsPerformed (Crowd asked) first second old new end =
-    HasAnswered (IsCrowd asked.subject first second) (StopsSubmissions first second) old new end
+    HasAnswered (IsCrowdAnswer asked.subject first second) (StopsSubmissions first second) old new end
 IsPerformed (Serve asked) first second old new end = ⊥
 IsPerformed (Compact file) first second old new end = HasMadeShorter first old new end
 IsPerformed (Encode asked) first second old new end = HasAnswered (IsEncoding asked) (StopsEncoding asked) old new end
@@ -117,7 +117,7 @@ IsRunAsItComes (Some workers) input old new end = IsRunOn (Some workers) input o
 -- what a call does with the standard input: it runs or serves its lines as they come, or is performed on all of it
 abbrev pub IsPerformedAsItComes : Call → Option Bytes → Option Bytes → Option Bytes → End → Type 0
 IsPerformedAsItComes (Table asked) input old new end =
-    HasRunAsTheyCome TableLines.Tells TableLines.Refuses None input old new end
+    HasRunAsTheyCome TableLines.TellsListener TableLines.RefusesTableLine None input old new end
 IsPerformedAsItComes (Run asked) input old new end = IsRunAsItComes asked.workers input old new end
 IsPerformedAsItComes (Serve asked) input old new end =
     HasServed asked.bytes asked.journal asked.from input old new end

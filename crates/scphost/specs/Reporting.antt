@@ -1,7 +1,7 @@
 -- What a report of a closure prints.
 use Rattle.std.specs.Prelude.{◌≡◌, ℕ, false, List, Option, string_bytes}
 use Rattle.protocol.specs.Sets.{among}
-use Rattle.closure.specs.Announcing.{IsClosureList, names_of, slices_then}
+use Rattle.closure.specs.Announcing.{IsClosureList, member_names, slices_then}
 use Rattle.hoststep.specs.Logs.{Log}
 use Rattle.world.specs.Worlds.{log_at}
 use Rattle.twoworlds.specs.Meanings.{entries_in, nodes_in}
@@ -16,7 +16,7 @@ use Rattle.types.specs.declared.subject.Subject.{Subject}
 -- node alone
 pub record IsReportOf (log : Option Log) (slot node : ℕ) (r : Shown) : Type 0 where
   pub members : IsClosureList (nodes_in log) slot node (entries_in log) r.members
-  pub hosted : AreHosted (slices_then (nodes_in log) slot (entries_in log)) (among (names_of r.members)) r.hosted
+  pub hosted : AreHosted (slices_then (nodes_in log) slot (entries_in log)) (among (member_names r.members)) r.hosted
 
 -- the answer is the report of the subject; as text it is exactly that. Of the other forms this says nothing.
 pub record IsReport (f : Format) (subject : Subject) (logs : List Log) (a : Answer) : Type 0 where

@@ -1,7 +1,7 @@
 //! Carrying out a call: its files are run, and how it ended is answered.
 
 ghost use Rattle.std.specs.Prelude.{◌≡◌, Err, IsTrue, false};
-ghost use Rattle.scphost.specs.Printing.{HasAnswered, HasAnsweredUsage, IsCompared, IsCrowd, IsPerformed, IsPerformedAsItComes, IsPooled, IsReported, IsRunAsItComes, IsRunOn, names_files};
+ghost use Rattle.scphost.specs.Printing.{HasAnswered, HasAnsweredUsage, IsCompared, IsCrowdAnswer, IsPerformed, IsPerformedAsItComes, IsPooled, IsReported, IsRunAsItComes, IsRunOn, names_files};
 ghost use Rattle.answers.specs.Scripts.{StopsPlan, StopsStories, StopsStory, StopsSubmissions};
 ghost use Rattle.scphost.specs.Stops.{IsEndOf, status_of_end};
 
@@ -194,7 +194,7 @@ fn perform_crowd<R: Read, T: Read, W: Write, E: Write>(
     second: &mut T,
     outputs: &mut Outputs<W, E>,
 ) -> Result<bool, Stop>
-    ensures { HasAnswered (IsCrowd asked.now.subject (R.remaining first.old) (T.remaining second.old))
+    ensures { HasAnswered (IsCrowdAnswer asked.now.subject (R.remaining first.old) (T.remaining second.old))
         (StopsSubmissions (R.remaining first.old) (T.remaining second.old))
         (W.contents outputs.old.out) (W.contents outputs.new.out) result }
 {

@@ -4,7 +4,7 @@ use Rattle.std.specs.Prelude.{Option, Some, None, Result, Ok, Err, IfOk, IfSome}
 use Rattle.std.specs.List.{enumerate_from}
 use Rattle.std.specs.Io.KnownBytes.{Appends, Keeps}
 use Rattle.scripts.specs.Script.{Bytes, AreLines, AreFields, IsSkipped, lines_of}
-use Rattle.scripts.specs.Runs.{Telling, Refusing, Passes, Fails, Runs, HasRun, HasRunLine, HasRunText, HasRunScript, on_a_line}
+use Rattle.scripts.specs.Runs.{Telling, Refusing, Passes, LineFails, Runs, HasRun, HasRunLine, HasRunText, HasRunScript, on_a_line}
 use Rattle.scripts.specs.Stops.{stop_of_read}
 use Rattle.scripts.proofs.ScriptLemmas.{lines_are_lines}
 use Rattle.scripts.specs.declared.input.ReadError.{ReadError}
@@ -104,8 +104,8 @@ told_line tells s t line fields told view (Ok p) runs are e h = Passes.told runs
 told_line tells s t line fields told view (Err x) runs are e h = tt
 
 pub refused_line : {S : Type 0} (refuses : Refusing S) (s : S) (line : Bytes) (fields told : List Bytes)
-    → ¬ IsSkipped line → AreFields line fields → told ≡ fields → refuses s told → Fails refuses s line
-refused_line refuses s line fields told runs are e h = Fails.refused runs are (subst (λ fs. refuses s fs) e h)
+    → ¬ IsSkipped line → AreFields line fields → told ≡ fields → refuses s told → LineFails refuses s line
+refused_line refuses s line fields told runs are e h = LineFails.refused runs are (subst (λ fs. refuses s fs) e h)
 
 -- ---- whole scripts
 

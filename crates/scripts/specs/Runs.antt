@@ -27,11 +27,11 @@ pub data Passes {S : Type 0} (tells : Telling S) : S → Bytes → Bytes → S �
       → Passes tells s line (on_a_line printed) t
 
 -- a line is bad, as one that is skipped never is
-pub data Fails {S : Type 0} (refuses : Refusing S) : S → Bytes → Type 0 where
-  no_fields : {s : S} {line : Bytes} → IsBad line → Fails refuses s line
+pub data LineFails {S : Type 0} (refuses : Refusing S) : S → Bytes → Type 0 where
+  no_fields : {s : S} {line : Bytes} → IsBad line → LineFails refuses s line
   refused : {s : S} {line : Bytes} {fields : List Bytes} → ¬ IsSkipped line → AreFields line fields
       → refuses s fields
-      → Fails refuses s line
+      → LineFails refuses s line
 
 -- a run of numbered lines: what it writes, how it ends and the state that it leaves. It goes on to the first bad line,
 -- and names it. Want of memory may end it before any line, and then nothing is said of the state.
@@ -41,7 +41,7 @@ pub data Runs {S : Type 0} (tells : Telling S) (refuses : Refusing S) : S → Li
   next : {s t u : S} {n : ℕ} {line : Bytes} {more : List (ℕ × Bytes)} {written others : Bytes} {end : Result (Unit {0}) Stop}
       → Passes tells s line written t → Runs tells refuses t more others end u
       → Runs tells refuses s ((n, line) ∷ more) (written ++ others) end u
-  bad : {s t : S} {n : ℕ} {line : Bytes} {more : List (ℕ × Bytes)} → Fails refuses s line
+  bad : {s t : S} {n : ℕ} {line : Bytes} {more : List (ℕ × Bytes)} → LineFails refuses s line
       → Runs tells refuses s ((n, line) ∷ more) [] (Err (stop.BadLine n)) t
   short : {s t : S} {lines : List (ℕ × Bytes)} → Runs tells refuses s lines [] (Err stop.NoMemory) t
 
@@ -59,7 +59,7 @@ abbrev pub HasRunLine : {S : Type 0} → Telling S → Refusing S → S → ℕ 
     → Result (Unit {0}) Stop → S → Type 0
 HasRunLine tells refuses s n line old new (Ok _) t =
     (written : Bytes) × Passes tells s line written t × Appends old new written
-HasRunLine tells refuses s n line old new (Err (stop.BadLine m)) t = (m ≡ n) × Fails refuses s line × Keeps old new
+HasRunLine tells refuses s n line old new (Err (stop.BadLine m)) t = (m ≡ n) × LineFails refuses s line × Keeps old new
 HasRunLine tells refuses s n line old new (Err stop.NoMemory) t = Keeps old new
 HasRunLine tells refuses s n line old new (Err stop.CannotWrite) t = Unit {0}
 HasRunLine tells refuses s n line old new (Err stop.CannotRead) t = ⊥

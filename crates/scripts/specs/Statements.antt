@@ -59,8 +59,8 @@ prepare counters ballot prepared =
 abbrev pub commit : Option (ℕ × ℕ × ℕ) → Option Ballot → Option Statement
 commit counters ballot = option_and_then (λ n. option_map (λ b. Commit b n.0 n.1 n.2) ballot) counters
 
-abbrev pub externalize : Option ℕ → Option Ballot → Option Statement
-externalize counter ballot = option_and_then (λ h. option_map (λ b. Externalize b h) ballot) counter
+abbrev pub externalized_statement : Option ℕ → Option Ballot → Option Statement
+externalized_statement counter ballot = option_and_then (λ h. option_map (λ b. Externalize b h) ballot) counter
 
 -- the fields of a nomination in words: the values voted for and those accepted, with a bar (124) between
 abbrev pub nomination_in : Bytes → Option Statement
@@ -77,7 +77,7 @@ commit_in fields = option_and_then (λ w. commit (three_counters w.1) (word_ball
 
 -- the fields of EXTERNALIZE in words: the ballot and a counter
 abbrev pub externalize_in : Bytes → Option Statement
-externalize_in fields = option_and_then (λ w. externalize (word_counter w.1) (word_ballot w.0)) (split_once 44 fields)
+externalize_in fields = option_and_then (λ w. externalized_statement (word_counter w.1) (word_ballot w.0)) (split_once 44 fields)
 
 -- ---- statements
 

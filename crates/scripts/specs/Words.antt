@@ -11,6 +11,10 @@ use Rattle.scripts.specs.Values.{text_of_value, word_value}
 abbrev pub split_once : ℕ → Bytes → Option (Bytes × Bytes)
 split_once at text = option_map (λ n. (take n text, drop (n + 1) text)) (position (λ b. b == at) text)
 
+-- two words with a space (32) between
+abbrev pub space_between : Bytes → Bytes → Bytes
+space_between one other = one ++ 32 ∷ other
+
 -- ---- numbers and ballots
 
 -- decimal digits, of which the first is no 0 where there are several

@@ -3,7 +3,7 @@
 
 ghost use Rattle.std.specs.Prelude.{◌≡◌, ◌≢◌, ◌⊎◌, ◌<◌, ◌≤◌, ◌++◌, ◌∷◌, ℕ, [], length, map, option_map, string_bytes, Err, IfOk, IfSome, OnOk, IsOkUnless};
 ghost use Rattle.std.specs.Io.KnownBytes.{Appends, Keeps};
-ghost use Rattle.scripts.specs.Runs.{Passes, Fails, HasRunLine, HasRunText, HasRunScript, on_a_line};
+ghost use Rattle.scripts.specs.Runs.{Passes, LineFails, HasRunLine, HasRunText, HasRunScript, on_a_line};
 
 use crate::input::{LONGEST_SCRIPT, ReadError, read_whole};
 use crate::script::{Line, LineError, Lines, fields_of};
@@ -148,7 +148,7 @@ fn answer<S: LineRunner>(
 ) -> Result<Option<String>, LineError>
     ensures passes { IfOk result (λ printed.
         Passes S.tells runner.old line.now (on_a_line (option_map string_bytes printed)) runner.new) }
-    ensures fails { result ≡ Err LineError.Bad → Fails S.refuses runner.old line.now }
+    ensures fails { result ≡ Err LineError.Bad → LineFails S.refuses runner.old line.now }
 {
     match fields_of(alloc, line) {
         Ok(Some(fields)) => runner.line(alloc, fields.as_slice()),

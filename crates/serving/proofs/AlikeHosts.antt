@@ -9,8 +9,8 @@ use Rattle.configuration.specs.Configs.{names_of}
 use Rattle.network.specs.Decoding.{step_of}
 use Rattle.network.specs.Standing.{Machine}
 use Rattle.scripts.specs.Script.{Bytes}
-use Rattle.feed.specs.Served.{Reply, Serves as ServesAll}
-use Rattle.feed.specs.Served.Serves.{next, none}
+use Rattle.feed.specs.Served.{LineReply, ServesAll}
+use Rattle.feed.specs.Served.ServesAll.{next, none}
 use Rattle.feed.specs.WholeLines.{given}
 use Rattle.requests.specs.Outlines.{Outlined, waiting_at}
 use Rattle.requests.specs.declared.ask.Ask.{Ask}
@@ -21,7 +21,7 @@ use Rattle.live.specs.Telling.{ending_of, tellings_of}
 use Rattle.serving.specs.Blocks.{block_of}
 use Rattle.serving.specs.Futures.{AlikeBothWays, AlikeHostsAnswerAlike, AlikeInTurn, AreAlike, AreAllAlike, FuturesAreAlike, IsAlike, ReachedHostsAreAlike}
 use Rattle.serving.specs.Futures.AreAllAlike.{none_runs}
-use Rattle.serving.specs.Hosts.{AreAllAnswered, AreServed, IsAnswer, IsAnswerTo, IsAnsweredOnceBegun, IsAnsweredThen, IsBadLine, IsBegun, IsDeclared, IsDroppedAt, IsEventAnswered, IsLeftText, IsShown, IsStarted, Live, Serves, begun, block_of_answers, deed_of, deed_of_all, left_at, left_by, live_at, new_live, slot_of_answers, takes}
+use Rattle.serving.specs.Hosts.{AreAllAnswered, AreServed, IsAnswerTo, IsAnsweredOnceBegun, IsAnsweredThen, IsAskAnswered, IsBadLine, IsBegun, IsDeclared, IsDroppedAt, IsEventAnswered, IsLeftText, IsShown, IsStarted, Live, Serves, begun, block_of_answers, deed_of, deed_of_all, left_at, left_by, live_at, new_live, slot_of_answers, takes_declaration}
 use Rattle.serving.proofs.AlikeInTurn.{all-alike-in-turn}
 use Rattle.serving.proofs.AlikeMachines.{AreFoundAlike, all-alike-the-other, all-alike-themselves, all-served-alike, begun-alike, counts-alike, drawn-alike, found-alike, inserted-alike, left-alike, nodes-alike, none-found, one-found, removed-alike, served-alike, set-alike, shown-alike}
 
@@ -70,7 +70,7 @@ some-alike (Some m) None alike = absurd alike
 some-alike (Some m) (Some n) alike = refl
 
 taken-alike : (l : Live) (ns : Running) (g : ℕ) (d : Declaration) → AreAllAlike l.running ns
-    → takes (with_running l ns) g d ≡ takes l g d
+    → takes_declaration (with_running l ns) g d ≡ takes_declaration l g d
 taken-alike l ns g (declaration.Net b) alike =
     ap (λ runs. not (is_some (waiting_at l.waiting g)) && (not runs && nat_lt (length l.waiting + length ns) 4096))
     (some-alike (live_at l g) (live_at (with_running l ns) g) (found l ns g alike))
@@ -81,13 +81,13 @@ taken-alike l ns g (declaration.Node u q) alike = refl
 taken-alike l ns g (declaration.Roster r) alike = refl
 
 declared-alike : (g : ℕ) (d : Declaration) (taken : Bool) → KeepsAlike (λ old new. IsDeclared g d old taken new)
-declared-alike g d true old new ns alike (takes, prepares, running, bytes) = (
+declared-alike g d true old new ns alike (takes_declaration, prepares, running, bytes) = (
   ns,
   subst (λ ms. AreAllAlike ms ns) (sym running) alike,
-  (taken-alike old ns g d alike ∙ takes, prepares, refl, bytes),
+  (taken-alike old ns g d alike ∙ takes_declaration, prepares, refl, bytes),
 )
-declared-alike g d false old new ns alike (takes, is) =
-    unchanged old new ns alike (taken-alike old ns g d alike ∙ takes) is
+declared-alike g d false old new ns alike (takes_declaration, is) =
+    unchanged old new ns alike (taken-alike old ns g d alike ∙ takes_declaration) is
 
 -- ---- the first event
 started-alike : (waits : Option Outlined) (g : ℕ) → KeepsAlike (λ old new. IsStarted waits g old new)
@@ -105,8 +105,8 @@ begun-network-alike g true old new ns alike started = started-alike (waiting_at 
 begun-network-alike g false old new ns alike (bare, is) = unchanged old new ns alike bare is
 
 -- ---- events
-abbrev AnswersAlike : (Live → Reply → Live → Type 0) → Type 0
-AnswersAlike answers = (a : Reply) → KeepsAlike (λ old new. answers old a new)
+abbrev AnswersAlike : (Live → LineReply → Live → Type 0) → Type 0
+AnswersAlike answers = (a : LineReply) → KeepsAlike (λ old new. answers old a new)
 
 bad-alike : (n : ℕ) → AnswersAlike (IsBadLine n)
 bad-alike n a old new ns alike (is, same) = unchanged old new ns alike is same
@@ -181,12 +181,12 @@ all-alike n g bytes a old new ns alike (Some m, at, (after, answers, serves, is,
       ),
     )
 
-then-alike : (is : Bool) (n : ℕ) (answers : Live → Reply → Live → Type 0) → AnswersAlike answers
+then-alike : (is : Bool) (n : ℕ) (answers : Live → LineReply → Live → Type 0) → AnswersAlike answers
     → AnswersAlike (IsAnsweredThen is n answers)
 then-alike true n answers law = law
 then-alike false n answers law = bad-alike n
 
-once-begun-alike : (n g : ℕ) (answers : Live → Reply → Live → Type 0) → AnswersAlike answers
+once-begun-alike : (n g : ℕ) (answers : Live → LineReply → Live → Type 0) → AnswersAlike answers
     → AnswersAlike (IsAnsweredOnceBegun n g answers)
 once-begun-alike n g answers law a old new ns alike (is, now, begins, answered) =
     let begin = begun-network-alike g is old now ns alike begins in
@@ -233,7 +233,7 @@ dropped-at-alike None None (Some n) g taken old new ns alike both dropped = absu
 dropped-at-alike None None None g taken old new ns alike both (is, same) = unchanged old new ns alike is same
 
 -- ---- lines
-answer-alike : (n g : ℕ) (asked : Ask) → AnswersAlike (IsAnswer n g asked)
+answer-alike : (n g : ℕ) (asked : Ask) → AnswersAlike (IsAskAnswered n g asked)
 answer-alike n g (ask.Declare d) a old new ns alike (taken, declares, is) =
     let kept = declared-alike g d taken old new ns alike declares in
     (kept.0, kept.1, (taken, kept.2, is))

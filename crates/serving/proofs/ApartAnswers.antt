@@ -1,7 +1,7 @@
 -- All that a line may ask of a network is answered as if there were no other.
 use Rattle.std.specs.Prelude.{◌≡◌, ℕ, Bool, true, false, Some, None}
 use Rattle.std.proofs.Common.{◌∙◌, refl, sym, ap, subst, true≢false}
-use Rattle.feed.specs.Served.{Reply}
+use Rattle.feed.specs.Served.{LineReply}
 use Rattle.requests.specs.Outlines.{waiting_at}
 use Rattle.requests.specs.declared.ask.Ask.{Ask}
 use Rattle.requests.specs.declared.ask.Ask.TheVariants as ask
@@ -12,8 +12,8 @@ use Rattle.configuration.specs.declared.roster.Reservation.{Reservation}
 use Rattle.scripts.specs.Script.{Bytes}
 use Rattle.serving.specs.Apart.{AnswersAreGivenNextToOthers, AnswersAreLocal, HasRoomToAnswer, IsOrdered, alone}
 use Rattle.serving.specs.Blocks.{closing_line}
-use Rattle.serving.specs.Merging.{HasRoomFor}
-use Rattle.serving.specs.Hosts.{AreAllAnswered, IsAnswer, IsEventAnswered, IsLeftText, IsShown, Live, left_at, left_by, live_at, not_shown, takes}
+use Rattle.serving.specs.Merging.{HasRoomToDeclare}
+use Rattle.serving.specs.Hosts.{AreAllAnswered, IsAskAnswered, IsEventAnswered, IsLeftText, IsShown, Live, left_at, left_by, live_at, not_shown, takes_declaration}
 use Rattle.serving.specs.declared.block.Closing.TheVariants as closing
 use Rattle.serving.proofs.Alone.{found-alone}
 use Rattle.serving.proofs.ApartLines.{HappensLocally, HappensNextTo, all-local, all-next, declared-local, declared-next, dropped-local, dropped-next, event-local, event-next, once-begun-local, once-begun-next, same-local, taken-alone, taken-next}
@@ -25,27 +25,27 @@ same-node l g u = ap (λ w. takes_node w u) (found-alone g l.waiting)
 same-roster : (l : Live) (g : ℕ) (r : Reservation) → takes_roster (waiting_at (alone g l).waiting g) r.names.items r.shares ≡ takes_roster (waiting_at l.waiting g) r.names.items r.shares
 same-roster l g r = ap (λ w. takes_roster w r.names.items r.shares) (found-alone g l.waiting)
 
-refused-alone : (l : Live) (g : ℕ) (d : Declaration) → HasRoomToAnswer (ask.Declare d) l → takes l g d ≡ false → takes (alone g l) g d ≡ false
-refused-alone l g (declaration.Net b) room refused = by (takes (alone g l) g (declaration.Net b)) refl
+refused-alone : (l : Live) (g : ℕ) (d : Declaration) → HasRoomToAnswer (ask.Declare d) l → takes_declaration l g d ≡ false → takes_declaration (alone g l) g d ≡ false
+refused-alone l g (declaration.Net b) room refused = by (takes_declaration (alone g l) g (declaration.Net b)) refl
   where
-    by : (is : Bool) → takes (alone g l) g (declaration.Net b) ≡ is → takes (alone g l) g (declaration.Net b) ≡ false
+    by : (is : Bool) → takes_declaration (alone g l) g (declaration.Net b) ≡ is → takes_declaration (alone g l) g (declaration.Net b) ≡ false
     by true is = absurd (true≢false (sym (taken-next l g (declaration.Net b) (λ waits runs. room) is) ∙ refused))
     by false is = is
 refused-alone l g (declaration.Node u q) room refused = same-node l g u ∙ refused
 refused-alone l g (declaration.Roster r) room refused = same-roster l g r ∙ refused
 
 -- what is taken of a network that does not wait is a network, for which there is room
-room-for : (l : Live) (g : ℕ) (d : Declaration) → HasRoomToAnswer (ask.Declare d) l → takes (alone g l) g d ≡ true → HasRoomFor g l
+room-for : (l : Live) (g : ℕ) (d : Declaration) → HasRoomToAnswer (ask.Declare d) l → takes_declaration (alone g l) g d ≡ true → HasRoomToDeclare g l
 room-for l g (declaration.Net b) room taken waits runs = room
 room-for l g (declaration.Node u q) room taken waits runs =
     absurd (true≢false (sym taken ∙ same-node l g u ∙ ap (λ w. takes_node w u) waits))
 room-for l g (declaration.Roster r) room taken waits runs =
     absurd (true≢false (sym taken ∙ same-roster l g r ∙ ap (λ w. takes_roster w r.names.items r.shares) waits))
 
-refused-next : (l : Live) (g : ℕ) (d : Declaration) → takes (alone g l) g d ≡ false → takes l g d ≡ false
-refused-next l g d refused = by (takes l g d) refl
+refused-next : (l : Live) (g : ℕ) (d : Declaration) → takes_declaration (alone g l) g d ≡ false → takes_declaration l g d ≡ false
+refused-next l g d refused = by (takes_declaration l g d) refl
   where
-    by : (is : Bool) → takes l g d ≡ is → takes l g d ≡ false
+    by : (is : Bool) → takes_declaration l g d ≡ is → takes_declaration l g d ≡ false
     by true is = absurd (true≢false (sym (taken-alone l g d is) ∙ refused))
     by false is = is
 
@@ -71,8 +71,8 @@ shown-next l n g i u text (None, at, is) =
 shown-next l n g i u text (Some m, at, shown) = (Some m, sym (found-alone g l.running) ∙ at, shown)
 
 -- ---- answers
-all-answers-local : (n g : ℕ) (asked : Ask) (old new : Live) (a : Reply) → IsOrdered old → HasRoomToAnswer asked old
-    → IsAnswer n g asked old a new → HappensLocally g (λ l t. IsAnswer n g asked l a t) old new
+all-answers-local : (n g : ℕ) (asked : Ask) (old new : Live) (a : LineReply) → IsOrdered old → HasRoomToAnswer asked old
+    → IsAskAnswered n g asked old a new → HappensLocally g (λ l t. IsAskAnswered n g asked l a t) old new
 all-answers-local n g (ask.Declare x) old new a ordered room (true, declares, is) =
     let kept = declared-local g x old new ordered declares in
     ((true, kept.0, is), kept.1, kept.2)
@@ -93,8 +93,8 @@ all-answers-local n g ask.Drop old new a ordered room (taken, drops, is) =
     let kept = dropped-local g taken old new ordered drops in
     ((taken, kept.0, is), kept.1, kept.2)
 
-all-answers-next : (n g : ℕ) (asked : Ask) (old own : Live) (a : Reply) → IsOrdered old → HasRoomToAnswer asked old
-    → IsAnswer n g asked (alone g old) a own → HappensNextTo g (λ l t. IsAnswer n g asked l a t) old own
+all-answers-next : (n g : ℕ) (asked : Ask) (old own : Live) (a : LineReply) → IsOrdered old → HasRoomToAnswer asked old
+    → IsAskAnswered n g asked (alone g old) a own → HappensNextTo g (λ l t. IsAskAnswered n g asked l a t) old own
 all-answers-next n g (ask.Declare x) old own a ordered room (true, declares, is) =
     let next = declared-next g x old own (room-for old g x room declares.0) declares in
     (next.0, (true, next.1, is), next.2)

@@ -3,11 +3,11 @@ use Rattle.std.specs.Prelude.{◌≡◌, ◌≢◌, ◌+◌, ◌==◌, ◌++◌,
 use Rattle.std.proofs.Common.{◌∙◌, refl, sym, ap, subst, inl, arith, true≢false}
 use Rattle.std.proofs.lemmas.Bool.Decides.{Decides-eqb, nat_tests}
 use Rattle.scripts.specs.Script.{Bytes}
-use Rattle.feed.specs.Served.{Reply, Serves as ServesAll, journal_line, kept_as, is_kept, unanswered}
-use Rattle.feed.specs.Served.Serves.{next, none}
+use Rattle.feed.specs.Served.{LineReply, ServesAll, journal_line, kept_as, is_kept, unanswered}
+use Rattle.feed.specs.Served.ServesAll.{next, none}
 use Rattle.feed.specs.WholeLines.{given}
 use Rattle.feed.specs.declared.answering.Done.{Done}
-use Rattle.serving.specs.Apart.{AreAllSameButForNumbers, AreSameButForNumbers, HasRoomToSpare, IsOrdered, KeepsRoom, NetworksAreApart, OthersStay, Own, alone, is_of, lines_of, own_of}
+use Rattle.serving.specs.Apart.{AreAllSameButForNumbers, AreSameButForNumbers, HasRoomToSpare, IsOrdered, KeepsRoom, NetworksAreApart, OthersStay, NetworkLine, alone, is_done_to, texts_of_lines, lines_of_network}
 use Rattle.serving.specs.Futures.{AreAlike, behind_number}
 use Rattle.serving.specs.Hosts.{Live, Serves, new_live}
 use Rattle.serving.proofs.ApartHosts.{room-next-to}
@@ -16,7 +16,7 @@ use Rattle.serving.proofs.ApartRuns.{alike-after, begins-alike, begins-ordered, 
 use Rattle.serving.proofs.Numbers.{numbers_stand_in_front}
 
 -- ---- the lines of a network, one after the other
-abbrev pub OwnSteps : ℕ → ℕ → List Own → Live → Live → Type 0
+abbrev pub OwnSteps : ℕ → ℕ → List NetworkLine → Live → Live → Type 0
 OwnSteps longest g [] l t = t ≡ l
 OwnSteps longest g (o ∷ owns) l t =
     (now : Live) × (d : Done) × Serves l o.number (given longest o.line) o.reply now × (o.reply.done ≡ Some d)
@@ -24,15 +24,15 @@ OwnSteps longest g (o ∷ owns) l t =
 
 pub steps-of : (longest g : ℕ) {l t : Live} {n : ℕ} {lines journal : List Bytes} {text : Bytes}
     (run : ServesAll Serves longest l n lines journal text t) → IsOrdered l
-    → OwnSteps longest g (own_of g run) (alone g l) (alone g t)
+    → OwnSteps longest g (lines_of_network g run) (alone g l) (alone g t)
 steps-of longest g none ordered = refl
 steps-of longest g (next {s} {t = now} {u} {n} {line} a serves others) ordered =
-    by (is_of g a.done) refl
+    by (is_done_to g a.done) refl
     (steps-of longest g others (hosts_stay_ordered s now n (given longest line) a ordered serves))
   where
-    by : (is : Bool) → is_of g a.done ≡ is → OwnSteps longest g (own_of g others) (alone g now) (alone g u)
+    by : (is : Bool) → is_done_to g a.done ≡ is → OwnSteps longest g (lines_of_network g others) (alone g now) (alone g u)
         → OwnSteps longest g
-        (if is then record { number = n; line = line; reply = a } ∷ own_of g others else own_of g others) (alone g s)
+        (if is then record { number = n; line = line; reply = a } ∷ lines_of_network g others else lines_of_network g others) (alone g s)
         (alone g u)
     by true is rest =
         let its = is-its g a.done is in (
@@ -44,40 +44,40 @@ steps-of longest g (next {s} {t = now} {u} {n} {line} a serves others) ordered =
           rest,
         )
     by false is rest =
-        subst (λ l. OwnSteps longest g (own_of g others) l (alone g u))
+        subst (λ l. OwnSteps longest g (lines_of_network g others) l (alone g u))
         (is-another g s now n (given longest line) a ordered serves is) rest
 
 -- ---- lines of one network among those of others
 -- Lines are served: of one network these, which leave it so; of the others those, which leave them as they are there.
-abbrev AreServedAgain : ℕ → ℕ → Live → Live → Live → ℕ → List Own → (ℕ → List Own) → List Bytes → List Bytes → Type 0
+abbrev AreServedAgain : ℕ → ℕ → Live → Live → Live → ℕ → List NetworkLine → (ℕ → List NetworkLine) → List Bytes → List Bytes → Type 0
 AreServedAgain longest g l u own n owns theirs lines journal =
     (told : Bytes) × (new : Live) × (again : ServesAll Serves longest l n lines journal told new) × (alone g new ≡ own)
-    × OthersStay g u new × AreAllSameButForNumbers owns (own_of g again)
-    × ((h : ℕ) → h ≢ g → own_of h again ≡ theirs h)
+    × OthersStay g u new × AreAllSameButForNumbers owns (lines_of_network g again)
+    × ((h : ℕ) → h ≢ g → lines_of_network h again ≡ theirs h)
 
 -- a journal may be served so in each host whose other networks are those
-abbrev MayBeServedAgain : ℕ → ℕ → Live → Live → ℕ → (ℕ → List Own) → List Bytes → Type 0
+abbrev MayBeServedAgain : ℕ → ℕ → Live → Live → ℕ → (ℕ → List NetworkLine) → List Bytes → Type 0
 MayBeServedAgain longest g s u n theirs journal =
-    (l own : Live) → IsOrdered l → AreAlike l l → OthersStay g s l → (owns : List Own)
-    → OwnSteps longest g owns (alone g l) own → lines_of owns ≡ lines_of (theirs g)
+    (l own : Live) → IsOrdered l → AreAlike l l → OthersStay g s l → (owns : List NetworkLine)
+    → OwnSteps longest g owns (alone g l) own → texts_of_lines owns ≡ texts_of_lines (theirs g)
     → AreServedAgain longest g l u own n owns theirs journal journal
 
 -- with one line more, if it did something to the network
-abbrev pub and-one : ℕ → Bytes → Reply → (ℕ → List Own) → ℕ → List Own
+abbrev pub and-one : ℕ → Bytes → LineReply → (ℕ → List NetworkLine) → ℕ → List NetworkLine
 and-one n line a theirs h =
-    if is_of h a.done then record { number = n; line = line; reply = a } ∷ theirs h else theirs h
+    if is_done_to h a.done then record { number = n; line = line; reply = a } ∷ theirs h else theirs h
 
-pub not-of : (g : ℕ) (o : Option Done) (d : Done) → o ≡ Some d → d.network ≢ g → is_of g o ≡ false
-not-of g o d some differ = ap (is_of g) some ∙ by (d.network == g) refl
+pub not-of : (g : ℕ) (o : Option Done) (d : Done) → o ≡ Some d → d.network ≢ g → is_done_to g o ≡ false
+not-of g o d some differ = ap (is_done_to g) some ∙ by (d.network == g) refl
   where
     by : (is : Bool) → (d.network == g) ≡ is → (d.network == g) ≡ false
     by true is = absurd (differ ((Decides-eqb d.network g).0 is))
     by false is = is
 
-pub of-it : (g : ℕ) (o : Option Done) (d : Done) → o ≡ Some d → d.network ≡ g → is_of g o ≡ true
-of-it g o d some is = ap (is_of g) some ∙ (Decides-eqb d.network g).1 is
+pub of-it : (g : ℕ) (o : Option Done) (d : Done) → o ≡ Some d → d.network ≡ g → is_done_to g o ≡ true
+of-it g o d some is = ap (is_done_to g) some ∙ (Decides-eqb d.network g).1 is
 
-pub and-none : (n : ℕ) (line : Bytes) (a : Reply) (theirs : ℕ → List Own) (h : ℕ) → is_of h a.done ≡ false
+pub and-none : (n : ℕ) (line : Bytes) (a : LineReply) (theirs : ℕ → List NetworkLine) (h : ℕ) → is_done_to h a.done ≡ false
     → and-one n line a theirs h ≡ theirs h
 and-none n line a theirs h is =
     ap (λ b. if b then record { number = n; line = line; reply = a } ∷ theirs h else theirs h) is
@@ -96,12 +96,12 @@ empty-is-skipped longest l n = by (nat_lt longest 0) (none-is-longer longest)
     by true is = absurd (true≢false is)
     by false is = (inl ((refl, refl), refl, refl), refl)
 
-pub not-kept : (o : Option Bytes) (a : Reply) → a.done ≡ None → journal_line o a ≡ []
+pub not-kept : (o : Option Bytes) (a : LineReply) → a.done ≡ None → journal_line o a ≡ []
 not-kept None a is = refl
 not-kept (Some line) a is = ap (λ d. kept_as (Some line) (is_kept (record { text = a.text; done = d }))) is
 
 -- an empty line in front
-with-none : (longest g : ℕ) (l u own : Live) (n : ℕ) (owns : List Own) (theirs : ℕ → List Own) (journal : List Bytes)
+with-none : (longest g : ℕ) (l u own : Live) (n : ℕ) (owns : List NetworkLine) (theirs : ℕ → List NetworkLine) (journal : List Bytes)
     → AreServedAgain longest g l u own (n + 1) owns theirs journal journal
     → AreServedAgain longest g l u own n owns theirs ([] ∷ journal) ([] ∷ journal)
 with-none longest g l u own n owns theirs journal (told, new, rest, is, stay, same, others) =
@@ -110,31 +110,31 @@ with-none longest g l u own n owns theirs journal (told, new, rest, is, stay, sa
     (told, new, next unanswered empty.0 rest, is, stay, same, others)
 
 -- as they are for others that are the same
-as-theirs : (longest g : ℕ) (l u own : Live) (n : ℕ) (owns : List Own) (theirs also : ℕ → List Own) (journal : List Bytes)
+as-theirs : (longest g : ℕ) (l u own : Live) (n : ℕ) (owns : List NetworkLine) (theirs also : ℕ → List NetworkLine) (journal : List Bytes)
     → ((h : ℕ) → theirs h ≡ also h) → AreServedAgain longest g l u own n owns theirs journal journal
     → AreServedAgain longest g l u own n owns also journal journal
 as-theirs longest g l u own n owns theirs also journal are (told, new, rest, is, stay, same, others) =
     (told, new, rest, is, stay, same, λ h differ. others h differ ∙ are h)
 
-again-none : (longest g : ℕ) (s now u : Live) (n : ℕ) (line : Bytes) (a : Reply) (theirs : ℕ → List Own)
+again-none : (longest g : ℕ) (s now u : Live) (n : ℕ) (line : Bytes) (a : LineReply) (theirs : ℕ → List NetworkLine)
     (journal : List Bytes) → Serves s n (given longest line) a now → a.done ≡ None
     → MayBeServedAgain longest g now u (n + 1) theirs journal
     → MayBeServedAgain longest g s u n (and-one n line a theirs) (journal_line (given longest line) a ∷ journal)
 again-none longest g s now u n line a theirs journal serves is later l own ordered alike stay owns steps same =
     let unchanged = other_lines_change_nothing s now n (given longest line) a serves is in
     let others : (h : ℕ) → and-one n line a theirs h ≡ theirs h =
-    λ h. and-none n line a theirs h (ap (is_of h) is) in
+    λ h. and-none n line a theirs h (ap (is_done_to h) is) in
     subst (λ x. AreServedAgain longest g l u own n owns (and-one n line a theirs) (x ∷ journal) (x ∷ journal))
     (sym (not-kept (given longest line) a is))
     (as-theirs longest g l u own n owns theirs (and-one n line a theirs) ([] ∷ journal) (λ h. sym (others h))
     (with-none longest g l u own n owns theirs journal
     (later l own ordered alike (λ h differ. stay h differ ∙ ap (alone h) (sym unchanged)) owns steps
-    (same ∙ ap lines_of (others g)))))
+    (same ∙ ap texts_of_lines (others g)))))
 
 -- ---- a line of another network
 -- a line of another network in front
-with-other : (longest g : ℕ) (l t u own : Live) (n : ℕ) (line : Bytes) (a : Reply) (owns : List Own)
-    (theirs : ℕ → List Own) (journal : List Bytes) → Serves l n (given longest line) a t → is_of g a.done ≡ false
+with-other : (longest g : ℕ) (l t u own : Live) (n : ℕ) (line : Bytes) (a : LineReply) (owns : List NetworkLine)
+    (theirs : ℕ → List NetworkLine) (journal : List Bytes) → Serves l n (given longest line) a t → is_done_to g a.done ≡ false
     → AreServedAgain longest g t u own (n + 1) owns theirs journal journal
     → AreServedAgain longest g l u own n owns (and-one n line a theirs) (line ∷ journal)
     (journal_line (given longest line) a ∷ journal)
@@ -144,11 +144,11 @@ with-other longest g l t u own n line a owns theirs journal serves not-its (told
   next a serves rest,
   is,
   stay,
-  subst (AreAllSameButForNumbers owns) (sym (and-none n line a (λ h. own_of h rest) g not-its)) same,
-  λ h differ. ap (λ x. if is_of h a.done then record { number = n; line = line; reply = a } ∷ x else x) (others h differ),
+  subst (AreAllSameButForNumbers owns) (sym (and-none n line a (λ h. lines_of_network h rest) g not-its)) same,
+  λ h differ. ap (λ x. if is_done_to h a.done then record { number = n; line = line; reply = a } ∷ x else x) (others h differ),
 )
 
-again-other : (longest g : ℕ) (s now u : Live) (n : ℕ) (line : Bytes) (a : Reply) (d : Done) (theirs : ℕ → List Own)
+again-other : (longest g : ℕ) (s now u : Live) (n : ℕ) (line : Bytes) (a : LineReply) (d : Done) (theirs : ℕ → List NetworkLine)
     (journal : List Bytes) → IsOrdered s → HasRoomToSpare s → Serves s n (given longest line) a now → a.done ≡ Some d
     → d.network ≢ g → MayBeServedAgain longest g now u (n + 1) theirs journal
     → MayBeServedAgain longest g s u n (and-one n line a theirs) (journal_line (given longest line) a ∷ journal)
@@ -170,7 +170,7 @@ again-other longest g s now u n line a d theirs journal first-ordered room serve
     (later lift.0 own (hosts_stay_ordered l lift.0 n (given longest line) a ordered lift.1)
     (alike-after l lift.0 n (given longest line) a alike lift.1) after owns
     (subst (λ x. OwnSteps longest g owns x own) (sym (lift.3 g (λ is. apart (sym is)))) steps)
-    (same ∙ ap lines_of (and-none n line a theirs g none-of-it))))
+    (same ∙ ap texts_of_lines (and-none n line a theirs g none-of-it))))
   where
     by : (t : Live) → alone d.network t ≡ alone d.network now → OthersStay d.network l t → OthersStay d.network s now
         → (h : ℕ) → h ≢ g → (is : Bool) → (h == d.network) ≡ is → alone h t ≡ alone h now
@@ -185,9 +185,9 @@ pub same-first : (x y : Bytes) (xs ys : List Bytes) → x ∷ xs ≡ y ∷ ys �
 same-first x y xs ys is = (cc, cc)
 
 -- a line of the network in front
-with-own : (longest g : ℕ) (l t u own : Live) (n : ℕ) (line : Bytes) (a b : Reply) (o : Own) (owns : List Own)
-    (theirs : ℕ → List Own) (journal : List Bytes) → Serves l n (given longest line) b t → is_of g b.done ≡ true
-    → ((h : ℕ) → h ≢ g → is_of h b.done ≡ false) → ((h : ℕ) → h ≢ g → is_of h a.done ≡ false)
+with-own : (longest g : ℕ) (l t u own : Live) (n : ℕ) (line : Bytes) (a b : LineReply) (o : NetworkLine) (owns : List NetworkLine)
+    (theirs : ℕ → List NetworkLine) (journal : List Bytes) → Serves l n (given longest line) b t → is_done_to g b.done ≡ true
+    → ((h : ℕ) → h ≢ g → is_done_to h b.done ≡ false) → ((h : ℕ) → h ≢ g → is_done_to h a.done ≡ false)
     → AreSameButForNumbers o (record { number = n; line = line; reply = b })
     → AreServedAgain longest g t u own (n + 1) owns theirs journal journal
     → AreServedAgain longest g l u own n (o ∷ owns) (and-one n line a theirs) (line ∷ journal)
@@ -201,29 +201,29 @@ with-own longest g l t u own n line a b o owns theirs journal serves its not-b n
       stay,
       subst
           (λ is. AreAllSameButForNumbers (o ∷ owns)
-          (if is then record { number = n; line = line; reply = b } ∷ own_of g rest else own_of g rest))
+          (if is then record { number = n; line = line; reply = b } ∷ lines_of_network g rest else lines_of_network g rest))
           (sym its) (one, same),
-      λ h differ. and-none n line b (λ h. own_of h rest) h (not-b h differ) ∙ others h differ
+      λ h differ. and-none n line b (λ h. lines_of_network h rest) h (not-b h differ) ∙ others h differ
           ∙ sym (and-none n line a theirs h (not-a h differ)),
     )
 
-again-own : (longest g : ℕ) (s now u : Live) (n : ℕ) (line : Bytes) (a : Reply) (d : Done) (theirs : ℕ → List Own)
+again-own : (longest g : ℕ) (s now u : Live) (n : ℕ) (line : Bytes) (a : LineReply) (d : Done) (theirs : ℕ → List NetworkLine)
     (journal : List Bytes) → IsOrdered s → HasRoomToSpare s → Serves s n (given longest line) a now → a.done ≡ Some d
     → d.network ≡ g → MayBeServedAgain longest g now u (n + 1) theirs journal
     → MayBeServedAgain longest g s u n (and-one n line a theirs) (journal_line (given longest line) a ∷ journal)
 again-own longest g s now u n line a d theirs journal first-ordered room serves some its later l own ordered alike stay []
     steps same =
-    let both : [] ≡ line ∷ lines_of (theirs g) =
+    let both : [] ≡ line ∷ texts_of_lines (theirs g) =
     same ∙ ap
-    (λ b. lines_of (if b then record { number = n; line = line; reply = a } ∷ theirs g else theirs g))
+    (λ b. texts_of_lines (if b then record { number = n; line = line; reply = a } ∷ theirs g else theirs g))
     (of-it g a.done d some its) in
     absurd (cc)
 again-own longest g s now u n line a d theirs journal first-ordered room serves some its later l own ordered alike stay
     (o ∷ owns) (then-so, e, served, done, of-g, more) same =
     let both =
-    same-first o.line line (lines_of owns) (lines_of (theirs g))
+    same-first o.line line (texts_of_lines owns) (texts_of_lines (theirs g))
     (same ∙ ap
-    (λ b. lines_of (if b then record { number = n; line = line; reply = a } ∷ theirs g else theirs g))
+    (λ b. texts_of_lines (if b then record { number = n; line = line; reply = a } ∷ theirs g else theirs g))
     (of-it g a.done d some its)) in
     let here : Serves (alone e.network l) o.number (given longest line) o.reply then-so =
     subst (λ h. Serves (alone h l) o.number (given longest line) o.reply then-so) (sym of-g)
@@ -232,7 +232,7 @@ again-own longest g s now u n line a d theirs journal first-ordered room serves 
     lines_are_answered_next_to_others l then-so o.number (given longest line) o.reply e ordered
     (room-next-to g s l first-ordered ordered stay room) here done in
     let numbered = numbers_stand_in_front l lift.0 o.number (given longest line) o.reply alike lift.1 in
-    let b : Reply = record { text = behind_number n numbered.0; done = o.reply.done } in
+    let b : LineReply = record { text = behind_number n numbered.0; done = o.reply.done } in
     let local = lines_are_local s now n (given longest line) a d first-ordered serves some in
     let after : OthersStay g now lift.0 =
     λ h differ. lift.3 h (λ is. differ (is ∙ of-g)) ∙ stay h differ ∙ sym (local.1 h (λ is. differ (is ∙ its))) in
@@ -264,31 +264,31 @@ again-at-end longest g s n l own ordered alike stay (o ∷ owns) steps same = ab
 
 again : (longest g : ℕ) {s u : Live} {n : ℕ} {lines journal : List Bytes} {text : Bytes}
     (other : ServesAll Serves longest s n lines journal text u) → KeepsRoom other → IsOrdered s
-    → MayBeServedAgain longest g s u n (λ h. own_of h other) journal
+    → MayBeServedAgain longest g s u n (λ h. lines_of_network h other) journal
 again longest g (none {s} {n}) room first-ordered = again-at-end longest g s n
 again longest g (next {s} {t = now} {u} {n} {line} {journal} a serves others) (room, rooms) first-ordered =
     by a.done refl
     (again longest g others rooms (hosts_stay_ordered s now n (given longest line) a first-ordered serves))
   where
     of-it-or-not : (d : Done) → a.done ≡ Some d → (is : Bool) → (d.network == g) ≡ is
-        → MayBeServedAgain longest g now u (n + 1) (λ h. own_of h others) journal
-        → MayBeServedAgain longest g s u n (and-one n line a (λ h. own_of h others))
+        → MayBeServedAgain longest g now u (n + 1) (λ h. lines_of_network h others) journal
+        → MayBeServedAgain longest g s u n (and-one n line a (λ h. lines_of_network h others))
         (journal_line (given longest line) a ∷ journal)
     of-it-or-not d some true is later =
-        again-own longest g s now u n line a d (λ h. own_of h others) journal first-ordered room serves some
+        again-own longest g s now u n line a d (λ h. lines_of_network h others) journal first-ordered room serves some
         ((Decides-eqb d.network g).0 is) later
     of-it-or-not d some false is later =
-        again-other longest g s now u n line a d (λ h. own_of h others) journal first-ordered room serves some
+        again-other longest g s now u n line a d (λ h. lines_of_network h others) journal first-ordered room serves some
         (λ e. true≢false (sym ((Decides-eqb d.network g).1 e) ∙ is)) later
 
-    by : (o : Option Done) → a.done ≡ o → MayBeServedAgain longest g now u (n + 1) (λ h. own_of h others) journal
-        → MayBeServedAgain longest g s u n (and-one n line a (λ h. own_of h others))
+    by : (o : Option Done) → a.done ≡ o → MayBeServedAgain longest g now u (n + 1) (λ h. lines_of_network h others) journal
+        → MayBeServedAgain longest g s u n (and-one n line a (λ h. lines_of_network h others))
         (journal_line (given longest line) a ∷ journal)
     by None not-any later =
-        again-none longest g s now u n line a (λ h. own_of h others) journal serves not-any later
+        again-none longest g s now u n line a (λ h. lines_of_network h others) journal serves not-any later
     by (Some d) some later = of-it-or-not d some (d.network == g) refl later
 
 pub networks_are_apart : NetworksAreApart
 networks_are_apart longest bytes g n lines journal text t run m other_lines other_journal other_text u other room same =
     again longest g other room (begins-ordered bytes) (new_live bytes) (alone g t) (begins-ordered bytes) (begins-alike bytes)
-    (λ h differ. refl) (own_of g run) (steps-of longest g run (begins-ordered bytes)) same
+    (λ h differ. refl) (lines_of_network g run) (steps-of longest g run (begins-ordered bytes)) same

@@ -8,7 +8,7 @@ use Rattle.std.proofs.Common.{◌∙◌, Less, Equal, Greater, refl, sym, ap, su
 use Rattle.std.proofs.lemmas.Bool.Decides.{Decides-eqb}
 use Rattle.network.specs.Standing.{Machine}
 use Rattle.requests.specs.Outlines.{waiting_at}
-use Rattle.serving.specs.Apart.{AreFrom, HasRoom, HasRoomToSpare, HostsAreAlikeByNetworks, IsOrdered, NetworksOfAlikeHostsAreAlike, OthersStay, alone, only}
+use Rattle.serving.specs.Apart.{AreFrom, HasRoomForNetwork, HasRoomToSpare, HostsAreAlikeByNetworks, IsOrdered, NetworksOfAlikeHostsAreAlike, OthersStay, alone, only}
 use Rattle.serving.specs.Futures.{AreAllAlike, IsAlike}
 use Rattle.serving.specs.Futures.AreAllAlike.{both_run, none_runs}
 use Rattle.serving.specs.Hosts.{Live, live_at}
@@ -177,7 +177,7 @@ same-others g es fs ascend also found =
 
 -- a host whose other networks are those of one that has room to spare has room
 pub room-next-to : (g : ℕ) (l other : Live) → IsOrdered l → IsOrdered other → OthersStay g l other → HasRoomToSpare l
-    → HasRoom other
+    → HasRoomForNetwork other
 room-next-to g l other ordered also stay room =
     let waiting =
     ap length (same-others g other.waiting l.waiting also.waiting ordered.waiting

@@ -8,9 +8,9 @@ use Rattle.std.proofs.lemmas.Bool.Decides.{Decides-eqb, Decides-ltb}
 use Rattle.types.specs.declared.event.Event.{Event}
 use Rattle.network.specs.Standing.{Machine}
 use Rattle.scripts.specs.Script.{Bytes}
-use Rattle.feed.specs.Served.{Reply, is_kept, kept_as}
+use Rattle.feed.specs.Served.{LineReply, is_kept, kept_as}
 use Rattle.feed.specs.declared.answering.Done.{Done}
-use Rattle.requests.specs.Outlines.{IsRevised, Outlined, Waiting, fresh, waiting_at, waiting_set, waiting_with, waiting_without, with_node, with_roster}
+use Rattle.requests.specs.Outlines.{IsRevised, Outlined, Waiting, bare_outline, waiting_at, waiting_set, waiting_with, waiting_without, with_node, with_roster}
 use Rattle.requests.specs.Preparing.{Prepares}
 use Rattle.requests.specs.Taking.{takes_node, takes_roster}
 use Rattle.requests.specs.Telling.{is_bare}
@@ -18,10 +18,10 @@ use Rattle.requests.specs.declared.ask.Ask.{Ask}
 use Rattle.requests.specs.declared.ask.Ask.TheVariants as ask
 use Rattle.requests.specs.declared.request.Declaration.{Declaration}
 use Rattle.requests.specs.declared.request.Declaration.TheVariants as declaration
-use Rattle.serving.specs.Apart.{AreFrom, HostsStayOrdered, IsOrdered, LinesAreAnsweredNextToOthers, LinesAreLocal, OtherLinesChangeNothing, OthersStay, alone, only}
-use Rattle.serving.specs.Hosts.{AreAllAnswered, IsAnswer, IsAnsweredOnceBegun, IsAnsweredThen, IsBegun, IsDeclared, IsDropped, IsDroppedAt, IsEventAnswered, IsStarted, Live, Serves, begun, live_at, takes, with_live}
-use Rattle.serving.specs.Keeping.{only_kept_lines_count}
-use Rattle.serving.specs.Merging.{HasRoomFor, LinesAreAnsweredWhereRoomIs}
+use Rattle.serving.specs.Apart.{AreFrom, HostsStayOrdered, IsOrdered, LinesAreAnsweredNextToOthers, LinesAreLocal, IdleLinesChangeNothing, OthersStay, alone, only}
+use Rattle.serving.specs.Hosts.{AreAllAnswered, IsAnsweredOnceBegun, IsAnsweredThen, IsAskAnswered, IsBegun, IsDeclared, IsDropped, IsDroppedAt, IsEventAnswered, IsStarted, Live, Serves, begun, live_at, takes_declaration, with_live}
+use Rattle.serving.specs.Keeping.{live_only_kept_lines_count}
+use Rattle.serving.specs.Merging.{HasRoomToDeclare, LinesAreAnsweredWhereRoomIs}
 use Rattle.serving.proofs.Alone.{found-alone, inserted-alone, inserted-apart, inserted-ascend, live_of, only_at, others-stay, removed-alone, removed-apart, removed-ascend, removed-is-gone, same-alone, same-live, set-alone, set-apart, set-ascend}
 
 -- ---- what happens to a network
@@ -117,7 +117,7 @@ net-taken : (w : Option Outlined) (r : Option Machine) (room : Bool) → w ≡ N
 net-taken w r room one two is =
     ap (λ w. not (is_some w) && (not (is_some r) && room)) one ∙ ap (λ r. not (is_some r) && room) two ∙ is
 
-pub taken-alone : (l : Live) (g : ℕ) (d : Declaration) → takes l g d ≡ true → takes (alone g l) g d ≡ true
+pub taken-alone : (l : Live) (g : ℕ) (d : Declaration) → takes_declaration l g d ≡ true → takes_declaration (alone g l) g d ≡ true
 taken-alone l g (declaration.Net b) is =
     let none = net-alone (waiting_at l.waiting g) (live_at l g) (nat_lt (length l.waiting + length l.running) 4096) is in
     let few : nat_lt (length (only_at g l.waiting) + length (only_at g l.running)) 4096 ≡ true =
@@ -129,7 +129,7 @@ taken-alone l g (declaration.Node u q) is = ap (λ w. takes_node w u) (found-alo
 taken-alone l g (declaration.Roster r) is =
     ap (λ w. takes_roster w r.names.items r.shares) (found-alone g l.waiting) ∙ is
 
-pub taken-next : (l : Live) (g : ℕ) (d : Declaration) → HasRoomFor g l → takes (alone g l) g d ≡ true → takes l g d ≡ true
+pub taken-next : (l : Live) (g : ℕ) (d : Declaration) → HasRoomToDeclare g l → takes_declaration (alone g l) g d ≡ true → takes_declaration l g d ≡ true
 taken-next l g (declaration.Net b) room is =
     let none =
     net-alone (waiting_at (only_at g l.waiting) g) (lookup (is_at (nat_cmp g)) (only_at g l.running)) _ is in
@@ -149,7 +149,7 @@ revised-alone g change old new (d, at, is) =
 prepared-alone : (g : ℕ) (d : Declaration) (old new : Waiting) → Prepares g d old new
     → Prepares g d (only_at g old) (only_at g new)
 prepared-alone g (declaration.Net b) old new (none, is) =
-    (found-alone g old ∙ none, ap (only_at g) is ∙ inserted-alone g old (fresh b))
+    (found-alone g old ∙ none, ap (only_at g) is ∙ inserted-alone g old (bare_outline b))
 prepared-alone g (declaration.Node u q) old new revised = revised-alone g (λ d. with_node d u q) old new revised
 prepared-alone g (declaration.Roster r) old new revised =
     revised-alone g (λ d. with_roster d r.names.items r.shares) old new revised
@@ -158,8 +158,8 @@ prepared-alone g (declaration.Roster r) old new revised =
 prepared-apart : (g : ℕ) (d : Declaration) (old new : Waiting) → AreFrom 0 old → Prepares g d old new
     → ((h : ℕ) → h ≢ g → waiting_at new h ≡ waiting_at old h) × AreFrom 0 new
 prepared-apart g (declaration.Net b) old new ascend (none, is) = (
-  λ h differ. ap (λ l. waiting_at l h) is ∙ inserted-apart g h old (fresh b) differ,
-  subst (AreFrom 0) (sym is) (inserted-ascend g 0 old (fresh b) (omega arith) ascend),
+  λ h differ. ap (λ l. waiting_at l h) is ∙ inserted-apart g h old (bare_outline b) differ,
+  subst (AreFrom 0) (sym is) (inserted-ascend g 0 old (bare_outline b) (omega arith) ascend),
 )
 prepared-apart g (declaration.Node u q) old new ascend (d, at, is) = (
   λ h differ. ap (λ l. waiting_at l h) is ∙ set-apart g h old (with_node d u q) differ,
@@ -186,7 +186,7 @@ runs-alone g l m ordered is = by (ordered.apart g)
     by (inr none) = absurd (cc)
 
 -- of what is declared nothing runs
-none-runs : (g : ℕ) (d : Declaration) (l : Live) (new : Waiting) → IsOrdered l → takes l g d ≡ true
+none-runs : (g : ℕ) (d : Declaration) (l : Live) (new : Waiting) → IsOrdered l → takes_declaration l g d ≡ true
     → Prepares g d l.waiting new → live_at l g ≡ None
 none-runs g (declaration.Net b) l new ordered is prepares =
     (net-alone (waiting_at l.waiting g) (live_at l g) (nat_lt (length l.waiting + length l.running) 4096) is).1
@@ -214,15 +214,15 @@ revised-next g change old own (d, at, is) = (
 prepared-next : (g : ℕ) (d : Declaration) (old own : Waiting) → Prepares g d (only_at g old) own
     → (new : Waiting) × Prepares g d old new × (only_at g new ≡ own)
 prepared-next g (declaration.Net b) old own (none, is) = (
-  waiting_with old g (fresh b),
+  waiting_with old g (bare_outline b),
   (sym (found-alone g old) ∙ none, refl),
-  inserted-alone g old (fresh b) ∙ sym is,
+  inserted-alone g old (bare_outline b) ∙ sym is,
 )
 prepared-next g (declaration.Node u q) old own revised = revised-next g (λ d. with_node d u q) old own revised
 prepared-next g (declaration.Roster r) old own revised =
     revised-next g (λ d. with_roster d r.names.items r.shares) old own revised
 
-pub declared-next : (g : ℕ) (d : Declaration) (old own : Live) → HasRoomFor g old → IsDeclared g d (alone g old) true own
+pub declared-next : (g : ℕ) (d : Declaration) (old own : Live) → HasRoomToDeclare g old → IsDeclared g d (alone g old) true own
     → HappensNextTo g (λ l t. IsDeclared g d l true t) old own
 declared-next g d old own room (taken, prepares, running, bytes) =
     let next = prepared-next g d old.waiting own.waiting prepares in (
@@ -300,7 +300,7 @@ placed-apart g old new before m ordered at is =
 placed-next : (g : ℕ) (old own : Live) (m : Machine) → own ≡ with_live (alone g old) g m → alone g (with_live old g m) ≡ own
 placed-next g old own m is = placed-alone g old (with_live old g m) m refl ∙ sym is
 
-pub event-local : (n g : ℕ) (e : Event) (a : Reply) → IsLocal g (λ old new. IsEventAnswered n g e old a new)
+pub event-local : (n g : ℕ) (e : Event) (a : LineReply) → IsLocal g (λ old new. IsEventAnswered n g e old a new)
 event-local n g e a old new ordered (None, at, (is, same)) =
     let kept = same-local g old new ordered is same in
     ((None, found-alone g old.running ∙ at, kept.0), kept.1, kept.2)
@@ -311,7 +311,7 @@ event-local n g e a old new ordered (Some m, at, (after, s, serves, is, says)) =
       rest.1,
     )
 
-pub event-next : (n g : ℕ) (e : Event) (a : Reply) → IsNextToOthers g (λ old new. IsEventAnswered n g e old a new)
+pub event-next : (n g : ℕ) (e : Event) (a : LineReply) → IsNextToOthers g (λ old new. IsEventAnswered n g e old a new)
 event-next n g e a old own ordered (None, at, (is, same)) =
     (old, (None, sym (found-alone g old.running) ∙ at, (is, refl)), sym same)
 event-next n g e a old own ordered (Some m, at, (after, s, serves, is, says)) = (
@@ -320,7 +320,7 @@ event-next n g e a old own ordered (Some m, at, (after, s, serves, is, says)) = 
   placed-next g old own after is,
 )
 
-pub all-local : (n g : ℕ) (bytes : Bytes) (a : Reply) → IsLocal g (λ old new. AreAllAnswered n g bytes old a new)
+pub all-local : (n g : ℕ) (bytes : Bytes) (a : LineReply) → IsLocal g (λ old new. AreAllAnswered n g bytes old a new)
 all-local n g bytes a old new ordered (None, at, (is, same)) =
     let kept = same-local g old new ordered is same in
     ((None, found-alone g old.running ∙ at, kept.0), kept.1, kept.2)
@@ -331,7 +331,7 @@ all-local n g bytes a old new ordered (Some m, at, (after, answers, serves, is, 
       rest.1,
     )
 
-pub all-next : (n g : ℕ) (bytes : Bytes) (a : Reply) → IsNextToOthers g (λ old new. AreAllAnswered n g bytes old a new)
+pub all-next : (n g : ℕ) (bytes : Bytes) (a : LineReply) → IsNextToOthers g (λ old new. AreAllAnswered n g bytes old a new)
 all-next n g bytes a old own ordered (None, at, (is, same)) =
     (old, (None, sym (found-alone g old.running) ∙ at, (is, refl)), sym same)
 all-next n g bytes a old own ordered (Some m, at, (after, answers, serves, is, says)) = (
@@ -340,24 +340,24 @@ all-next n g bytes a old own ordered (Some m, at, (after, answers, serves, is, s
   placed-next g old own after is,
 )
 
-then-local : (is : Bool) (n g : ℕ) (a : Reply) (answers : Live → Reply → Live → Type 0)
+then-local : (is : Bool) (n g : ℕ) (a : LineReply) (answers : Live → LineReply → Live → Type 0)
     → IsLocal g (λ old new. answers old a new) → IsLocal g (λ old new. IsAnsweredThen is n answers old a new)
 then-local true n g a answers law old new ordered answered = law old new ordered answered
 then-local false n g a answers law old new ordered (is, same) = same-local g old new ordered is same
 
-then-next : (is : Bool) (n g : ℕ) (a : Reply) (answers : Live → Reply → Live → Type 0)
+then-next : (is : Bool) (n g : ℕ) (a : LineReply) (answers : Live → LineReply → Live → Type 0)
     → IsNextToOthers g (λ old new. answers old a new) → IsNextToOthers g (λ old new. IsAnsweredThen is n answers old a new)
 then-next true n g a answers law old own ordered answered = law old own ordered answered
 then-next false n g a answers law old own ordered (is, same) = same-next g old own is same
 
-pub once-begun-local : (n g : ℕ) (a : Reply) (answers : Live → Reply → Live → Type 0)
+pub once-begun-local : (n g : ℕ) (a : LineReply) (answers : Live → LineReply → Live → Type 0)
     → IsLocal g (λ old new. answers old a new) → IsLocal g (λ old new. IsAnsweredOnceBegun n g answers old a new)
 once-begun-local n g a answers law old new ordered (is, now, begins, answered) =
     let begin = begun-local g is old now ordered begins in
     let rest = then-local is n g a answers law now new begin.2 answered in
     ((is, alone g now, begin.0, rest.0), λ h differ. rest.1 h differ ∙ begin.1 h differ, rest.2)
 
-pub once-begun-next : (n g : ℕ) (a : Reply) (answers : Live → Reply → Live → Type 0)
+pub once-begun-next : (n g : ℕ) (a : LineReply) (answers : Live → LineReply → Live → Type 0)
     → IsNextToOthers g (λ old new. answers old a new)
     → IsNextToOthers g (λ old new. IsAnsweredOnceBegun n g answers old a new)
 once-begun-next n g a answers law old own ordered (is, now, begins, answered) =
@@ -440,33 +440,33 @@ dropped-next g taken old own ordered drops =
     (dropped-found g taken old (alone g old) own drops)
 
 -- ---- lines
-pub not-done : {X : Type 0} (a : Reply) (d : Done) → a.done ≡ None → a.done ≡ Some d → X
+pub not-done : {X : Type 0} (a : LineReply) (d : Done) → a.done ≡ None → a.done ≡ Some d → X
 not-done a d none some = absurd (cc)
 
-same-done : (d e : Done) (a : Reply) → a.done ≡ Some e → a.done ≡ Some d → d ≡ e
+same-done : (d e : Done) (a : LineReply) → a.done ≡ Some e → a.done ≡ Some d → d ≡ e
 same-done d e a one other = cc
 
 -- what was done was done to the network that the line names
-named-by-event : (n g : ℕ) (e : Event) (old new : Live) (a : Reply) (d : Done) → IsEventAnswered n g e old a new
+named-by-event : (n g : ℕ) (e : Event) (old new : Live) (a : LineReply) (d : Done) → IsEventAnswered n g e old a new
     → a.done ≡ Some d → d.network ≡ g
 named-by-event n g e old new a d (None, at, (is, same)) some = not-done a d (ap (λ x. x.done) is) some
 named-by-event n g e old new a d (Some m, at, (after, s, serves, is, says)) some =
     ap (λ x. x.network) (same-done d _ a (ap (λ x. x.done) says) some)
 
-named-by-all : (n g : ℕ) (bytes : Bytes) (old new : Live) (a : Reply) (d : Done) → AreAllAnswered n g bytes old a new
+named-by-all : (n g : ℕ) (bytes : Bytes) (old new : Live) (a : LineReply) (d : Done) → AreAllAnswered n g bytes old a new
     → a.done ≡ Some d → d.network ≡ g
 named-by-all n g bytes old new a d (None, at, (is, same)) some = not-done a d (ap (λ x. x.done) is) some
 named-by-all n g bytes old new a d (Some m, at, (after, answers, serves, is, says)) some =
     ap (λ x. x.network) (same-done d _ a (ap (λ x. x.done) says) some)
 
-named-once-begun : (n g : ℕ) (answers : Live → Reply → Live → Type 0) (old new : Live) (a : Reply) (d : Done)
+named-once-begun : (n g : ℕ) (answers : Live → LineReply → Live → Type 0) (old new : Live) (a : LineReply) (d : Done)
     → ((now : Live) → answers now a new → d.network ≡ g) → IsAnsweredOnceBegun n g answers old a new
     → a.done ≡ Some d → d.network ≡ g
 named-once-begun n g answers old new a d law (true, now, begins, answered) some = law now answered
 named-once-begun n g answers old new a d law (false, now, begins, (is, same)) some =
     not-done a d (ap (λ x. x.done) is) some
 
-named-by-answer : (n g : ℕ) (asked : Ask) (old new : Live) (a : Reply) (d : Done) → IsAnswer n g asked old a new
+named-by-answer : (n g : ℕ) (asked : Ask) (old new : Live) (a : LineReply) (d : Done) → IsAskAnswered n g asked old a new
     → a.done ≡ Some d → d.network ≡ g
 named-by-answer n g (ask.Declare x) old new a d (true, declares, is) some =
     ap (λ x. x.network) (same-done d _ a (ap (λ x. x.done) is) some)
@@ -483,8 +483,8 @@ named-by-answer n g ask.Drop old new a d (true, drops, is) some =
     ap (λ x. x.network) (same-done d _ a (ap (λ x. x.done) is) some)
 named-by-answer n g ask.Drop old new a d (false, drops, is) some = not-done a d (ap (λ x. x.done) is) some
 
-answer-local : (n g : ℕ) (asked : Ask) (old new : Live) (a : Reply) (d : Done) → IsOrdered old
-    → IsAnswer n g asked old a new → a.done ≡ Some d → HappensLocally g (λ l t. IsAnswer n g asked l a t) old new
+answer-local : (n g : ℕ) (asked : Ask) (old new : Live) (a : LineReply) (d : Done) → IsOrdered old
+    → IsAskAnswered n g asked old a new → a.done ≡ Some d → HappensLocally g (λ l t. IsAskAnswered n g asked l a t) old new
 answer-local n g (ask.Declare x) old new a d ordered (true, declares, is) some =
     let kept = declared-local g x old new ordered declares in
     ((true, kept.0, is), kept.1, kept.2)
@@ -500,8 +500,8 @@ answer-local n g ask.Drop old new a d ordered (taken, drops, is) some =
     let kept = dropped-local g taken old new ordered drops in
     ((taken, kept.0, is), kept.1, kept.2)
 
-answer-next : (n g : ℕ) (asked : Ask) (old own : Live) (a : Reply) (d : Done) → IsOrdered old → HasRoomFor g old
-    → IsAnswer n g asked (alone g old) a own → a.done ≡ Some d → HappensNextTo g (λ l t. IsAnswer n g asked l a t) old own
+answer-next : (n g : ℕ) (asked : Ask) (old own : Live) (a : LineReply) (d : Done) → IsOrdered old → HasRoomToDeclare g old
+    → IsAskAnswered n g asked (alone g old) a own → a.done ≡ Some d → HappensNextTo g (λ l t. IsAskAnswered n g asked l a t) old own
 answer-next n g (ask.Declare x) old own a d ordered room (true, declares, is) some =
     let next = declared-next g x old own room declares in
     (next.0, (true, next.1, is), next.2)
@@ -518,7 +518,7 @@ answer-next n g ask.Drop old own a d ordered room (taken, drops, is) some =
     (next.0, (taken, next.1, is), next.2)
 
 -- the line names a network to which it did something
-line-is-local : (l t : Live) (n : ℕ) (line : Option Bytes) (a : Reply) (d : Done) → IsOrdered l → Serves l n line a t
+line-is-local : (l t : Live) (n : ℕ) (line : Option Bytes) (a : LineReply) (d : Done) → IsOrdered l → Serves l n line a t
     → a.done ≡ Some d → HappensLocally d.network (λ l t. Serves l n line a t) l t
 line-is-local l t n None a d ordered (is, same) some = not-done a d (ap (λ x. x.done) is) some
 line-is-local l t n (Some line) a d ordered (inl (skipped, is, same)) some = not-done a d (ap (λ x. x.done) is) some
@@ -538,9 +538,9 @@ lines_are_local l t n line a d ordered serves some =
     let kept = line-is-local l t n line a d ordered serves some in
     (kept.0, kept.1)
 
-pub other_lines_change_nothing : OtherLinesChangeNothing
+pub other_lines_change_nothing : IdleLinesChangeNothing
 other_lines_change_nothing l t n line a serves none =
-    only_kept_lines_count l t n line a serves (by line)
+    live_only_kept_lines_count l t n line a serves (by line)
   where
     by : (line : Option Bytes) → kept_as line (is_kept a) ≡ []
     by None = refl
@@ -567,8 +567,8 @@ lines_are_answered_where_room_is l own n (Some line) a d ordered room
     let g = asked.0 in
     let same = named-by-answer n g asked.1 (alone d.network l) own a d answered some in
     let next =
-    answer-next n g asked.1 l own a d ordered (subst (λ h. HasRoomFor h l) same room)
-    (subst (λ h. IsAnswer n g asked.1 (alone h l) a own) same answered) some in
+    answer-next n g asked.1 l own a d ordered (subst (λ h. HasRoomToDeclare h l) same room)
+    (subst (λ h. IsAskAnswered n g asked.1 (alone h l) a own) same answered) some in
     let serves : Serves l n (Some line) a next.0 = inr (runs, inr (fields, are, (Some asked, of, next.1))) in (
       next.0,
       serves,

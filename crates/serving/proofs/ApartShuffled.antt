@@ -7,11 +7,11 @@ use Rattle.std.proofs.Common.{◌∙◌, refl, sym, ap, subst, inl, inr, arith, 
 use Rattle.std.proofs.lemmas.Bool.Decides.{Decides-eqb}
 use Rattle.requests.specs.Outlines.{waiting_at, waiting_without}
 use Rattle.scripts.specs.Script.{Bytes}
-use Rattle.feed.specs.Served.{Reply, Serves as ServesAll, journal_line, unanswered}
-use Rattle.feed.specs.Served.Serves.{next, none}
+use Rattle.feed.specs.Served.{LineReply, ServesAll, journal_line, unanswered}
+use Rattle.feed.specs.Served.ServesAll.{next, none}
 use Rattle.feed.specs.WholeLines.{given}
 use Rattle.feed.specs.declared.answering.Done.{Done}
-use Rattle.serving.specs.Apart.{AreAllSameButForNumbers, AreSameButForNumbers, HasRoom, IsNoneOf, IsOrdered, OrderAmongNetworksDoesNotCount, OthersStay, Own, alone, is_of, lines_of, own_of}
+use Rattle.serving.specs.Apart.{AreAllSameButForNumbers, AreSameButForNumbers, HasRoomForNetwork, IsNoneOf, IsOrdered, OrderAmongNetworksDoesNotCount, OthersStay, NetworkLine, alone, is_done_to, texts_of_lines, lines_of_network}
 use Rattle.serving.specs.Futures.{AreAlike, behind_number}
 use Rattle.serving.specs.Hosts.{Live, Serves, live_at, new_live}
 use Rattle.serving.proofs.Alone.{found-alone, live_of, removed-apart, removed-ascend, removed-is-gone, same-live}
@@ -74,28 +74,28 @@ count-among (g ∷ gs) l ordered among =
     let few = one-or-none g l (ordered.apart g) in
     omega (arith, rest, one, two, few)
 
-room-among : (gs : List ℕ) (l : Live) → length gs < 4096 → IsOrdered l → AreAmong gs l → HasRoom l
+room-among : (gs : List ℕ) (l : Live) → length gs < 4096 → IsOrdered l → AreAmong gs l → HasRoomForNetwork l
 room-among gs l few ordered among = let count = count-among gs l ordered among in omega (arith, count, few)
 
 -- ---- lines of all networks
 -- the lines of each network are served, one after the other, and leave it as it is there
-abbrev AllSteps : ℕ → (ℕ → List Own) → Live → Live → Type 0
+abbrev AllSteps : ℕ → (ℕ → List NetworkLine) → Live → Live → Type 0
 AllSteps longest owns l t = (g : ℕ) → OwnSteps longest g (owns g) (alone g l) (alone g t)
 
 -- lines are served, which are these of each network, and lead to this
-abbrev AreShuffled : ℕ → Live → Live → ℕ → (ℕ → List Own) → List Bytes → List Bytes → Type 0
+abbrev AreShuffled : ℕ → Live → Live → ℕ → (ℕ → List NetworkLine) → List Bytes → List Bytes → Type 0
 AreShuffled longest l t n owns lines journal =
     (told : Bytes) × (new : Live) × (again : ServesAll Serves longest l n lines journal told new)
-    × ((g : ℕ) → alone g new ≡ alone g t) × ((g : ℕ) → AreAllSameButForNumbers (owns g) (own_of g again))
+    × ((g : ℕ) → alone g new ≡ alone g t) × ((g : ℕ) → AreAllSameButForNumbers (owns g) (lines_of_network g again))
 
-abbrev MayBeShuffled : ℕ → List ℕ → Live → ℕ → (ℕ → List Own) → List Bytes → Type 0
+abbrev MayBeShuffled : ℕ → List ℕ → Live → ℕ → (ℕ → List NetworkLine) → List Bytes → Type 0
 MayBeShuffled longest gs t n theirs journal =
-    (l : Live) → IsOrdered l → AreAlike l l → AreAmong gs l → (owns : ℕ → List Own) → AllSteps longest owns l t
-    → ((g : ℕ) → lines_of (owns g) ≡ lines_of (theirs g)) → ((h : ℕ) → IsNoneOf h gs → theirs h ≡ [])
+    (l : Live) → IsOrdered l → AreAlike l l → AreAmong gs l → (owns : ℕ → List NetworkLine) → AllSteps longest owns l t
+    → ((g : ℕ) → texts_of_lines (owns g) ≡ texts_of_lines (theirs g)) → ((h : ℕ) → IsNoneOf h gs → theirs h ≡ [])
     → AreShuffled longest l t n owns journal journal
 
 -- ---- no line
-no-lines : (owns : List Own) → lines_of owns ≡ [] → owns ≡ []
+no-lines : (owns : List NetworkLine) → texts_of_lines owns ≡ [] → owns ≡ []
 no-lines [] is = refl
 no-lines (o ∷ owns) is = absurd (cc)
 
@@ -109,7 +109,7 @@ at-end longest gs t n l ordered alike among owns steps same out = (
 )
 
 -- ---- a line that did nothing
-with-empty : (longest : ℕ) (l t : Live) (n : ℕ) (owns : ℕ → List Own) (journal : List Bytes)
+with-empty : (longest : ℕ) (l t : Live) (n : ℕ) (owns : ℕ → List NetworkLine) (journal : List Bytes)
     → AreShuffled longest l t (n + 1) owns journal journal
     → AreShuffled longest l t n owns ([] ∷ journal) ([] ∷ journal)
 with-empty longest l t n owns journal (told, new, rest, is, same) =
@@ -117,52 +117,52 @@ with-empty longest l t n owns journal (told, new, rest, is, same) =
     subst (λ x. AreShuffled longest l t n owns ([] ∷ journal) (x ∷ journal)) empty.1
     (told, new, next unanswered empty.0 rest, is, same)
 
-shuffled-none : (longest : ℕ) (gs : List ℕ) (t : Live) (n : ℕ) (line : Bytes) (a : Reply) (theirs : ℕ → List Own)
+shuffled-none : (longest : ℕ) (gs : List ℕ) (t : Live) (n : ℕ) (line : Bytes) (a : LineReply) (theirs : ℕ → List NetworkLine)
     (journal : List Bytes) → a.done ≡ None → MayBeShuffled longest gs t (n + 1) theirs journal
     → MayBeShuffled longest gs t n (and-one n line a theirs) (journal_line (given longest line) a ∷ journal)
 shuffled-none longest gs t n line a theirs journal is later l ordered alike among owns steps same out =
     let others : (h : ℕ) → and-one n line a theirs h ≡ theirs h =
-    λ h. and-none n line a theirs h (ap (is_of h) is) in
+    λ h. and-none n line a theirs h (ap (is_done_to h) is) in
     subst (λ x. AreShuffled longest l t n owns (x ∷ journal) (x ∷ journal)) (sym (not-kept (given longest line) a is))
     (with-empty longest l t n owns journal
-    (later l ordered alike among owns steps (λ g. same g ∙ ap lines_of (others g)) (λ h none-of. sym (others h) ∙ out h none-of)))
+    (later l ordered alike among owns steps (λ g. same g ∙ ap texts_of_lines (others g)) (λ h none-of. sym (others h) ∙ out h none-of)))
 
 -- ---- a line of a network
 -- the lines of all networks, if these are left of the one
-abbrev left-of : ℕ → List Own → (ℕ → List Own) → ℕ → List Own
+abbrev left-of : ℕ → List NetworkLine → (ℕ → List NetworkLine) → ℕ → List NetworkLine
 left-of k os owns h = if h == k then os else owns h
 
-with-one : (longest k : ℕ) (l now t : Live) (n : ℕ) (line : Bytes) (b : Reply) (o : Own) (os : List Own)
-    (owns : ℕ → List Own) (journal : List Bytes) → Serves l n (given longest line) b now → is_of k b.done ≡ true
-    → ((h : ℕ) → h ≢ k → is_of h b.done ≡ false) → owns k ≡ o ∷ os
+with-one : (longest k : ℕ) (l now t : Live) (n : ℕ) (line : Bytes) (b : LineReply) (o : NetworkLine) (os : List NetworkLine)
+    (owns : ℕ → List NetworkLine) (journal : List Bytes) → Serves l n (given longest line) b now → is_done_to k b.done ≡ true
+    → ((h : ℕ) → h ≢ k → is_done_to h b.done ≡ false) → owns k ≡ o ∷ os
     → AreSameButForNumbers o (record { number = n; line = line; reply = b })
     → AreShuffled longest now t (n + 1) (left-of k os owns) journal journal
     → AreShuffled longest l t n owns (line ∷ journal) (journal_line (given longest line) b ∷ journal)
 with-one longest k l now t n line b o os owns journal serves its not-its first one (told, new, rest, is, same) =
     (b.text ++ told, new, next b serves rest, is, λ h. by h (h == k) refl (same h))
   where
-    here : AreAllSameButForNumbers os (own_of k rest)
-        → AreAllSameButForNumbers (owns k) (and-one n line b (λ h. own_of h rest) k)
+    here : AreAllSameButForNumbers os (lines_of_network k rest)
+        → AreAllSameButForNumbers (owns k) (and-one n line b (λ h. lines_of_network h rest) k)
     here others =
-        subst (λ x. AreAllSameButForNumbers x (and-one n line b (λ h. own_of h rest) k)) (sym first)
+        subst (λ x. AreAllSameButForNumbers x (and-one n line b (λ h. lines_of_network h rest) k)) (sym first)
         (subst
         (λ is. AreAllSameButForNumbers (o ∷ os)
-        (if is then record { number = n; line = line; reply = b } ∷ own_of k rest else own_of k rest))
+        (if is then record { number = n; line = line; reply = b } ∷ lines_of_network k rest else lines_of_network k rest))
         (sym its) (one, others))
 
-    by : (h : ℕ) (is : Bool) → (h == k) ≡ is → AreAllSameButForNumbers (if is then os else owns h) (own_of h rest)
-        → AreAllSameButForNumbers (owns h) (and-one n line b (λ h. own_of h rest) h)
+    by : (h : ℕ) (is : Bool) → (h == k) ≡ is → AreAllSameButForNumbers (if is then os else owns h) (lines_of_network h rest)
+        → AreAllSameButForNumbers (owns h) (and-one n line b (λ h. lines_of_network h rest) h)
     by h true at others =
         let e : h ≡ k = (Decides-eqb h k).0 at in
-        subst (λ x. AreAllSameButForNumbers (owns x) (and-one n line b (λ h. own_of h rest) x)) (sym e)
-        (here (subst (λ x. AreAllSameButForNumbers os (own_of x rest)) e others))
+        subst (λ x. AreAllSameButForNumbers (owns x) (and-one n line b (λ h. lines_of_network h rest) x)) (sym e)
+        (here (subst (λ x. AreAllSameButForNumbers os (lines_of_network x rest)) e others))
     by h false at others =
         subst (AreAllSameButForNumbers (owns h))
-        (sym (and-none n line b (λ h. own_of h rest) h
+        (sym (and-none n line b (λ h. lines_of_network h rest) h
         (not-its h (λ e. true≢false (sym ((Decides-eqb h k).1 e) ∙ at))))) others
 
 -- what is left of the lines of all networks once one of the one was served
-steps-left : (longest k : ℕ) (l now t : Live) (os : List Own) (owns : ℕ → List Own) → AllSteps longest owns l t
+steps-left : (longest k : ℕ) (l now t : Live) (os : List NetworkLine) (owns : ℕ → List NetworkLine) → AllSteps longest owns l t
     → OwnSteps longest k os (alone k now) (alone k t) → OthersStay k l now → AllSteps longest (left-of k os owns) now t
 steps-left longest k l now t os owns steps more stay h = by (h == k) refl
   where
@@ -173,19 +173,19 @@ steps-left longest k l now t os owns steps more stay h = by (h == k) refl
         subst (λ x. OwnSteps longest h (owns h) x (alone h t))
         (sym (stay h (λ e. true≢false (sym ((Decides-eqb h k).1 e) ∙ at)))) (steps h)
 
-lines-left : (k n : ℕ) (line : Bytes) (a : Reply) (os : List Own) (owns theirs : ℕ → List Own)
-    → ((h : ℕ) → h ≢ k → is_of h a.done ≡ false) → ((g : ℕ) → lines_of (owns g) ≡ lines_of (and-one n line a theirs g))
-    → lines_of os ≡ lines_of (theirs k) → (h : ℕ) → lines_of (left-of k os owns h) ≡ lines_of (theirs h)
+lines-left : (k n : ℕ) (line : Bytes) (a : LineReply) (os : List NetworkLine) (owns theirs : ℕ → List NetworkLine)
+    → ((h : ℕ) → h ≢ k → is_done_to h a.done ≡ false) → ((g : ℕ) → texts_of_lines (owns g) ≡ texts_of_lines (and-one n line a theirs g))
+    → texts_of_lines os ≡ texts_of_lines (theirs k) → (h : ℕ) → texts_of_lines (left-of k os owns h) ≡ texts_of_lines (theirs h)
 lines-left k n line a os owns theirs not-its same others h = by (h == k) refl
   where
-    by : (is : Bool) → (h == k) ≡ is → lines_of (if is then os else owns h) ≡ lines_of (theirs h)
-    by true at = others ∙ ap (λ x. lines_of (theirs x)) (sym ((Decides-eqb h k).0 at))
+    by : (is : Bool) → (h == k) ≡ is → texts_of_lines (if is then os else owns h) ≡ texts_of_lines (theirs h)
+    by true at = others ∙ ap (λ x. texts_of_lines (theirs x)) (sym ((Decides-eqb h k).0 at))
     by false at =
-        same h ∙ ap lines_of
+        same h ∙ ap texts_of_lines
         (and-none n line a theirs h (not-its h (λ e. true≢false (sym ((Decides-eqb h k).1 e) ∙ at))))
 
 -- a network that has a line is among them
-has-line : (k n : ℕ) (line : Bytes) (a : Reply) (gs : List ℕ) (theirs : ℕ → List Own) → is_of k a.done ≡ true
+has-line : (k n : ℕ) (line : Bytes) (a : LineReply) (gs : List ℕ) (theirs : ℕ → List NetworkLine) → is_done_to k a.done ≡ true
     → ((h : ℕ) → IsNoneOf h gs → and-one n line a theirs h ≡ []) → (h : ℕ) → IsNoneOf h gs → h ≢ k
 has-line k n line a gs theirs its out h none-of e =
     let no : record { number = n; line = line; reply = a } ∷ theirs k ≡ [] =
@@ -202,25 +202,25 @@ still-among k gs l now among stay differ h none-of =
           ∙ found-alone h l.running ∙ (among h none-of).1,
     )
 
-shuffled-one : (longest : ℕ) (gs : List ℕ) (s after t : Live) (n : ℕ) (line : Bytes) (a : Reply) (d : Done)
-    (theirs : ℕ → List Own) (journal : List Bytes) → length gs < 4096 → Serves s n (given longest line) a after
+shuffled-one : (longest : ℕ) (gs : List ℕ) (s after t : Live) (n : ℕ) (line : Bytes) (a : LineReply) (d : Done)
+    (theirs : ℕ → List NetworkLine) (journal : List Bytes) → length gs < 4096 → Serves s n (given longest line) a after
     → a.done ≡ Some d → MayBeShuffled longest gs t (n + 1) theirs journal
     → MayBeShuffled longest gs t n (and-one n line a theirs) (journal_line (given longest line) a ∷ journal)
 shuffled-one longest gs s after t n line a d theirs journal few was-served some later l ordered alike among owns steps same
     out =
     by (owns d.network) refl
   where
-    its : is_of d.network a.done ≡ true
+    its : is_done_to d.network a.done ≡ true
     its = of-it d.network a.done d some refl
 
-    lines-here : lines_of (owns d.network) ≡ line ∷ lines_of (theirs d.network)
+    lines-here : texts_of_lines (owns d.network) ≡ line ∷ texts_of_lines (theirs d.network)
     lines-here =
         same d.network ∙ ap
-        (λ b. lines_of
+        (λ b. texts_of_lines
         (if b then record { number = n; line = line; reply = a } ∷ theirs d.network else theirs d.network)) its
 
-    served-so : (o : Own) (os : List Own) (own : Live) (e : Done) → owns d.network ≡ o ∷ os → (o.line ≡ line)
-        × (lines_of os ≡ lines_of (theirs d.network)) → Serves (alone d.network l) o.number (given longest o.line) o.reply own
+    served-so : (o : NetworkLine) (os : List NetworkLine) (own : Live) (e : Done) → owns d.network ≡ o ∷ os → (o.line ≡ line)
+        × (texts_of_lines os ≡ texts_of_lines (theirs d.network)) → Serves (alone d.network l) o.number (given longest o.line) o.reply own
         → o.reply.done ≡ Some e → e.network ≡ d.network → OwnSteps longest d.network os own (alone d.network t)
         → (now : Live) → Serves l o.number (given longest line) o.reply now → alone d.network now ≡ own
         → OthersStay d.network l now
@@ -228,10 +228,10 @@ shuffled-one longest gs s after t n line a d theirs journal few was-served some 
         (journal_line (given longest line) a ∷ journal)
     served-so o os own e first (same-line, others) served done of-it-too more now serves own-is stay =
         let numbered = numbers_stand_in_front l now o.number (given longest line) o.reply alike serves in
-        let b : Reply = record { text = behind_number n numbered.0; done = o.reply.done } in
-        let not-its : (h : ℕ) → h ≢ d.network → is_of h o.reply.done ≡ false =
+        let b : LineReply = record { text = behind_number n numbered.0; done = o.reply.done } in
+        let not-its : (h : ℕ) → h ≢ d.network → is_done_to h o.reply.done ≡ false =
         λ h differ. not-of h o.reply.done e done (λ is. differ (sym is ∙ of-it-too)) in
-        let not-a : (h : ℕ) → h ≢ d.network → is_of h a.done ≡ false =
+        let not-a : (h : ℕ) → h ≢ d.network → is_done_to h a.done ≡ false =
         λ h differ. not-of h a.done d some (λ is. differ (sym is)) in
         let differ = has-line d.network n line a gs theirs its out in
         subst (λ x. AreShuffled longest l t n owns (x ∷ journal) (x ∷ journal))
@@ -255,13 +255,13 @@ shuffled-one longest gs s after t n line a d theirs journal few was-served some 
         (lines-left d.network n line a os owns theirs not-a same others)
         (λ h none-of. sym (and-none n line a theirs h (not-a h (differ h none-of))) ∙ out h none-of))))
 
-    begin : (o : Own) (os : List Own) → owns d.network ≡ o ∷ os
+    begin : (o : NetworkLine) (os : List NetworkLine) → owns d.network ≡ o ∷ os
         → OwnSteps longest d.network (o ∷ os) (alone d.network l) (alone d.network t)
         → AreShuffled longest l t n owns (journal_line (given longest line) a ∷ journal)
         (journal_line (given longest line) a ∷ journal)
     begin o os first (own, e, served, done, of-it-too, more) =
         let both =
-        same-first o.line line (lines_of os) (lines_of (theirs d.network)) (sym (ap lines_of first) ∙ lines-here) in
+        same-first o.line line (texts_of_lines os) (texts_of_lines (theirs d.network)) (sym (ap texts_of_lines first) ∙ lines-here) in
         let here : Serves (alone e.network l) o.number (given longest line) o.reply own =
         subst (λ h. Serves (alone h l) o.number (given longest line) o.reply own) (sym of-it-too)
         (subst (λ x. Serves (alone d.network l) o.number (given longest x) o.reply own) both.0 served) in
@@ -271,11 +271,11 @@ shuffled-one longest gs s after t n line a d theirs journal few was-served some 
         served-so o os own e first both served done of-it-too more lift.0 lift.1
         (subst (λ h. alone h lift.0 ≡ own) of-it-too lift.2) (subst (λ h. OthersStay h l lift.0) of-it-too lift.3)
 
-    by : (os : List Own) → owns d.network ≡ os
+    by : (os : List NetworkLine) → owns d.network ≡ os
         → AreShuffled longest l t n owns (journal_line (given longest line) a ∷ journal)
         (journal_line (given longest line) a ∷ journal)
     by [] first =
-        let no : [] ≡ line ∷ lines_of (theirs d.network) = sym (ap lines_of first) ∙ lines-here in
+        let no : [] ≡ line ∷ texts_of_lines (theirs d.network) = sym (ap texts_of_lines first) ∙ lines-here in
         absurd (cc)
     by (o ∷ os) first =
         begin o os first
@@ -284,17 +284,17 @@ shuffled-one longest gs s after t n line a d theirs journal few was-served some 
 -- ---- all lines
 shuffled : (longest : ℕ) (gs : List ℕ) (t : Live) → length gs < 4096 → {s u : Live} {n : ℕ} {lines journal : List Bytes}
     {text : Bytes} (other : ServesAll Serves longest s n lines journal text u)
-    → MayBeShuffled longest gs t n (λ h. own_of h other) journal
+    → MayBeShuffled longest gs t n (λ h. lines_of_network h other) journal
 shuffled longest gs t few (none {s} {n}) = at-end longest gs t n
 shuffled longest gs t few (next {s} {t = after} {n} {line} {journal} a serves others) =
     by a.done refl (shuffled longest gs t few others)
   where
-    by : (o : Option Done) → a.done ≡ o → MayBeShuffled longest gs t (n + 1) (λ h. own_of h others) journal
-        → MayBeShuffled longest gs t n (and-one n line a (λ h. own_of h others))
+    by : (o : Option Done) → a.done ≡ o → MayBeShuffled longest gs t (n + 1) (λ h. lines_of_network h others) journal
+        → MayBeShuffled longest gs t n (and-one n line a (λ h. lines_of_network h others))
         (journal_line (given longest line) a ∷ journal)
-    by None not-any later = shuffled-none longest gs t n line a (λ h. own_of h others) journal not-any later
+    by None not-any later = shuffled-none longest gs t n line a (λ h. lines_of_network h others) journal not-any later
     by (Some d) some later =
-        shuffled-one longest gs s after t n line a d (λ h. own_of h others) journal few serves some later
+        shuffled-one longest gs s after t n line a d (λ h. lines_of_network h others) journal few serves some later
 
 -- hosts are the same whose networks are the same, each one alone
 pub same-by-networks : (l t : Live) → IsOrdered l → IsOrdered t → ((g : ℕ) → alone g l ≡ alone g t) → l ≡ t
@@ -310,15 +310,15 @@ pub order_among_networks_does_not_count : OrderAmongNetworksDoesNotCount
 order_among_networks_does_not_count longest bytes n lines journal text t run m other_lines other_journal other_text u other
     gs few out same =
     by (shuffled longest gs t few other (new_live bytes) (begins-ordered bytes) (begins-alike bytes) (λ h none-of. (refl, refl))
-    (λ g. own_of g run) (λ g. steps-of longest g run (begins-ordered bytes)) same out)
+    (λ g. lines_of_network g run) (λ g. steps-of longest g run (begins-ordered bytes)) same out)
   where
-    by : AreShuffled longest (new_live bytes) t m (λ g. own_of g run) other_journal other_journal
+    by : AreShuffled longest (new_live bytes) t m (λ g. lines_of_network g run) other_journal other_journal
         → (told : Bytes) × (again : ServesAll Serves longest (new_live bytes) m other_journal other_journal told t)
-        × ((g : ℕ) → AreAllSameButForNumbers (own_of g run) (own_of g again))
+        × ((g : ℕ) → AreAllSameButForNumbers (lines_of_network g run) (lines_of_network g again))
     by (told, new, again, is, answered) =
         subst
         (λ x. (told : Bytes) × (again : ServesAll Serves longest (new_live bytes) m other_journal other_journal told x)
-        × ((g : ℕ) → AreAllSameButForNumbers (own_of g run) (own_of g again)))
+        × ((g : ℕ) → AreAllSameButForNumbers (lines_of_network g run) (lines_of_network g again)))
         (same-by-networks new t (stays-ordered longest again (begins-ordered bytes))
         (stays-ordered longest run (begins-ordered bytes)) is)
         (told, again, answered)

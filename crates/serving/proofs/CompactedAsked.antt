@@ -6,41 +6,41 @@ use Rattle.types.specs.declared.event.Event.{Event}
 use Rattle.network.specs.Standing.{Machine}
 use Rattle.protocol.specs.Hosts.{Config}
 use Rattle.scripts.specs.Script.{Bytes}
-use Rattle.feed.specs.Served.{Reply}
+use Rattle.feed.specs.Served.{LineReply}
 use Rattle.feed.specs.declared.answering.Done.{Done}
-use Rattle.requests.specs.Asking.{IsAsked}
+use Rattle.requests.specs.Asking.{IsAskedOf}
 use Rattle.requests.specs.Outlines.{IsConfigOf, Outlined, waiting_at}
 use Rattle.requests.specs.declared.ask.Ask.{Ask}
 use Rattle.requests.specs.declared.ask.Ask.TheVariants as ask
-use Rattle.serving.specs.Compacted.{one_runs, one_waits}
-use Rattle.serving.specs.Hosts.{AreAllAnswered, IsAnswer, IsAnsweredOnceBegun, IsEventAnswered, IsStarted, Live, Serves, begun, live_at, live_at, with_live}
+use Rattle.serving.specs.Lowering.{waits_alone, runs_alone}
+use Rattle.serving.specs.Hosts.{AreAllAnswered, IsAnsweredOnceBegun, IsAskAnswered, IsEventAnswered, IsStarted, Live, Serves, begun, live_at, live_at, with_live}
 use Rattle.serving.proofs.Alone.{at-itself, found-only, same-live}
 use Rattle.serving.proofs.ApartLines.{not-done}
 
-same-done : (d e : Done) (a : Reply) → a.done ≡ Some e → a.done ≡ Some d → d ≡ e
+same-done : (d e : Done) (a : LineReply) → a.done ≡ Some e → a.done ≡ Some d → d ≡ e
 same-done d e a one other = cc
 
 -- ---- whose line it is
-event-names : (n g : ℕ) (e : Event) (old new : Live) (a : Reply) (d : Done) → IsEventAnswered n g e old a new
+event-names : (n g : ℕ) (e : Event) (old new : Live) (a : LineReply) (d : Done) → IsEventAnswered n g e old a new
     → a.done ≡ Some d → d.network ≡ g
 event-names n g e old new a d (None, at, (is, same)) some = not-done a d (ap (λ x. x.done) is) some
 event-names n g e old new a d (Some m, at, (after, s, serves, is, says)) some =
     ap (λ x. x.network) (same-done d _ a (ap (λ x. x.done) says) some)
 
-all-name : (n g : ℕ) (bytes : Bytes) (old new : Live) (a : Reply) (d : Done) → AreAllAnswered n g bytes old a new
+all-name : (n g : ℕ) (bytes : Bytes) (old new : Live) (a : LineReply) (d : Done) → AreAllAnswered n g bytes old a new
     → a.done ≡ Some d → d.network ≡ g
 all-name n g bytes old new a d (None, at, (is, same)) some = not-done a d (ap (λ x. x.done) is) some
 all-name n g bytes old new a d (Some m, at, (after, answers, serves, is, says)) some =
     ap (λ x. x.network) (same-done d _ a (ap (λ x. x.done) says) some)
 
-once-begun-names : (n g : ℕ) (answers : Live → Reply → Live → Type 0) (old new : Live) (a : Reply) (d : Done)
+once-begun-names : (n g : ℕ) (answers : Live → LineReply → Live → Type 0) (old new : Live) (a : LineReply) (d : Done)
     → ((now : Live) → answers now a new → d.network ≡ g) → IsAnsweredOnceBegun n g answers old a new
     → a.done ≡ Some d → d.network ≡ g
 once-begun-names n g answers old new a d law (true, now, begins, answered) some = law now answered
 once-begun-names n g answers old new a d law (false, now, begins, (is, same)) some =
     not-done a d (ap (λ x. x.done) is) some
 
-answer-names : (n g : ℕ) (asked : Ask) (old new : Live) (a : Reply) (d : Done) → IsAnswer n g asked old a new
+answer-names : (n g : ℕ) (asked : Ask) (old new : Live) (a : LineReply) (d : Done) → IsAskAnswered n g asked old a new
     → a.done ≡ Some d → d.network ≡ g
 answer-names n g (ask.Declare x) old new a d (true, declares, is) some =
     ap (λ x. x.network) (same-done d _ a (ap (λ x. x.done) is) some)
@@ -58,14 +58,14 @@ answer-names n g ask.Drop old new a d (false, drops, is) some = not-done a d (ap
 
 -- ---- what it asks
 -- the line asks for this, and whoever answers to this answers to the line
-pub record Asks (n g : ℕ) (line : Option Bytes) (old : Live) (a : Reply) (new : Live) : Type 0 where
+pub record Asks (n g : ℕ) (line : Option Bytes) (old : Live) (a : LineReply) (new : Live) : Type 0 where
   pub asked : Ask
   pub fields : List Bytes
-  pub is_asked : IsAsked fields (Some (g, asked))
-  pub answered : IsAnswer n g asked old a new
-  pub back : (k : ℕ) (other after : Live) (b : Reply) → IsAnswer k g asked other b after → Serves other k line b after
+  pub is_asked : IsAskedOf fields (Some (g, asked))
+  pub answered : IsAskAnswered n g asked old a new
+  pub back : (k : ℕ) (other after : Live) (b : LineReply) → IsAskAnswered k g asked other b after → Serves other k line b after
 
-pub what-it-asks : (n : ℕ) (line : Option Bytes) (old new : Live) (a : Reply) (d : Done) → Serves old n line a new
+pub what-it-asks : (n : ℕ) (line : Option Bytes) (old new : Live) (a : LineReply) (d : Done) → Serves old n line a new
     → a.done ≡ Some d → Asks n d.network line old a new
 what-it-asks n None old new a d (is, same) some = not-done a d (ap (λ x. x.done) is) some
 what-it-asks n (Some line) old new a d (inl (skipped, is, same)) some = not-done a d (ap (λ x. x.done) is) some
@@ -88,16 +88,16 @@ what-it-asks n (Some line) old new a d (inr (runs, inr (fields, are, (Some what,
 pub waits-there : (g : ℕ) (d : Outlined) → waiting_at ((g, d) ∷ []) g ≡ Some d
 waits-there g d = found-only g (Some d)
 
-pub runs-there : (bytes : Bool) (g : ℕ) (m : Machine) → live_at (one_runs bytes g m) g ≡ Some m
+pub runs-there : (bytes : Bool) (g : ℕ) (m : Machine) → live_at (runs_alone bytes g m) g ≡ Some m
 runs-there bytes g m = found-only g (Some m)
 
-pub placed : (bytes : Bool) (g : ℕ) (m after : Machine) → with_live (one_runs bytes g m) g after ≡ one_runs bytes g after
+pub placed : (bytes : Bool) (g : ℕ) (m after : Machine) → with_live (runs_alone bytes g m) g after ≡ runs_alone bytes g after
 placed bytes g m after =
     ap (λ o. record { bytes = bytes; waiting = []; running = cond (is_eq o) ((g, after) ∷ []) ((g, m) ∷ []) }) (at-itself g)
 
 -- one that waits begins
-begins-as : (bytes : Bool) (g : ℕ) (d : Outlined) (now : Live) → IsStarted (Some d) g (one_waits bytes g d) now
-    → (c : Config) × IsConfigOf g d c × (now ≡ one_runs bytes g (begun c))
+begins-as : (bytes : Bool) (g : ℕ) (d : Outlined) (now : Live) → IsStarted (Some d) g (waits_alone bytes g d) now
+    → (c : Config) × IsConfigOf g d c × (now ≡ runs_alone bytes g (begun c))
 begins-as bytes g d now (c, of, waiting, running, is) = (
   c,
   of,
@@ -106,31 +106,31 @@ begins-as bytes g d now (c, of, waiting, running, is) = (
 )
 
 begins-so : (bytes : Bool) (g : ℕ) (d : Outlined) (c : Config) → IsConfigOf g d c
-    → IsStarted (Some d) g (one_waits bytes g d) (one_runs bytes g (begun c))
+    → IsStarted (Some d) g (waits_alone bytes g d) (runs_alone bytes g (begun c))
 begins-so bytes g d c of = (c, of, ap (λ o. cond (is_eq o) [] ((g, d) ∷ [])) (sym (at-itself g)), refl, refl)
 
 -- an event is answered where the network has begun, and there an event of it is answered likewise
-pub begins-then : (n g : ℕ) (bytes : Bool) (answers : Live → Reply → Live → Type 0) (d : Outlined) (a : Reply) (did : Done)
-    (new : Live) → a.done ≡ Some did → IsAnsweredOnceBegun n g answers (one_waits bytes g d) a new
-    → (c : Config) × IsConfigOf g d c × IsAnsweredOnceBegun n g answers (one_runs bytes g (begun c)) a new
+pub begins-then : (n g : ℕ) (bytes : Bool) (answers : Live → LineReply → Live → Type 0) (d : Outlined) (a : LineReply) (did : Done)
+    (new : Live) → a.done ≡ Some did → IsAnsweredOnceBegun n g answers (waits_alone bytes g d) a new
+    → (c : Config) × IsConfigOf g d c × IsAnsweredOnceBegun n g answers (runs_alone bytes g (begun c)) a new
 begins-then n g bytes answers d a did new some (false, now, begins, (is, same)) =
     not-done a did (ap (λ x. x.done) is) some
 begins-then n g bytes answers d a did new some (true, now, begins, answered) =
-    let begin = begins-as bytes g d now (subst (λ o. IsStarted o g (one_waits bytes g d) now) (waits-there g d) begins) in (
+    let begin = begins-as bytes g d now (subst (λ o. IsStarted o g (waits_alone bytes g d) now) (waits-there g d) begins) in (
       begin.0,
       begin.1,
-      (true, one_runs bytes g (begun begin.0), refl, subst (λ l. answers l a new) begin.2 answered),
+      (true, runs_alone bytes g (begun begin.0), refl, subst (λ l. answers l a new) begin.2 answered),
     )
 
-pub runs-then : (n g : ℕ) (bytes : Bool) (answers : Live → Reply → Live → Type 0) (d : Outlined) (c : Config) (a : Reply)
+pub runs-then : (n g : ℕ) (bytes : Bool) (answers : Live → LineReply → Live → Type 0) (d : Outlined) (c : Config) (a : LineReply)
     (did : Done) (new : Live) → a.done ≡ Some did → IsConfigOf g d c
-    → IsAnsweredOnceBegun n g answers (one_runs bytes g (begun c)) a new
-    → IsAnsweredOnceBegun n g answers (one_waits bytes g d) a new
+    → IsAnsweredOnceBegun n g answers (runs_alone bytes g (begun c)) a new
+    → IsAnsweredOnceBegun n g answers (waits_alone bytes g d) a new
 runs-then n g bytes answers d c a did new some of (false, now, begins, (is, same)) =
     not-done a did (ap (λ x. x.done) is) some
 runs-then n g bytes answers d c a did new some of (true, now, same, answered) = (
   true,
-  one_runs bytes g (begun c),
-  subst (λ o. IsStarted o g (one_waits bytes g d) (one_runs bytes g (begun c))) (sym (waits-there g d)) (begins-so bytes g d c of),
+  runs_alone bytes g (begun c),
+  subst (λ o. IsStarted o g (waits_alone bytes g d) (runs_alone bytes g (begun c))) (sym (waits-there g d)) (begins-so bytes g d c of),
   subst (λ l. answers l a new) same answered,
 )

@@ -7,7 +7,7 @@ use Rattle.protocol.specs.Hosts.{Config}
 use Rattle.protocol.specs.Rosters.{Roster, Shares}
 use Rattle.network.specs.Standing.{Machine}
 use Rattle.scripts.specs.Script.{Bytes}
-use Rattle.feed.specs.Lasting.{Declaration, Lines, NetworkLines, SlotLines, lost_at, lowered, nothing_drawn, value_at}
+use Rattle.feed.specs.Lasting.{Declaration, Lines, NetworkLines, SlotLines, entry_at, lost_at, lowered, nothing_drawn}
 use Rattle.feed.specs.WholeLines.{given}
 use Rattle.feed.specs.declared.answering.Deed.{Deed}
 use Rattle.feed.specs.declared.answering.Deed.TheVariants as deed
@@ -16,14 +16,14 @@ use Rattle.requests.specs.Outlines.{IsConfigOf, Outlined, waiting_at}
 use Rattle.requests.specs.declared.ask.Ask.{Ask}
 use Rattle.requests.specs.declared.ask.Ask.TheVariants as ask
 use Rattle.serving.specs.Apart.{alone}
-use Rattle.serving.specs.Compacted.{Act, AppliedLine, AreNoted, AreNumbered, AreServedFor, DeclarationsMayBeLowered, DoAll, IsKnown, IsMade, IsMadeAs, IsNamed, IsShortened, IsUnnamed, NamingLinesBegin, act_of, at_slot, declarations_of, declared_text, declaring, done_by, naming_line, of_network, one_runs, one_waits, short_tags, slot_lines}
+use Rattle.serving.specs.Compacted.{AppliedLine, AreLinesKnown, AreLinesNoted, AreNumbered, AreServedFor, DeclarationsMayBeLowered, DoAll, IsMade, IsMadeAs, IsNamedNetwork, IsShortened, IsUnnamed, LineDeed, NamingLinesBegin, declarations_of, declared_text, declaring, done_as, line_deed_of, lines_at_slot, naming_line, of_network, short_tags, slot_lines}
 use Rattle.serving.specs.Compacted.AreServedFor.{next_served, none_served}
-use Rattle.serving.specs.Compacted.DoAll.{no_act, one_act}
-use Rattle.serving.specs.Erasing.{AreRun, Line}
-use Rattle.serving.specs.Erasing.AreRun.{ended}
+use Rattle.serving.specs.Compacted.DoAll.{no_deed, one_deed}
+use Rattle.serving.specs.Erasing.{AreServedInTurn, Line}
+use Rattle.serving.specs.Erasing.AreServedInTurn.{ended}
 use Rattle.serving.specs.Futures.{AreAlike, IsAlike, moved_config, moved_roster}
-use Rattle.serving.specs.Hosts.{AreAllAnswered, IsAnswer, IsEventAnswered, Live, Serves, begun, live_at, new_live}
-use Rattle.serving.specs.Lowering.{AreDeclared, less_config, less_outline, less_reserved, less_roster}
+use Rattle.serving.specs.Hosts.{AreAllAnswered, IsAskAnswered, IsEventAnswered, Live, Serves, begun, live_at, new_live}
+use Rattle.serving.specs.Lowering.{AreDeclared, less_config, less_outline, less_reserved, less_roster, waits_alone, runs_alone}
 use Rattle.serving.specs.Lowering.AreDeclared.{next_line as next_declared, none_left as none_declared}
 use Rattle.serving.specs.Merging.{AreBothAlike, RunsAlone, lines_for}
 use Rattle.serving.specs.Merging.RunsAlone.{next_line, none_left}
@@ -44,14 +44,14 @@ use Rattle.serving.specs.Futures.{behind_number}
 use Rattle.serving.specs.Futures.AreAllAlike.{none_runs}
 
 -- ---- lines that act run alone
-abbrev line_of : Act → Bytes
+abbrev line_of : LineDeed → Bytes
 line_of a = a.line
 
-runs-alone : (longest g : ℕ) {l t : Live} {acts : List Act} → DoAll longest g l acts t
+runs-alone : (longest g : ℕ) {l t : Live} {acts : List LineDeed} → DoAll longest g l acts t
     → RunsAlone longest g l (map line_of acts) t
-runs-alone longest g no_act = none_left
-runs-alone longest g (one_act n text act serves others) =
-    next_line n (replied text g act.deed) (done_by g act.deed) serves refl refl (runs-alone longest g others)
+runs-alone longest g no_deed = none_left
+runs-alone longest g (one_deed n text act serves others) =
+    next_line n (replied text g act.deed) (done_as g act.deed) serves refl refl (runs-alone longest g others)
 
 run-both : {longest g : ℕ} {l now : Live} {lines : List Bytes} → RunsAlone longest g l lines now
     → {more : List Bytes} {t : Live} → RunsAlone longest g now more t → RunsAlone longest g l (lines ++ more) t
@@ -62,7 +62,7 @@ declared-lines : (texts : List Bytes) → map line_of (map declaring texts) ≡ 
 declared-lines [] = refl
 declared-lines (text ∷ texts) = ap (λ l. text ∷ l) (declared-lines texts)
 
-acted-lines : (es : List AppliedLine) → map line_of (map act_of es) ≡ map applied_text es
+acted-lines : (es : List AppliedLine) → map line_of (map line_deed_of es) ≡ map applied_text es
 acted-lines [] = refl
 acted-lines (e ∷ es) = ap (λ l. e.text ∷ l) (acted-lines es)
 
@@ -76,24 +76,24 @@ alike-after l t n longest line text g d alike serves =
 -- from any number on
 are-declared : (longest g k : ℕ) (texts : List Bytes) {l t : Live} → DoAll longest g l (map declaring texts) t → AreAlike l l
     → AreDeclared longest g l k texts t
-are-declared longest g k [] no_act alike = none_declared
-are-declared longest g k (line ∷ texts) {l} (one_act {now} n text act serves others) alike =
+are-declared longest g k [] no_deed alike = none_declared
+are-declared longest g k (line ∷ texts) {l} (one_deed {now} n text act serves others) alike =
     let front = numbers_stand_in_front l now n (given longest line) (replied text g deed.Declared) alike serves in
-    next_declared (record { text = behind_number k front.0; done = Some (done_by g deed.Declared) }) (front.2 k) refl
+    next_declared (record { text = behind_number k front.0; done = Some (done_as g deed.Declared) }) (front.2 k) refl
     (are-declared longest g (k + 1) texts others (alike-after l now n longest line text g deed.Declared alike serves))
 
 all-declare : (longest g : ℕ) {l t : Live} {n : ℕ} {texts : List Bytes} → AreDeclared longest g l n texts t
     → DoAll longest g l (map declaring texts) t
-all-declare longest g none_declared = no_act
+all-declare longest g none_declared = no_deed
 all-declare longest g (next_declared {s} {t} {n} {line} a serves is others) =
-    one_act n a.text (declaring line)
+    one_deed n a.text (declaring line)
     (subst (λ o. Serves s n (given longest line) (record { text = a.text; done = o }) t) is serves)
     (all-declare longest g others)
 
 pub declarations_may_be_lowered : DeclarationsMayBeLowered
 declarations_may_be_lowered longest bytes g texts d o declared =
     all-declare longest g
-    (lowered_declarations_declare_less d longest g 1 1 (new_live bytes) (one_waits bytes g o) texts
+    (lowered_declarations_declare_less d longest g 1 1 (new_live bytes) (waits_alone bytes g o) texts
     (are-declared longest g 1 texts declared (record { bytes = refl; waiting = refl; running = none_runs })))
 
 -- ---- with less, and back
@@ -140,30 +140,30 @@ outline-whole o =
 -- ---- the first event begins
 first-begins : (longest : ℕ) (bytes : Bool) (g n : ℕ) (line text : Bytes) (d : Deed) (o : Outlined) (c : Config) (t : Live)
     → IsEventDeed d → IsConfigOf g o c
-    → Serves (one_runs bytes g (begun c)) n (given longest line) (replied text g d) t
-    → Serves (one_waits bytes g o) n (given longest line) (replied text g d) t
+    → Serves (runs_alone bytes g (begun c)) n (given longest line) (replied text g d) t
+    → Serves (waits_alone bytes g o) n (given longest line) (replied text g d) t
 first-begins longest bytes g n line text d o c t event of serves =
-    let asks = what-it-asks n (given longest line) (one_runs bytes g (begun c)) t (replied text g d) (done_by g d) serves refl in
-    asks.back n (one_waits bytes g o) t (replied text g d) (by asks.asked asks.answered)
+    let asks = what-it-asks n (given longest line) (runs_alone bytes g (begun c)) t (replied text g d) (done_as g d) serves refl in
+    asks.back n (waits_alone bytes g o) t (replied text g d) (by asks.asked asks.answered)
   where
-    by : (asked : Ask) → IsAnswer n g asked (one_runs bytes g (begun c)) (replied text g d) t
-        → IsAnswer n g asked (one_waits bytes g o) (replied text g d) t
-    by (ask.Declare x) (false, declares, is) = not-done (replied text g d) (done_by g d) (ap (λ x. x.done) is) refl
+    by : (asked : Ask) → IsAskAnswered n g asked (runs_alone bytes g (begun c)) (replied text g d) t
+        → IsAskAnswered n g asked (waits_alone bytes g o) (replied text g d) t
+    by (ask.Declare x) (false, declares, is) = not-done (replied text g d) (done_as g d) (ap (λ x. x.done) is) refl
     by (ask.Declare x) (true, declares, is) =
         absurd (subst IsEventDeed (same-deed g deed.Declared d (replied text g d) refl (ap (λ x. x.done) is)) event)
     by (ask.Serve e) answered =
-        runs-then n g bytes (IsEventAnswered n g e) o c (replied text g d) (done_by g d) t refl of answered
+        runs-then n g bytes (IsEventAnswered n g e) o c (replied text g d) (done_as g d) t refl of answered
     by (ask.ForAll given) answered =
-        runs-then n g bytes (AreAllAnswered n g given) o c (replied text g d) (done_by g d) t refl of answered
-    by ask.Left answered = not-done (replied text g d) (done_by g d) answered.1 refl
-    by (ask.Show i u) answered = not-done (replied text g d) (done_by g d) answered.1 refl
-    by ask.Drop (false, drops, is) = not-done (replied text g d) (done_by g d) (ap (λ x. x.done) is) refl
+        runs-then n g bytes (AreAllAnswered n g given) o c (replied text g d) (done_as g d) t refl of answered
+    by ask.Left answered = not-done (replied text g d) (done_as g d) answered.1 refl
+    by (ask.Show i u) answered = not-done (replied text g d) (done_as g d) answered.1 refl
+    by ask.Drop (false, drops, is) = not-done (replied text g d) (done_as g d) (ap (λ x. x.done) is) refl
     by ask.Drop (true, drops, is) =
         absurd (subst IsEventDeed (same-deed g deed.Dropped d (replied text g d) refl (ap (λ x. x.done) is)) event)
 
 -- ---- one network
 none-led : {longest g : ℕ} {es : List AppliedLine} {lines : List Line} {m after : Machine}
-    → AreServedFor longest g es lines → AreRun m lines after → es ≡ [] → after ≡ m
+    → AreServedFor longest g es lines → AreServedInTurn m lines after → es ≡ [] → after ≡ m
 none-led none_served ended is = refl
 none-led (next_served is_for others) run is = absurd (cc)
 
@@ -173,21 +173,21 @@ machine_in m (e ∷ es) = e.1
 
 -- a network that runs is alike the one that its lines of the shorter journal lead to
 runs-shortened : (longest : ℕ) (bytes : Bool) (g : ℕ) (l : Live) (m left : Machine) (lines : List Bytes)
-    → alone g l ≡ one_runs bytes g m → IsAlike m left
-    → RunsAlone longest g (new_live bytes) lines (one_runs bytes g left) → IsShortened longest bytes g l lines
+    → alone g l ≡ runs_alone bytes g m → IsAlike m left
+    → RunsAlone longest g (new_live bytes) lines (runs_alone bytes g left) → IsShortened longest bytes g l lines
 runs-shortened longest bytes g l m left lines is alike runs = (
-  one_runs bytes g left,
+  runs_alone bytes g left,
   runs,
   refl,
   sym (only-none g (waiting_at l.waiting g) (ap (λ l. l.waiting) is)),
-  subst (λ o. AreBothAlike o (live_at (one_runs bytes g left) g)) (sym (alone-runs g bytes l m is))
+  subst (λ o. AreBothAlike o (live_at (runs_alone bytes g left) g)) (sym (alone-runs g bytes l m is))
       (subst (AreBothAlike (Some m)) (sym (runs-there bytes g left)) alike),
 )
 
 -- it has begun, and no slot is open
 bare-shortened : DeclarationsMayBeLowered → NamingLinesBegin → (longest : ℕ) → 32 ≤ longest → (bytes : Bool) (g : ℕ) (l : Live)
     (lost : Drawn) (ds : List (ℕ × Declaration)) (es : List AppliedLine) → es ≡ []
-    → IsNamed longest bytes g lost ds es (alone g l)
+    → IsNamedNetwork longest bytes g lost ds es (alone g l)
     → IsShortened longest bytes g l
     (map (lowered lost) (map declared_text ds) ++ (naming_line g ∷ [] ++ map applied_text es))
 bare-shortened may_lower names longest long bytes g l lost ds es none_applied is =
@@ -197,35 +197,35 @@ bare-shortened may_lower names longest long bytes g l lost ds es none_applied is
     let declares = may_lower longest bytes g (map declared_text ds) lost is.outlined is.declared in
     let begins = names longest long bytes g (map (lowered lost) (map declared_text ds)) (less_outline lost is.outlined) is.rest
     declares of in
-    let same : one_runs bytes g is.left ≡ one_runs bytes g (begun is.rest) =
-    ap (one_runs bytes g) (none-led is.applied.served is.applied.run none_applied) in
+    let same : runs_alone bytes g is.left ≡ runs_alone bytes g (begun is.rest) =
+    ap (runs_alone bytes g) (none-led is.applied.served is.applied.run none_applied) in
     runs-shortened longest bytes g l is.machine is.left
     (map (lowered lost) (map declared_text ds) ++ (naming_line g ∷ [] ++ map applied_text es)) is.is is.alike
     (subst
     (λ es. RunsAlone longest g (new_live bytes)
-    (map (lowered lost) (map declared_text ds) ++ (naming_line g ∷ [] ++ map applied_text es)) (one_runs bytes g is.left))
+    (map (lowered lost) (map declared_text ds) ++ (naming_line g ∷ [] ++ map applied_text es)) (runs_alone bytes g is.left))
     (sym none_applied)
     (subst
     (λ t. RunsAlone longest g (new_live bytes) (map (lowered lost) (map declared_text ds) ++ naming_line g ∷ []) t)
     (sym same)
     (run-both
-    (subst (λ lines. RunsAlone longest g (new_live bytes) lines (one_waits bytes g (less_outline lost is.outlined)))
+    (subst (λ lines. RunsAlone longest g (new_live bytes) lines (waits_alone bytes g (less_outline lost is.outlined)))
     (declared-lines (map (lowered lost) (map declared_text ds))) (runs-alone longest g declares))
-    (next_line 1 (replied begins.0 g deed.Refused) (done_by g deed.Refused) begins.1 refl refl none_left))))
+    (next_line 1 (replied begins.0 g deed.Refused) (done_as g deed.Refused) begins.1 refl refl none_left))))
 
 -- the first of its lines begins it
 acts-begin : (longest : ℕ) (bytes : Bool) (g : ℕ) (o : Outlined) (c : Config) (es : List AppliedLine) (t : Live)
-    → (es ≡ [] → ⊥) → IsConfigOf g o c → DoAll longest g (one_runs bytes g (begun c)) (map act_of es) t
-    → DoAll longest g (one_waits bytes g o) (map act_of es) t
+    → (es ≡ [] → ⊥) → IsConfigOf g o c → DoAll longest g (runs_alone bytes g (begun c)) (map line_deed_of es) t
+    → DoAll longest g (waits_alone bytes g o) (map line_deed_of es) t
 acts-begin longest bytes g o c [] t some of does = absurd (some refl)
-acts-begin longest bytes g o c (e ∷ es) t some of (one_act {now} n text act serves others) =
-    one_act n text (act_of e) (first-begins longest bytes g n e.text text (deed.Applied e.slot e.drawn) o c now tt of serves)
+acts-begin longest bytes g o c (e ∷ es) t some of (one_deed {now} n text act serves others) =
+    one_deed n text (line_deed_of e) (first-begins longest bytes g n e.text text (deed.Applied e.slot e.drawn) o c now tt of serves)
     others
 
 -- a slot is open
 open-shortened : DeclarationsMayBeLowered → (longest : ℕ) (bytes : Bool) (g : ℕ) (l : Live) (lost : Drawn)
     (ds : List (ℕ × Declaration)) (es : List AppliedLine) → (es ≡ [] → ⊥)
-    → IsNamed longest bytes g lost ds es (alone g l)
+    → IsNamedNetwork longest bytes g lost ds es (alone g l)
     → IsShortened longest bytes g l (map (lowered lost) (map declared_text ds) ++ map applied_text es)
 open-shortened may_lower longest bytes g l lost ds es some is =
     let less : less_config lost is.config ≡ is.rest = ap (less_config lost) is.less ∙ config-back lost is.rest in
@@ -235,12 +235,12 @@ open-shortened may_lower longest bytes g l lost ds es some is =
     runs-shortened longest bytes g l is.machine is.left
     (map (lowered lost) (map declared_text ds) ++ map applied_text es) is.is is.alike
     (run-both
-    (subst (λ lines. RunsAlone longest g (new_live bytes) lines (one_waits bytes g (less_outline lost is.outlined)))
+    (subst (λ lines. RunsAlone longest g (new_live bytes) lines (waits_alone bytes g (less_outline lost is.outlined)))
     (declared-lines (map (lowered lost) (map declared_text ds))) (runs-alone longest g declares))
-    (subst (λ lines. RunsAlone longest g (one_waits bytes g (less_outline lost is.outlined)) lines (one_runs bytes g is.left))
+    (subst (λ lines. RunsAlone longest g (waits_alone bytes g (less_outline lost is.outlined)) lines (runs_alone bytes g is.left))
     (acted-lines es)
     (runs-alone longest g
-    (acts-begin longest bytes g (less_outline lost is.outlined) is.rest es (one_runs bytes g is.left) some of
+    (acts-begin longest bytes g (less_outline lost is.outlined) is.rest es (runs_alone bytes g is.left) some of
     (all-done longest bytes g is.applied.served is.applied.run)))))
 
 -- it waits
@@ -249,24 +249,24 @@ waits-shortened : DeclarationsMayBeLowered → (longest : ℕ) (bytes : Bool) (g
     → IsShortened longest bytes g l (map (lowered lost) (map declared_text ds) ++ map applied_text es)
 waits-shortened may_lower longest bytes g l lost ds es is =
     let declares : DoAll longest g (new_live bytes) (map declaring (map (lowered nothing_drawn) (map declared_text ds)))
-    (one_waits bytes g is.outlined) =
+    (waits_alone bytes g is.outlined) =
     subst
     (λ o. DoAll longest g (new_live bytes) (map declaring (map (lowered nothing_drawn) (map declared_text ds)))
-    (one_waits bytes g o))
+    (waits_alone bytes g o))
     (outline-whole is.outlined)
     (may_lower longest bytes g (map declared_text ds) nothing_drawn is.outlined
     (subst (DoAll longest g (new_live bytes) (map declaring (map declared_text ds))) is.is is.declared)) in (
-      one_waits bytes g is.outlined,
+      waits_alone bytes g is.outlined,
       subst
           (λ d. RunsAlone longest g (new_live bytes) (map (lowered d) (map declared_text ds) ++ map applied_text es)
-          (one_waits bytes g is.outlined))
+          (waits_alone bytes g is.outlined))
           (sym is.none_lost)
           (subst
           (λ es. RunsAlone longest g (new_live bytes)
-          (map (lowered nothing_drawn) (map declared_text ds) ++ map applied_text es) (one_waits bytes g is.outlined))
+          (map (lowered nothing_drawn) (map declared_text ds) ++ map applied_text es) (waits_alone bytes g is.outlined))
           (sym is.none_applied)
           (run-both
-          (subst (λ lines. RunsAlone longest g (new_live bytes) lines (one_waits bytes g is.outlined))
+          (subst (λ lines. RunsAlone longest g (new_live bytes) lines (waits_alone bytes g is.outlined))
           (declared-lines (map (lowered nothing_drawn) (map declared_text ds))) (runs-alone longest g declares))
           none_left)),
       refl,
@@ -289,12 +289,12 @@ none-shortened longest bytes g l is =
 slots-have-lines : (g : ℕ) (net : NetworkLines) (ds : List (ℕ × Declaration)) (es : List AppliedLine)
     → AreNumbered net ds es → (s : ℕ × SlotLines) (slots : List (ℕ × SlotLines)) → net.slots ≡ s ∷ slots → es ≡ [] → ⊥
 slots-have-lines g net ds es numbered s slots are none_applied =
-    let here = sym (numbered.slots s.0 ∙ ap (λ l. slot_lines (at_slot s.0 l)) none_applied)
-    ∙ ap (λ l. value_at l s.0) are ∙ ap (λ o. cond (is_eq o) (Some s.1) (value_at slots s.0)) (at-itself s.0) in
+    let here = sym (numbered.slots s.0 ∙ ap (λ l. slot_lines (lines_at_slot s.0 l)) none_applied)
+    ∙ ap (λ l. entry_at l s.0) are ∙ ap (λ o. cond (is_eq o) (Some s.1) (entry_at slots s.0)) (at-itself s.0) in
     absurd (cc)
 
 shortened : DeclarationsMayBeLowered → NamingLinesBegin → (longest : ℕ) → 32 ≤ longest → (bytes : Bool) (g : ℕ) (l : Live)
-    (o : Option NetworkLines) (ds : List (ℕ × Declaration)) (es : List AppliedLine) → AreNoted o ds es
+    (o : Option NetworkLines) (ds : List (ℕ × Declaration)) (es : List AppliedLine) → AreLinesNoted o ds es
     → IsMade longest bytes g o ds es (alone g l)
     → IsShortened longest bytes g l
     (map (lowered (lost_at o)) (map declared_text ds) ++ (naming_of g o ++ map applied_text es))
@@ -307,13 +307,13 @@ shortened may_lower names longest long bytes g l None ds es (no-ds, no-es) made 
 shortened may_lower names longest long bytes g l (Some net) ds es numbered made = by net.is_named refl made
   where
     named : (slots : List (ℕ × SlotLines)) → net.slots ≡ slots
-        → IsNamed longest bytes g net.lost ds es (alone g l)
+        → IsNamedNetwork longest bytes g net.lost ds es (alone g l)
         → IsShortened longest bytes g l
         (map (lowered net.lost) (map declared_text ds)
         ++ (cond (not (nat_lt 0 (length slots))) (naming_line g ∷ []) [] ++ map applied_text es))
     named [] are is =
         bare-shortened may_lower names longest long bytes g l net.lost ds es
-        (no-slots es (λ i. sym (numbered.slots i) ∙ ap (λ l. value_at l i) are)) is
+        (no-slots es (λ i. sym (numbered.slots i) ∙ ap (λ l. entry_at l i) are)) is
     named (s ∷ slots) are is =
         subst
         (λ b. IsShortened longest bytes g l
@@ -340,9 +340,9 @@ shortened may_lower names longest long bytes g l (Some net) ds es numbered made 
 
 -- ---- all networks
 pub each-shortened : DeclarationsMayBeLowered → NamingLinesBegin → (longest : ℕ) → 32 ≤ longest → (bytes : Bool) (n : ℕ)
-    (l : Live) (lines : Lines) (known : IsKnown longest bytes n l lines) (g : ℕ)
+    (l : Live) (lines : Lines) (known : AreLinesKnown longest bytes n l lines) (g : ℕ)
     → IsShortened longest bytes g l (lines_for g (short_tags lines known.applied))
 each-shortened may_lower names longest long bytes n l lines known g =
     subst (IsShortened longest bytes g l) (sym (short-for g lines known.applied known.networks_ascend))
-    (shortened may_lower names longest long bytes g l (value_at lines.networks g)
+    (shortened may_lower names longest long bytes g l (entry_at lines.networks g)
     (declarations_of g lines.lasting.declarations) (of_network g known.applied) (known.noted g) (known.made g))

@@ -10,9 +10,9 @@ use Rattle.protocol.specs.Networks.Reply.{Done}
 use Rattle.protocol.specs.Networks.Step.{Closes}
 use Rattle.protocol.proofs.Networks.OpenSlots.{instances_at-drop}
 use Rattle.network.specs.Decoding.{step_of}
-use Rattle.network.specs.Lodgings.{AreTallied, Seats, slot_of}
+use Rattle.network.specs.FiledSlots.{AreTallied, CountedSlot, slot_of}
 use Rattle.network.specs.Standing.{IsStood, Machine, StandsFor, net_of}
-use Rattle.live.specs.Serving.{Ending, IsServed, Telling, waits_after}
+use Rattle.live.specs.Serving.{Ending, IsServed, ToldReply, waits_after}
 use Rattle.live.specs.Serving.Ending.{IsDone}
 use Rattle.live.specs.Serving.IsServed.{done, refused}
 use Rattle.live.specs.Telling.{IsServedBy, ending_by}
@@ -23,16 +23,17 @@ use Rattle.feed.specs.declared.answering.Deed.TheVariants as deed
 use Rattle.feed.specs.declared.answering.Drawn.{Drawn}
 use Rattle.requests.specs.declared.ask.Ask.{Ask}
 use Rattle.requests.specs.declared.ask.Ask.TheVariants as ask
-use Rattle.serving.specs.Compacted.{AppliedLine, AreServedFor, IsAskedBy, IsServedFor, RefusedLinesStayAlike, SlotsMayBeErased, all_drawn, at_slot, but_at_slot, done_by, is_at_slot, one_runs}
+use Rattle.serving.specs.Compacted.{AppliedLine, AreServedFor, IsAskedBy, IsServedFor, RefusedLinesStayAlike, SlotsMayBeErased, all_drawn, but_at_slot, done_as, is_at_slot, lines_at_slot}
+use Rattle.serving.specs.Lowering.{runs_alone}
 use Rattle.serving.specs.Compacted.AreServedFor.{next_served, none_served}
 use Rattle.serving.specs.Compacted.IsAskedBy.{asks_event, asks_for_all}
-use Rattle.serving.specs.Erasing.{AreOthers, AreRun, CameAllAs, CameAs, IsLine, IsLineKept, IsSameLine, Line, StandsAsWell, both, drawn_at, drawn_by, is_line_at, none_drawn}
+use Rattle.serving.specs.Erasing.{AreOthers, AreServedInTurn, CameAllAs, CameAs, IsLine, IsLineErasable, IsSameLine, Line, StandsAsWell, both_amounts, drawn_at_slot, drawn_by, is_line_at, none_drawn}
 use Rattle.serving.specs.Erasing.AreOthers.{no_others, one_other, one_there}
-use Rattle.serving.specs.Erasing.AreRun.{ended, goes_on}
+use Rattle.serving.specs.Erasing.AreServedInTurn.{ended, goes_on}
 use Rattle.serving.specs.Erasing.CameAllAs.{next_came, none_came}
 use Rattle.serving.specs.Erasing.Line.{OfBytes, OfEvent}
 use Rattle.serving.specs.Futures.{IsAlike, moved, moved_config}
-use Rattle.serving.specs.Hosts.{AreAllAnswered, IsAnswer, IsEventAnswered, Serves, deed_at, deed_by, deed_of_all, drawn, slot_of_answer, slot_of_answers}
+use Rattle.serving.specs.Hosts.{AreAllAnswered, IsAskAnswered, IsEventAnswered, Serves, deed_at, deed_by, deed_of_all, drawn, slot_of_answer, slot_of_answers}
 use Rattle.serving.specs.declared.all.NodeAnswer.{NodeAnswer}
 use Rattle.serving.proofs.AlikeMachines.{stays}
 use Rattle.serving.proofs.ApartLines.{not-done}
@@ -69,18 +70,18 @@ record IsClosing (i : ℕ) (d : Drawn) (m after : Machine) : Type 0 where
   drew : drawn m after ≡ d
 
 closing-of : (longest : ℕ) (bytes : Bool) (g n i : ℕ) (line text : Bytes) (d : Drawn) (m after : Machine)
-    → Serves (one_runs bytes g m) n (given longest line) (replied text g (deed.Closed i d)) (one_runs bytes g after)
+    → Serves (runs_alone bytes g m) n (given longest line) (replied text g (deed.Closed i d)) (runs_alone bytes g after)
     → IsClosing i d m after
 closing-of longest bytes g n i line text d m after serves =
-    let asks = what-it-asks n (given longest line) (one_runs bytes g m) (one_runs bytes g after)
-    (replied text g (deed.Closed i d)) (done_by g (deed.Closed i d)) serves refl in
+    let asks = what-it-asks n (given longest line) (runs_alone bytes g m) (runs_alone bytes g after)
+    (replied text g (deed.Closed i d)) (done_as g (deed.Closed i d)) serves refl in
     by asks.asked asks.answered
   where
     one : (x : Event)
-        → IsEventAnswered n g x (one_runs bytes g m) (replied text g (deed.Closed i d)) (one_runs bytes g after)
+        → IsEventAnswered n g x (runs_alone bytes g m) (replied text g (deed.Closed i d)) (runs_alone bytes g after)
         → IsClosing i d m after
     one x (None, at, (is, same)) =
-        not-done (replied text g (deed.Closed i d)) (done_by g (deed.Closed i d)) (ap (λ x. x.done) is) refl
+        not-done (replied text g (deed.Closed i d)) (done_as g (deed.Closed i d)) (ap (λ x. x.done) is) refl
     one x (Some found, at, (now, s, served, is, says)) =
         let did = closed-by s.refused x s.slot i (drawn found now) d
         (same-deed g (deed.Closed i d) _ (replied text g (deed.Closed i d)) (ap (λ x. x.done) says) refl) in
@@ -94,42 +95,42 @@ closing-of longest bytes g n i line text d m after serves =
         }))
 
     all : (given_bytes : Bytes)
-        → AreAllAnswered n g given_bytes (one_runs bytes g m) (replied text g (deed.Closed i d)) (one_runs bytes g after)
+        → AreAllAnswered n g given_bytes (runs_alone bytes g m) (replied text g (deed.Closed i d)) (runs_alone bytes g after)
         → IsClosing i d m after
     all given_bytes (None, at, (is, same)) =
-        not-done (replied text g (deed.Closed i d)) (done_by g (deed.Closed i d)) (ap (λ x. x.done) is) refl
+        not-done (replied text g (deed.Closed i d)) (done_as g (deed.Closed i d)) (ap (λ x. x.done) is) refl
     all given_bytes (Some found, at, (now, answers, served, is, says)) =
         absurd (all-close-none (slot_of_answers answers) (drawn found now) d i
         (same-deed g (deed.Closed i d) _ (replied text g (deed.Closed i d)) (ap (λ x. x.done) says) refl))
 
     by : (asked : Ask)
-        → IsAnswer n g asked (one_runs bytes g m) (replied text g (deed.Closed i d)) (one_runs bytes g after)
+        → IsAskAnswered n g asked (runs_alone bytes g m) (replied text g (deed.Closed i d)) (runs_alone bytes g after)
         → IsClosing i d m after
     by (ask.Declare x) (false, declares, is) =
-        not-done (replied text g (deed.Closed i d)) (done_by g (deed.Closed i d)) (ap (λ x. x.done) is) refl
+        not-done (replied text g (deed.Closed i d)) (done_as g (deed.Closed i d)) (ap (λ x. x.done) is) refl
     by (ask.Declare x) (true, declares, is) = absurd
         (subst IsEventDeed
         (sym (same-deed g (deed.Closed i d) deed.Declared (replied text g (deed.Closed i d)) (ap (λ x. x.done) is) refl)) tt)
     by (ask.Serve x) (false, now, begins, (is, same)) =
-        not-done (replied text g (deed.Closed i d)) (done_by g (deed.Closed i d)) (ap (λ x. x.done) is) refl
+        not-done (replied text g (deed.Closed i d)) (done_as g (deed.Closed i d)) (ap (λ x. x.done) is) refl
     by (ask.Serve x) (true, now, same, answered) =
         one x (subst
-        (λ l. IsEventAnswered n g x l (replied text g (deed.Closed i d)) (one_runs bytes g after)) same answered)
+        (λ l. IsEventAnswered n g x l (replied text g (deed.Closed i d)) (runs_alone bytes g after)) same answered)
     by (ask.ForAll given_bytes) (false, now, begins, (is, same)) =
-        not-done (replied text g (deed.Closed i d)) (done_by g (deed.Closed i d)) (ap (λ x. x.done) is) refl
+        not-done (replied text g (deed.Closed i d)) (done_as g (deed.Closed i d)) (ap (λ x. x.done) is) refl
     by (ask.ForAll given_bytes) (true, now, same, answered) =
         all given_bytes (subst
-        (λ l. AreAllAnswered n g given_bytes l (replied text g (deed.Closed i d)) (one_runs bytes g after)) same answered)
-    by ask.Left answered = not-done (replied text g (deed.Closed i d)) (done_by g (deed.Closed i d)) answered.1 refl
-    by (ask.Show j u) answered = not-done (replied text g (deed.Closed i d)) (done_by g (deed.Closed i d)) answered.1 refl
+        (λ l. AreAllAnswered n g given_bytes l (replied text g (deed.Closed i d)) (runs_alone bytes g after)) same answered)
+    by ask.Left answered = not-done (replied text g (deed.Closed i d)) (done_as g (deed.Closed i d)) answered.1 refl
+    by (ask.Show j u) answered = not-done (replied text g (deed.Closed i d)) (done_as g (deed.Closed i d)) answered.1 refl
     by ask.Drop (false, drops, is) =
-        not-done (replied text g (deed.Closed i d)) (done_by g (deed.Closed i d)) (ap (λ x. x.done) is) refl
+        not-done (replied text g (deed.Closed i d)) (done_as g (deed.Closed i d)) (ap (λ x. x.done) is) refl
     by ask.Drop (true, drops, is) = absurd
         (subst IsEventDeed
         (sym (same-deed g (deed.Closed i d) deed.Dropped (replied text g (deed.Closed i d)) (ap (λ x. x.done) is) refl)) tt)
 
 -- the slot is closed then
-net-closed : {net after : Net} {ending : Ending} {ts : List Telling} (i : ℕ) (stale : Bool)
+net-closed : {net after : Net} {ending : Ending} {ts : List ToldReply} (i : ℕ) (stale : Bool)
     → IsServed net (Closes i) ending ts after → ending ≡ IsDone stale → instances_at after.slots i ≡ None
 unfolding effect
 net-closed i stale (refused r tried) is = absurd (cc)
@@ -149,8 +150,8 @@ closed-there i d m after (draws, tallied) closes =
     ∙ net-closed i closes.came.stale later.1 (ap (λ o. ending_by o closes.came.stale) closes.took)
 
 -- ---- runs
-pub run-more : {m now after : Machine} {lines : List Line} (l : Line) → AreRun m lines now → IsLine l now after
-    → AreRun m (lines ++ l ∷ []) after
+pub run-more : {m now after : Machine} {lines : List Line} (l : Line) → AreServedInTurn m lines now → IsLine l now after
+    → AreServedInTurn m (lines ++ l ∷ []) after
 run-more l ended line = goes_on l line ended
 run-more l (goes_on k first others) line = goes_on k first (run-more l others line)
 
@@ -161,7 +162,7 @@ served-more e l (next_served first others) is_for = next_served first (served-mo
 
 kept-more : (i : ℕ) {longest g : ℕ} {es : List AppliedLine} {lines : List Line} (l : Line) → is_line_at i l ≡ true
     → AreServedFor longest g es lines
-    → AllByRecursion (λ l. is_line_at i l ≡ false → IsLineKept l) (lines ++ l ∷ [])
+    → AllByRecursion (λ l. is_line_at i l ≡ false → IsLineErasable l) (lines ++ l ∷ [])
 kept-more i l there none_served = (λ off. absurd (true≢false (sym there ∙ off)), tt)
 kept-more i l there (next_served is_for others) = (λ off. is_for.kept, kept-more i l there others)
 
@@ -175,16 +176,16 @@ asked-drew longest g e (asks_for_all bytes answers d asks did) = (all-applied (s
 
 drawn-in-all : (i : ℕ) {longest g : ℕ} {es : List AppliedLine} {lines : List Line} (s : Served) (d : Drawn)
     → AreServedFor longest g es lines
-    → drawn_at i (lines ++ OfEvent (Closes i) s d ∷ []) ≡ all_drawn (at_slot i es) d
+    → drawn_at_slot i (lines ++ OfEvent (Closes i) s d ∷ []) ≡ all_drawn (lines_at_slot i es) d
 drawn-in-all i s d none_served =
-    ap (λ b. if b then both d none_drawn else none_drawn) (itself i) ∙ sym (both-none d)
+    ap (λ b. if b then both_amounts d none_drawn else none_drawn) (itself i) ∙ sym (both-none d)
 drawn-in-all i {longest} {g} s d (next_served {e} {es} {l} {lines} is_for others) =
-    by (drawn_at i (lines ++ OfEvent (Closes i) s d ∷ [])) (is_line_at i l) (is_at_slot i e) (is_for.at i)
+    by (drawn_at_slot i (lines ++ OfEvent (Closes i) s d ∷ [])) (is_line_at i l) (is_at_slot i e) (is_for.at i)
     (asked-drew longest g e is_for.asked) (drawn-in-all i s d others)
   where
-    by : (rest : Drawn) (b c : Bool) → b ≡ c → drawn_by l ≡ e.drawn → rest ≡ all_drawn (at_slot i es) d
-        → (if b then both (drawn_by l) rest else rest) ≡ all_drawn (cond c (e ∷ at_slot i es) (at_slot i es)) d
-    by rest true true is one more = ap (λ c. both c rest) one ∙ ap (both e.drawn) more
+    by : (rest : Drawn) (b c : Bool) → b ≡ c → drawn_by l ≡ e.drawn → rest ≡ all_drawn (lines_at_slot i es) d
+        → (if b then both_amounts (drawn_by l) rest else rest) ≡ all_drawn (cond c (e ∷ lines_at_slot i es) (lines_at_slot i es)) d
+    by rest true true is one more = ap (λ c. both_amounts c rest) one ∙ ap (both_amounts e.drawn) more
     by rest true false is one more = absurd (true≢false is)
     by rest false true is one more = absurd (true≢false (sym is))
     by rest false false is one more = more
@@ -266,14 +267,14 @@ slots_may_be_erased longest bytes g n i line text d c es m after applied serves 
         served = others-served i close (itself i) applied.served left.4;
         run = left.5;
       },
-      alike-moved (drawn_at i (applied.lines ++ close ∷ [])) after left.2 left.6 left.7,
+      alike-moved (drawn_at_slot i (applied.lines ++ close ∷ [])) after left.2 left.6 left.7,
     )
 
 -- ---- refused lines
-abbrev with_slots : Machine → List Seats → Machine
+abbrev with_slots : Machine → List CountedSlot → Machine
 with_slots m slots = record m { slots = slots }
 
-abbrev machine_from : Net → List Seats → Machine
+abbrev machine_from : Net → List CountedSlot → Machine
 machine_from net slots = record {
   config = record { number = net.number; nodes = net.nodes; budgets = net.budgets; roster = net.roster };
   slots = slots;

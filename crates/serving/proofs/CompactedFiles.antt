@@ -5,8 +5,8 @@ use Rattle.std.specs.Io.KnownBytes.{Appends}
 use Rattle.scripts.specs.Script.{Bytes}
 use Rattle.feed.specs.Lasting.{Watched, Watching}
 use Rattle.feed.specs.Replayed.{Replaying}
-use Rattle.feed.specs.Served.{Serves as ServesAll, is_kept, kept_as}
-use Rattle.feed.specs.Served.Serves.{next, none}
+use Rattle.feed.specs.Served.{ServesAll, is_kept, kept_as}
+use Rattle.feed.specs.Served.ServesAll.{next, none}
 use Rattle.feed.specs.WholeLines.{given}
 use Rattle.serving.specs.Compacted.{CompactedFilesLeadToAlikeHosts, ShorterJournalsLeadToAlikeHosts}
 use Rattle.serving.specs.Hosts.{Live, Remembers, new_live}

@@ -4,15 +4,15 @@ use Rattle.std.specs.Ordering.{nat_cmp}
 use Rattle.std.specs.BTreeMap.{is_at}
 use Rattle.std.proofs.Common.{◌∙◌, refl, sym, ap, subst, inl, inr, arith, map-id, true≢false}
 use Rattle.scripts.specs.Script.{Bytes}
-use Rattle.feed.specs.Lasting.{Declaration, Lines, NetworkLines, Watched, Watching, lines_after, lines_behind, network_after, new_network, no_lines, unwatched, value_at, with_network, without_network}
-use Rattle.feed.specs.Served.{Reply, Serves as ServesAll}
-use Rattle.feed.specs.Served.Serves.{next, none}
+use Rattle.feed.specs.Lasting.{Declaration, Lines, NetworkLines, Watched, Watching, entry_at, lasting_behind, lines_after, network_after, new_network, no_lines, unwatched, with_network, without_network}
+use Rattle.feed.specs.Served.{LineReply, ServesAll}
+use Rattle.feed.specs.Served.ServesAll.{next, none}
 use Rattle.feed.specs.WholeLines.{given}
 use Rattle.feed.specs.declared.answering.Deed.{Deed}
 use Rattle.feed.specs.declared.answering.Deed.TheVariants as deed
 use Rattle.feed.specs.declared.answering.Done.{Done}
 use Rattle.serving.specs.Apart.{alone}
-use Rattle.serving.specs.Compacted.{AppliedLine, AreWithin, IsKnown, IsMade, IsMadeAs, NetworksAreMade, applied_behind, but_of_network, but_there, declarations_behind, declarations_of, declares_of, done_by, is_at_slot, is_of_network, of_network, pair_of}
+use Rattle.serving.specs.Compacted.{AppliedLine, AreLinesKnown, AscendWithin, IsMade, IsMadeAs, NetworksAreMade, applied_behind, but_of_network, but_there, declarations_behind, declarations_of, declares_of, done_as, is_at_slot, is_of_network, of_network, pair_of}
 use Rattle.serving.specs.Hosts.{Live, Remembers, Serves, new_live}
 use Rattle.serving.proofs.ApartLines.{hosts_stay_ordered, lines_are_local, not-done, other_lines_change_nothing}
 use Rattle.serving.proofs.CompactedAsked.{what-it-asks}
@@ -22,9 +22,9 @@ use Rattle.serving.proofs.CompactedRooms.{Has, alone-is-none, alone-runs, alone-
 
 -- ---- counts
 -- where a network is known it waits or runs
-known-is-there : (longest : ℕ) (bytes : Bool) (n : ℕ) (l : Live) (lines : Lines) → IsKnown longest bytes n l lines
+known-is-there : (longest : ℕ) (bytes : Bool) (n : ℕ) (l : Live) (lines : Lines) → AreLinesKnown longest bytes n l lines
     → (g : ℕ) → Has lines.networks g → Has l.waiting g ⊎ Has l.running g
-known-is-there longest bytes n l lines known g has = by (value_at lines.networks g) has (known.made g)
+known-is-there longest bytes n l lines known g has = by (entry_at lines.networks g) has (known.made g)
   where
     made : (named : Bool) (net : NetworkLines)
         → IsMadeAs named longest bytes g net.lost (declarations_of g lines.lasting.declarations) (of_network g known.applied)
@@ -39,17 +39,17 @@ known-is-there longest bytes n l lines known g has = by (value_at lines.networks
     by (Some net) has is = made net.is_named net is
 
 -- a network that is not known yet has room
-new-has-room : (longest : ℕ) (bytes : Bool) (n g : ℕ) (l t : Live) (lines : Lines) (line : Option Bytes) (a : Reply)
-    (d : Deed) → IsKnown longest bytes n l lines → Serves l n line a t → a.done ≡ Some (done_by g d)
-    → value_at lines.networks g ≡ None → length lines.networks < 4096
+new-has-room : (longest : ℕ) (bytes : Bool) (n g : ℕ) (l t : Live) (lines : Lines) (line : Option Bytes) (a : LineReply)
+    (d : Deed) → AreLinesKnown longest bytes n l lines → Serves l n line a t → a.done ≡ Some (done_as g d)
+    → entry_at lines.networks g ≡ None → length lines.networks < 4096
 new-has-room longest bytes n g l t lines line a d known serves some not_known =
     let alone_is : alone g l ≡ new_live bytes =
     subst
     (λ o. IsMade longest bytes g o (declarations_of g lines.lasting.declarations) (of_network g known.applied) (alone g l))
     not_known (known.made g) in
     let neither = alone-is-none g bytes l alone_is in
-    let room = has-room n g line l t a (done_by g d) some neither.0 neither.1
-    (what-it-asks n line l t a (done_by g d) serves some) in
+    let room = has-room n g line l t a (done_as g d) some neither.0 neither.1
+    (what-it-asks n line l t a (done_as g d) serves some) in
     let few = no-more 0 lines.networks l.waiting l.running known.networks_ascend
     (known-is-there longest bytes n l lines known) in
     omega (arith, room, few)
@@ -60,14 +60,14 @@ few-behind : (n : ℕ) (text : Bytes) (g : ℕ) (d : Deed) (o : Option NetworkLi
 few-behind n text g d o old few room = by o room d
   where
     kept : (o : Option NetworkLines) → (o ≡ None → length old.networks < 4096) → (d : Deed)
-        → length (with_network o n text (done_by g d) old).networks ≤ 4096
+        → length (with_network o n text (done_as g d) old).networks ≤ 4096
     kept None room d =
         let count = inserted-count g old.networks (network_after n d new_network) in
         let less = room refl in omega (arith, count, less)
     kept (Some net) room d =
         let count = set-count (is_at (nat_cmp g)) old.networks (network_after n d net) in omega (arith, count, few)
 
-    gone : (o : Option NetworkLines) → length (without_network o n text (done_by g deed.Dropped) old).networks ≤ 4096
+    gone : (o : Option NetworkLines) → length (without_network o n text (done_as g deed.Dropped) old).networks ≤ 4096
     gone None = few
     gone (Some net) = let count = removed-count (is_at (nat_cmp g)) old.networks in omega (arith, count, few)
 
@@ -80,8 +80,8 @@ few-behind n text g d o old few room = by o room d
     by o room deed.Dropped = gone o
 
 -- ---- numbers
-declarations-within : (n : ℕ) (text : Bytes) (g : ℕ) (d : Deed) (ds : List (ℕ × Declaration)) → AreWithin 0 n ds
-    → AreWithin 0 (n + 1) (declarations_behind n text g d ds)
+declarations-within : (n : ℕ) (text : Bytes) (g : ℕ) (d : Deed) (ds : List (ℕ × Declaration)) → AscendWithin 0 n ds
+    → AscendWithin 0 (n + 1) (declarations_behind n text g d ds)
 declarations-within n text g deed.Declared ds within =
     within-one-more 0 n ds (record { network = g; text = text }) within
 declarations-within n text g deed.Refused ds within = within-more 0 n ds within
@@ -89,15 +89,15 @@ declarations-within n text g (deed.Applied i drawn) ds within = within-more 0 n 
 declarations-within n text g (deed.Closed i drawn) ds within = within-more 0 n ds within
 declarations-within n text g deed.Dropped ds within =
     within-more 0 n (filter (λ e. not (declares_of g e)) ds)
-    (subst (AreWithin 0 n) (map-id (filter (λ e. not (declares_of g e)) ds))
-    (within-filtered (λ e. e) (λ e. not (declares_of g e)) 0 n ds (subst (AreWithin 0 n) (sym (map-id ds)) within)))
+    (subst (AscendWithin 0 n) (map-id (filter (λ e. not (declares_of g e)) ds))
+    (within-filtered (λ e. e) (λ e. not (declares_of g e)) 0 n ds (subst (AscendWithin 0 n) (sym (map-id ds)) within)))
 
-applied-within : (n : ℕ) (text : Bytes) (g : ℕ) (d : Deed) (es : List AppliedLine) → AreWithin 0 n (map pair_of es)
-    → AreWithin 0 (n + 1) (map pair_of (applied_behind n text g d es))
+applied-within : (n : ℕ) (text : Bytes) (g : ℕ) (d : Deed) (es : List AppliedLine) → AscendWithin 0 n (map pair_of es)
+    → AscendWithin 0 (n + 1) (map pair_of (applied_behind n text g d es))
 applied-within n text g deed.Declared es within = within-more 0 n (map pair_of es) within
 applied-within n text g deed.Refused es within = within-more 0 n (map pair_of es) within
 applied-within n text g (deed.Applied i drawn) es within =
-    subst (AreWithin 0 (n + 1))
+    subst (AscendWithin 0 (n + 1))
     (sym (map-append-one pair_of es (record { number = n; network = g; text = text; slot = i; drawn = drawn })))
     (within-one-more 0 n (map pair_of es) text within)
 applied-within n text g (deed.Closed i drawn) es within =
@@ -109,28 +109,28 @@ applied-within n text g deed.Dropped es within =
 -- ---- one line
 -- a line that did something
 known-behind : NetworksAreMade → (longest : ℕ) (bytes : Bool) (n : ℕ) (line text : Bytes) (g : ℕ) (d : Deed) (l t : Live)
-    (lines : Lines) → IsKnown longest bytes n l lines
-    → Remembers l n (given longest line) (record { text = text; done = Some (done_by g d) }) t
-    → IsKnown longest bytes (n + 1) t (lines_after n line (done_by g d) lines)
+    (lines : Lines) → AreLinesKnown longest bytes n l lines
+    → Remembers l n (given longest line) (record { text = text; done = Some (done_as g d) }) t
+    → AreLinesKnown longest bytes (n + 1) t (lines_after n line (done_as g d) lines)
 known-behind made longest bytes n line text g d l t lines known (serves, tells) =
-    let a : Reply = record { text = text; done = Some (done_by g d) } in
-    let local = lines_are_local l t n (given longest line) a (done_by g d) known.ordered serves refl in
-    let declares = declarations-after n line g d (value_at lines.networks g) lines (of_network g known.applied)
+    let a : LineReply = record { text = text; done = Some (done_as g d) } in
+    let local = lines_are_local l t n (given longest line) a (done_as g d) known.ordered serves refl in
+    let declares = declarations-after n line g d (entry_at lines.networks g) lines (of_network g known.applied)
     known.declarations_ascend (known.noted g) in
-    let events = events-after n line g d (value_at lines.networks g) lines
+    let events = events-after n line g d (entry_at lines.networks g) lines
     (declarations_of g lines.lasting.declarations) known.applied known.events known.events_ascend
     (known.noted g) in
     let each = each-behind made longest bytes n line text g d l t lines known (local.0, tells) local.1 in
     record {
       applied = applied_behind n line g d known.applied;
       events = events;
-      events_ascend = subst (AreWithin 0 (n + 1)) (sym events)
-          (applied-within n line g d known.applied (subst (AreWithin 0 n) known.events known.events_ascend));
-      declarations_ascend = subst (AreWithin 0 (n + 1)) (sym declares)
+      events_ascend = subst (AscendWithin 0 (n + 1)) (sym events)
+          (applied-within n line g d known.applied (subst (AscendWithin 0 n) known.events known.events_ascend));
+      declarations_ascend = subst (AscendWithin 0 (n + 1)) (sym declares)
           (declarations-within n line g d lines.lasting.declarations known.declarations_ascend);
       networks_ascend = networks-ascend n line g d lines known.networks_ascend;
       ordered = hosts_stay_ordered l t n (given longest line) a known.ordered serves;
-      few = few-behind n line g d (value_at lines.networks g) lines known.few
+      few = few-behind n line g d (entry_at lines.networks g) lines known.few
           (new-has-room longest bytes n g l t lines (given longest line) a d known serves refl);
       bytes_stay = ap (λ l. l.bytes) (local.1 (g + 1) (omega arith)) ∙ known.bytes_stay;
       noted = λ h. (each h).0;
@@ -138,8 +138,8 @@ known-behind made longest bytes n line text g d l t lines known (serves, tells) 
     }
 
 -- a line that did nothing
-known-still : (longest : ℕ) (bytes : Bool) (n : ℕ) (l : Live) (lines : Lines) → IsKnown longest bytes n l lines
-    → IsKnown longest bytes (n + 1) l lines
+known-still : (longest : ℕ) (bytes : Bool) (n : ℕ) (l : Live) (lines : Lines) → AreLinesKnown longest bytes n l lines
+    → AreLinesKnown longest bytes (n + 1) l lines
 known-still longest bytes n l lines known = record {
   applied = known.applied;
   events = known.events;
@@ -153,16 +153,16 @@ known-still longest bytes n l lines known = record {
   made = known.made;
 }
 
-behind-nothing : (n : ℕ) (line : Option Bytes) (lines : Lines) → lines_behind n line None lines ≡ lines
+behind-nothing : (n : ℕ) (line : Option Bytes) (lines : Lines) → lasting_behind n line None lines ≡ lines
 behind-nothing n None lines = refl
 behind-nothing n (Some []) lines = refl
 behind-nothing n (Some (b ∷ line)) lines = refl
 
 -- a line that did something is not empty, and not too long
 abbrev IsBehind : ℕ → Option Bytes → Bytes → Done → Lines → Type 0
-IsBehind n o line did lines = lines_behind n o (Some did) lines ≡ lines_after n line did lines
+IsBehind n o line did lines = lasting_behind n o (Some did) lines ≡ lines_after n line did lines
 
-behind-line : (longest : ℕ) (l t : Live) (n : ℕ) (line : Bytes) (a : Reply) (did : Done) (lines : Lines)
+behind-line : (longest : ℕ) (l t : Live) (n : ℕ) (line : Bytes) (a : LineReply) (did : Done) (lines : Lines)
     → Serves l n (given longest line) a t → a.done ≡ Some did → IsBehind n (given longest line) line did lines
 behind-line longest l t n line a did lines serves some = by (nat_lt longest (length line)) serves
   where
@@ -176,25 +176,25 @@ behind-line longest l t n line a did lines serves some = by (nat_lt longest (len
     by true (is, same) = not-done a did (ap (λ x. x.done) is) some
     by false serves = here line serves
 
-pub stays-known : NetworksAreMade → (longest : ℕ) (bytes : Bool) (n : ℕ) (line : Bytes) (a : Reply) (l t : Live)
-    (lines : Lines) → IsKnown longest bytes n l lines → Remembers l n (given longest line) a t
-    → IsKnown longest bytes (n + 1) t (lines_behind n (given longest line) a.done lines)
+pub stays-known : NetworksAreMade → (longest : ℕ) (bytes : Bool) (n : ℕ) (line : Bytes) (a : LineReply) (l t : Live)
+    (lines : Lines) → AreLinesKnown longest bytes n l lines → Remembers l n (given longest line) a t
+    → AreLinesKnown longest bytes (n + 1) t (lasting_behind n (given longest line) a.done lines)
 stays-known made longest bytes n line a l t lines known (serves, tells) = by a.done refl
   where
     by : (o : Option Done) → a.done ≡ o
-        → IsKnown longest bytes (n + 1) t (lines_behind n (given longest line) o lines)
+        → AreLinesKnown longest bytes (n + 1) t (lasting_behind n (given longest line) o lines)
     by None not_any =
-        subst (λ l. IsKnown longest bytes (n + 1) l (lines_behind n (given longest line) None lines))
+        subst (λ l. AreLinesKnown longest bytes (n + 1) l (lasting_behind n (given longest line) None lines))
         (sym (other_lines_change_nothing l t n (given longest line) a serves not_any))
-        (subst (IsKnown longest bytes (n + 1) l) (sym (behind-nothing n (given longest line) lines))
+        (subst (AreLinesKnown longest bytes (n + 1) l) (sym (behind-nothing n (given longest line) lines))
         (known-still longest bytes n l lines known))
     by (Some did) some =
-        subst (IsKnown longest bytes (n + 1) t) (sym (behind-line longest l t n line a did lines serves some))
+        subst (AreLinesKnown longest bytes (n + 1) t) (sym (behind-line longest l t n line a did lines serves some))
         (known-behind made longest bytes n line a.text did.network did.deed l t lines known
         (subst (λ o. Serves l n (given longest line) (record { text = a.text; done = o }) t) some serves, tells))
 
 -- ---- many lines
-begins-known : (longest : ℕ) (bytes : Bool) → IsKnown longest bytes 1 (new_live bytes) no_lines
+begins-known : (longest : ℕ) (bytes : Bool) → AreLinesKnown longest bytes 1 (new_live bytes) no_lines
 begins-known longest bytes = record {
   applied = [];
   events = refl;
@@ -210,16 +210,16 @@ begins-known longest bytes = record {
 
 known-later : NetworksAreMade → (longest : ℕ) (bytes : Bool) {v w : Watched Live} {n : ℕ} {lines journal : List Bytes}
     {text : Bytes} → ServesAll (Watching Remembers) longest v n lines journal text w
-    → IsKnown longest bytes n v.server v.lines → (k : ℕ) × IsKnown longest bytes k w.server w.lines
+    → AreLinesKnown longest bytes n v.server v.lines → (k : ℕ) × AreLinesKnown longest bytes k w.server w.lines
 known-later made longest bytes {v} {w} {n} none known = (n, known)
 known-later made longest bytes (next {s} {t} {u} {n} {line} a serves others) known =
     known-later made longest bytes others
-    (subst (IsKnown longest bytes (n + 1) t.server) (sym serves.1)
+    (subst (AreLinesKnown longest bytes (n + 1) t.server) (sym serves.1)
     (stays-known made longest bytes n line a s.server t.server s.lines known serves.0))
 
 -- of each host that lines lead to it is known what the lines that last make of it
 pub reached-is-known : NetworksAreMade → (longest : ℕ) (bytes : Bool) (n : ℕ) (lines journal : List Bytes) (text : Bytes)
     (w : Watched Live) → ServesAll (Watching Remembers) longest (unwatched (new_live bytes)) 1 lines journal text w
-    → (k : ℕ) × IsKnown longest bytes k w.server w.lines
+    → (k : ℕ) × AreLinesKnown longest bytes k w.server w.lines
 reached-is-known made longest bytes n lines journal text w serves =
     known-later made longest bytes serves (begins-known longest bytes)

@@ -6,13 +6,13 @@ use Rattle.std.specs.Map.{values_of}
 use Rattle.std.proofs.Common.{◌∙◌, refl, sym, ap, subst, arith, map-id, true≢false}
 use Rattle.std.proofs.lemmas.Bool.Decides.{Decides-eqb}
 use Rattle.scripts.specs.Script.{Bytes}
-use Rattle.feed.specs.Lasting.{Declaration, Lines, NetworkLines, events_but, is_drop, lines_after, network_after, new_network, value_at, with_network, without_all, without_network, without_slots}
+use Rattle.feed.specs.Lasting.{Declaration, Lines, NetworkLines, entry_at, events_but, is_drop, lines_after, network_after, new_network, with_network, without_all, without_network, without_slots}
 use Rattle.feed.specs.WholeLines.{given}
 use Rattle.feed.specs.declared.answering.Deed.{Deed}
 use Rattle.feed.specs.declared.answering.Deed.TheVariants as deed
 use Rattle.feed.specs.declared.answering.Drawn.{Drawn}
 use Rattle.serving.specs.Apart.{AreFrom, OthersStay, alone}
-use Rattle.serving.specs.Compacted.{AppliedLine, AreNoted, AreWithin, IsKnown, IsMade, NetworksAreMade, applied_behind, at_slot, declarations_behind, declarations_of, declared_number, declares_of, done_by, is_at_slot, is_of_network, network_behind, of_network, pair_of, slot_lines}
+use Rattle.serving.specs.Compacted.{AppliedLine, AreLinesKnown, AreLinesNoted, AscendWithin, IsMade, NetworksAreMade, applied_behind, declarations_behind, declarations_of, declared_number, declares_of, done_as, is_at_slot, is_of_network, lines_at_slot, network_behind, of_network, pair_of, slot_lines}
 use Rattle.serving.specs.Hosts.{Live, Remembers}
 use Rattle.serving.proofs.Alone.{inserted-apart, inserted-ascend, removed-apart, removed-ascend, removed-is-gone, set-apart, set-ascend}
 use Rattle.serving.proofs.CompactedLists.{filter-append-one, filter-twice, inserted-last, map-append-one, none-passes, without-passing}
@@ -26,26 +26,26 @@ known (Some net) = net
 
 abbrev pub changed : ℕ → Bytes → ℕ → Deed → Option NetworkLines → Lines → Lines
 changed n text g d o old =
-    if is_drop d then without_network o n text (done_by g d) old else with_network o n text (done_by g d) old
+    if is_drop d then without_network o n text (done_as g d) old else with_network o n text (done_as g d) old
 
 networks-here : (n : ℕ) (text : Bytes) (g : ℕ) (d : Deed) (o : Option NetworkLines) (old : Lines) → AreFrom 0 old.networks
-    → value_at old.networks g ≡ o → value_at (changed n text g d o old).networks g ≡ network_behind n d o
+    → entry_at old.networks g ≡ o → entry_at (changed n text g d o old).networks g ≡ network_behind n d o
 networks-here n text g d o old ascend is = by o is d
   where
-    kept : (o : Option NetworkLines) → value_at old.networks g ≡ o → (d : Deed)
-        → value_at (with_network o n text (done_by g d) old).networks g
+    kept : (o : Option NetworkLines) → entry_at old.networks g ≡ o → (d : Deed)
+        → entry_at (with_network o n text (done_as g d) old).networks g
         ≡ Some (network_after n d (known o))
     kept None is d = inserted-there old.networks g (network_after n d new_network)
     kept (Some net) is d = set-there old.networks g (network_after n d net) net is
 
-    gone : (o : Option NetworkLines) → value_at old.networks g ≡ o
-        → value_at (without_network o n text (done_by g deed.Dropped) old).networks g ≡ None
+    gone : (o : Option NetworkLines) → entry_at old.networks g ≡ o
+        → entry_at (without_network o n text (done_as g deed.Dropped) old).networks g ≡ None
     gone None is = is
     gone (Some net) is = removed-is-gone g 0 old.networks ascend
 
-    both : (o : Option NetworkLines) → value_at old.networks g ≡ o → (d : Deed)
+    both : (o : Option NetworkLines) → entry_at old.networks g ≡ o → (d : Deed)
         → Some (network_after n d (known o)) ≡ network_behind n d o
-        → value_at (with_network o n text (done_by g d) old).networks g ≡ network_behind n d o
+        → entry_at (with_network o n text (done_as g d) old).networks g ≡ network_behind n d o
     both o is d same = kept o is d ∙ same
 
     same-behind : (o : Option NetworkLines) (d : Deed) → is_drop d ≡ false
@@ -61,8 +61,8 @@ networks-here n text g d o old ascend is = by o is d
     same-behind (Some net) (deed.Closed i drawn) not_drop = refl
     same-behind (Some net) deed.Dropped not_drop = absurd (true≢false not_drop)
 
-    by : (o : Option NetworkLines) → value_at old.networks g ≡ o → (d : Deed)
-        → value_at (changed n text g d o old).networks g ≡ network_behind n d o
+    by : (o : Option NetworkLines) → entry_at old.networks g ≡ o → (d : Deed)
+        → entry_at (changed n text g d o old).networks g ≡ network_behind n d o
     by o is deed.Declared = both o is deed.Declared (same-behind o deed.Declared refl)
     by o is deed.Refused = both o is deed.Refused (same-behind o deed.Refused refl)
     by o is (deed.Applied i drawn) = both o is (deed.Applied i drawn) (same-behind o (deed.Applied i drawn) refl)
@@ -70,22 +70,22 @@ networks-here n text g d o old ascend is = by o is d
     by o is deed.Dropped = gone o is
 
 networks-apart : (n : ℕ) (text : Bytes) (g h : ℕ) (d : Deed) (old : Lines) → h ≢ g
-    → value_at (lines_after n text (done_by g d) old).networks h ≡ value_at old.networks h
-networks-apart n text g h d old apart = by (value_at old.networks g) d
+    → entry_at (lines_after n text (done_as g d) old).networks h ≡ entry_at old.networks h
+networks-apart n text g h d old apart = by (entry_at old.networks g) d
   where
     kept : (o : Option NetworkLines) (d : Deed)
-        → value_at (with_network o n text (done_by g d) old).networks h ≡ value_at old.networks h
+        → entry_at (with_network o n text (done_as g d) old).networks h ≡ entry_at old.networks h
     kept None d = inserted-apart g h old.networks (network_after n d new_network) apart
     kept (Some net) d = set-apart g h old.networks (network_after n d net) apart
 
     gone : (o : Option NetworkLines)
-        → value_at (without_network o n text (done_by g deed.Dropped) old).networks h ≡ value_at old.networks h
+        → entry_at (without_network o n text (done_as g deed.Dropped) old).networks h ≡ entry_at old.networks h
     gone None = refl
     gone (Some net) = removed-apart g h old.networks apart
 
     by : (o : Option NetworkLines) (d : Deed)
-        → value_at (if is_drop d then without_network o n text (done_by g d) old
-        else with_network o n text (done_by g d) old).networks h ≡ value_at old.networks h
+        → entry_at (if is_drop d then without_network o n text (done_as g d) old
+        else with_network o n text (done_as g d) old).networks h ≡ entry_at old.networks h
     by o deed.Declared = kept o deed.Declared
     by o deed.Refused = kept o deed.Refused
     by o (deed.Applied i drawn) = kept o (deed.Applied i drawn)
@@ -93,20 +93,20 @@ networks-apart n text g h d old apart = by (value_at old.networks g) d
     by o deed.Dropped = gone o
 
 pub networks-ascend : (n : ℕ) (text : Bytes) (g : ℕ) (d : Deed) (old : Lines) → AreFrom 0 old.networks
-    → AreFrom 0 (lines_after n text (done_by g d) old).networks
-networks-ascend n text g d old ascend = by (value_at old.networks g) d
+    → AreFrom 0 (lines_after n text (done_as g d) old).networks
+networks-ascend n text g d old ascend = by (entry_at old.networks g) d
   where
-    kept : (o : Option NetworkLines) (d : Deed) → AreFrom 0 (with_network o n text (done_by g d) old).networks
+    kept : (o : Option NetworkLines) (d : Deed) → AreFrom 0 (with_network o n text (done_as g d) old).networks
     kept None d = inserted-ascend g 0 old.networks (network_after n d new_network) (omega arith) ascend
     kept (Some net) d = set-ascend (is_at (nat_cmp g)) 0 old.networks (network_after n d net) ascend
 
-    gone : (o : Option NetworkLines) → AreFrom 0 (without_network o n text (done_by g deed.Dropped) old).networks
+    gone : (o : Option NetworkLines) → AreFrom 0 (without_network o n text (done_as g deed.Dropped) old).networks
     gone None = ascend
     gone (Some net) = removed-ascend (is_at (nat_cmp g)) 0 old.networks ascend
 
     by : (o : Option NetworkLines) (d : Deed)
-        → AreFrom 0 (if is_drop d then without_network o n text (done_by g d) old
-        else with_network o n text (done_by g d) old).networks
+        → AreFrom 0 (if is_drop d then without_network o n text (done_as g d) old
+        else with_network o n text (done_as g d) old).networks
     by o deed.Declared = kept o deed.Declared
     by o deed.Refused = kept o deed.Refused
     by o (deed.Applied i drawn) = kept o (deed.Applied i drawn)
@@ -116,8 +116,8 @@ networks-ascend n text g d old ascend = by (value_at old.networks g) d
 -- ---- lines that last
 -- what declares something
 pub declarations-after : (n : ℕ) (text : Bytes) (g : ℕ) (d : Deed) (o : Option NetworkLines) (old : Lines)
-    (es : List AppliedLine) → AreWithin 0 n old.lasting.declarations
-    → AreNoted o (declarations_of g old.lasting.declarations) es
+    (es : List AppliedLine) → AscendWithin 0 n old.lasting.declarations
+    → AreLinesNoted o (declarations_of g old.lasting.declarations) es
     → (changed n text g d o old).lasting.declarations ≡ declarations_behind n text g d old.lasting.declarations
 declarations-after n text g d o old es within noted = by o noted d
   where
@@ -125,7 +125,7 @@ declarations-after n text g d o old es within noted = by o noted d
         ≡ old.lasting.declarations ++ (n, record { network = g; text = text }) ∷ []
     one = inserted-last 0 n old.lasting.declarations (record { network = g; text = text }) within
 
-    by : (o : Option NetworkLines) → AreNoted o (declarations_of g old.lasting.declarations) es → (d : Deed)
+    by : (o : Option NetworkLines) → AreLinesNoted o (declarations_of g old.lasting.declarations) es → (d : Deed)
         → (changed n text g d o old).lasting.declarations ≡ declarations_behind n text g d old.lasting.declarations
     by None noted deed.Declared = one
     by None noted deed.Refused = refl
@@ -141,18 +141,18 @@ declarations-after n text g d o old es within noted = by o noted d
         ∙ ap (without_all (map declared_number (declarations_of g old.lasting.declarations)))
         (sym (map-id old.lasting.declarations))
         ∙ without-passing (λ e. e) (declares_of g) 0 n old.lasting.declarations
-        (subst (AreWithin 0 n) (sym (map-id old.lasting.declarations)) within)
+        (subst (AscendWithin 0 n) (sym (map-id old.lasting.declarations)) within)
         ∙ map-id (filter (λ e. not (declares_of g e)) old.lasting.declarations)
 
 -- what concerns open slots
 pub events-after : (n : ℕ) (text : Bytes) (g : ℕ) (d : Deed) (o : Option NetworkLines) (old : Lines)
     (ds : List (ℕ × Declaration)) (es : List AppliedLine) → old.lasting.events ≡ map pair_of es
-    → AreWithin 0 n old.lasting.events → AreNoted o ds (of_network g es)
+    → AscendWithin 0 n old.lasting.events → AreLinesNoted o ds (of_network g es)
     → (changed n text g d o old).lasting.events ≡ map pair_of (applied_behind n text g d es)
 events-after n text g d o old ds es are within noted = by o noted d
   where
-    pairs-within : AreWithin 0 n (map pair_of es)
-    pairs-within = subst (AreWithin 0 n) are within
+    pairs-within : AscendWithin 0 n (map pair_of es)
+    pairs-within = subst (AscendWithin 0 n) are within
 
     one : (i : ℕ) (drawn : Drawn) → insert_entry nat_cmp old.lasting.events n text
         ≡ map pair_of (es ++ record { number = n; network = g; text = text; slot = i; drawn = drawn } ∷ [])
@@ -160,20 +160,20 @@ events-after n text g d o old ds es are within noted = by o noted d
         inserted-last 0 n old.lasting.events text within ∙ ap (λ l. l ++ (n, text) ∷ []) are
         ∙ sym (map-append-one pair_of es (record { number = n; network = g; text = text; slot = i; drawn = drawn }))
 
-    by : (o : Option NetworkLines) → AreNoted o ds (of_network g es) → (d : Deed)
+    by : (o : Option NetworkLines) → AreLinesNoted o ds (of_network g es) → (d : Deed)
         → (changed n text g d o old).lasting.events ≡ map pair_of (applied_behind n text g d es)
     by None noted deed.Declared = are
     by None noted deed.Refused = are
     by None noted (deed.Applied i drawn) = one i drawn
     by None (no-ds, no-es) (deed.Closed i drawn) =
-        are ∙ closed-events g i n es None pairs-within (sym (ap (λ l. slot_lines (at_slot i l)) no-es))
+        are ∙ closed-events g i n es None pairs-within (sym (ap (λ l. slot_lines (lines_at_slot i l)) no-es))
     by None (no-ds, no-es) deed.Dropped = are ∙ ap (map pair_of) (sym (none-passes (is_of_network g) es no-es))
     by (Some net) noted deed.Declared = are
     by (Some net) noted deed.Refused = are
     by (Some net) noted (deed.Applied i drawn) = one i drawn
     by (Some net) noted (deed.Closed i drawn) =
-        ap (events_but (value_at net.slots i)) are
-        ∙ closed-events g i n es (value_at net.slots i) pairs-within (noted.slots i)
+        ap (events_but (entry_at net.slots i)) are
+        ∙ closed-events g i n es (entry_at net.slots i) pairs-within (noted.slots i)
     by (Some net) noted deed.Dropped =
         ap (without_slots (values_of net.slots)) are
         ∙ dropped-events g 0 n net.slots es noted.ascend pairs-within noted.slots
@@ -274,7 +274,7 @@ other-applied n text g h deed.Dropped es apart =
 
 -- ---- each network
 abbrev IsState : ℕ → Bool → ℕ → Option NetworkLines → List (ℕ × Declaration) → List AppliedLine → Live → Type 0
-IsState longest bytes g o ds es own = AreNoted o ds es × IsMade longest bytes g o ds es own
+IsState longest bytes g o ds es own = AreLinesNoted o ds es × IsMade longest bytes g o ds es own
 
 carried : (longest : ℕ) (bytes : Bool) (g : ℕ) (o p : Option NetworkLines) (ds cs : List (ℕ × Declaration))
     (es fs : List AppliedLine) (own other : Live) → p ≡ o → cs ≡ ds → fs ≡ es → other ≡ own
@@ -294,40 +294,40 @@ filtered-twice p xs = filter-twice p p p (λ x. by (p x)) xs
 
 -- of each network it is known what the lines that last make of it
 pub each-behind : NetworksAreMade → (longest : ℕ) (bytes : Bool) (n : ℕ) (line text : Bytes) (g : ℕ) (d : Deed) (l t : Live)
-    (lines : Lines) (known : IsKnown longest bytes n l lines)
-    → Remembers (alone g l) n (given longest line) (record { text = text; done = Some (done_by g d) }) (alone g t)
+    (lines : Lines) (known : AreLinesKnown longest bytes n l lines)
+    → Remembers (alone g l) n (given longest line) (record { text = text; done = Some (done_as g d) }) (alone g t)
     → OthersStay g l t → (h : ℕ)
-    → IsState longest bytes h (value_at (lines_after n line (done_by g d) lines).networks h)
-    (declarations_of h (lines_after n line (done_by g d) lines).lasting.declarations)
+    → IsState longest bytes h (entry_at (lines_after n line (done_as g d) lines).networks h)
+    (declarations_of h (lines_after n line (done_as g d) lines).lasting.declarations)
     (of_network h (applied_behind n line g d known.applied)) (alone h t)
 each-behind made longest bytes n line text g d l t lines known serves others h = by (h == g) refl
   where
-    declares : (lines_after n line (done_by g d) lines).lasting.declarations
+    declares : (lines_after n line (done_as g d) lines).lasting.declarations
         ≡ declarations_behind n line g d lines.lasting.declarations
-    declares = declarations-after n line g d (value_at lines.networks g) lines (of_network g known.applied)
+    declares = declarations-after n line g d (entry_at lines.networks g) lines (of_network g known.applied)
         known.declarations_ascend (known.noted g)
 
-    here : IsState longest bytes g (value_at (lines_after n line (done_by g d) lines).networks g)
-        (declarations_of g (lines_after n line (done_by g d) lines).lasting.declarations)
+    here : IsState longest bytes g (entry_at (lines_after n line (done_as g d) lines).networks g)
+        (declarations_of g (lines_after n line (done_as g d) lines).lasting.declarations)
         (of_network g (applied_behind n line g d known.applied)) (alone g t)
     here =
         carried longest bytes g _ _ _ _ _ _ _ _
-        (networks-here n line g d (value_at lines.networks g) lines known.networks_ascend refl)
+        (networks-here n line g d (entry_at lines.networks g) lines known.networks_ascend refl)
         (ap (declarations_of g) declares ∙ own-declarations n line g d lines.lasting.declarations)
         (own-applied n line g d known.applied) refl (
-          noted-behind g n line d (value_at lines.networks g) lines.lasting.declarations known.applied (known.noted g),
-          made longest bytes g n line text d (value_at lines.networks g) (declarations_of g lines.lasting.declarations)
+          noted-behind g n line d (entry_at lines.networks g) lines.lasting.declarations known.applied (known.noted g),
+          made longest bytes g n line text d (entry_at lines.networks g) (declarations_of g lines.lasting.declarations)
               (of_network g known.applied) (alone g l) (alone g t) (known.noted g)
               (filtered-twice (is_of_network g) known.applied) (known.made g) serves,
         )
 
     by : (b : Bool) → (h == g) ≡ b
-        → IsState longest bytes h (value_at (lines_after n line (done_by g d) lines).networks h)
-        (declarations_of h (lines_after n line (done_by g d) lines).lasting.declarations)
+        → IsState longest bytes h (entry_at (lines_after n line (done_as g d) lines).networks h)
+        (declarations_of h (lines_after n line (done_as g d) lines).lasting.declarations)
         (of_network h (applied_behind n line g d known.applied)) (alone h t)
     by true is = subst
-        (λ h. IsState longest bytes h (value_at (lines_after n line (done_by g d) lines).networks h)
-        (declarations_of h (lines_after n line (done_by g d) lines).lasting.declarations)
+        (λ h. IsState longest bytes h (entry_at (lines_after n line (done_as g d) lines).networks h)
+        (declarations_of h (lines_after n line (done_as g d) lines).lasting.declarations)
         (of_network h (applied_behind n line g d known.applied)) (alone h t))
         (sym ((Decides-eqb h g).0 is)) here
     by false is =

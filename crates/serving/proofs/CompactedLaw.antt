@@ -4,11 +4,11 @@ use Rattle.std.proofs.Common.{◌∙◌, refl, sym, ap, subst, arith, true≢fal
 use Rattle.std.proofs.lemmas.Bool.Decides.{Decides-eqb}
 use Rattle.protocol.specs.Sets.{among}
 use Rattle.scripts.specs.Script.{Bytes}
-use Rattle.feed.specs.Lasting.{Declaration, Lines, NetworkLines, value_at}
+use Rattle.feed.specs.Lasting.{Declaration, Lines, NetworkLines, entry_at}
 use Rattle.requests.specs.Outlines.{waiting_at}
-use Rattle.serving.specs.Compacted.{AppliedLine, AreNoted, DeclarationsAreSmall, IsKnown, IsShortened, NamingLinesBegin, ShorterJournalsLeadToAlikeHosts, applied_tag, declarations_of, declared_tag, naming_line, naming_tags, of_network, short_tags}
+use Rattle.serving.specs.Compacted.{AppliedLine, AreLinesKnown, AreLinesNoted, DeclarationsAreSmall, IsShortened, NamingLinesBegin, ShorterJournalsLeadToAlikeHosts, applied_tag, declarations_of, declared_tag, naming_line, naming_tags, of_network, short_tags}
 use Rattle.serving.specs.Hosts.{Live, live_at}
-use Rattle.serving.specs.Merging.{AreBothAlike, AreOf, all_lines, lines_for}
+use Rattle.serving.specs.Merging.{AreBothAlike, AreLinesOf, all_lines, lines_for}
 use Rattle.serving.proofs.Alone.{found-alone}
 use Rattle.serving.proofs.ApartRuns.{reached_hosts_are_ordered}
 use Rattle.serving.proofs.CompactedEnd.{declarations_may_be_lowered, each-shortened}
@@ -28,37 +28,37 @@ names-count : (networks : List (ℕ × NetworkLines)) → length (names_in netwo
 names-count [] = refl
 names-count (e ∷ networks) = let rest = names-count networks in omega (arith, rest)
 
-is-among : (networks : List (ℕ × NetworkLines)) (g : ℕ) (net : NetworkLines) → value_at networks g ≡ Some net
+is-among : (networks : List (ℕ × NetworkLines)) (g : ℕ) (net : NetworkLines) → entry_at networks g ≡ Some net
     → among (names_in networks) g ≡ true
 is-among [] g net is = absurd (cc)
 is-among (e ∷ networks) g net is = by (e.0 == g) refl (is-among networks g net)
   where
-    by : (b : Bool) → (e.0 == g) ≡ b → (value_at networks g ≡ Some net → among (names_in networks) g ≡ true)
+    by : (b : Bool) → (e.0 == g) ≡ b → (entry_at networks g ≡ Some net → among (names_in networks) g ≡ true)
         → among (names_in (e ∷ networks)) g ≡ true
     by true same others = ap (λ b. b || among (names_in networks) g) same
     by false apart others =
         let differ : g ≢ e.0 = λ same. true≢false (sym ((Decides-eqb e.0 g).1 (sym same)) ∙ apart) in
         ap (λ b. b || among (names_in networks) g) apart
-        ∙ others (sym (ap (λ b. cond b (Some e.1) (value_at networks g)) (not-at g e.0 differ)) ∙ is)
+        ∙ others (sym (ap (λ b. cond b (Some e.1) (entry_at networks g)) (not-at g e.0 differ)) ∙ is)
 
-of-both : (names : List ℕ) (es fs : List (ℕ × Bytes)) → AreOf names es → AreOf names fs → AreOf names (es ++ fs)
+of-both : (names : List ℕ) (es fs : List (ℕ × Bytes)) → AreLinesOf names es → AreLinesOf names fs → AreLinesOf names (es ++ fs)
 of-both names [] fs one two = two
 of-both names (e ∷ es) fs one two = (one.0, of-both names es fs one.1 two)
 
 -- what passes a test of some network is of one that is known
 abbrev AreKnown : {X : Type 0} → List (ℕ × NetworkLines) → (X → ℕ) → List X → Type 0
-AreKnown networks network xs = (g : ℕ) → value_at networks g ≡ None → filter (λ x. network x == g) xs ≡ []
+AreKnown networks network xs = (g : ℕ) → entry_at networks g ≡ None → filter (λ x. network x == g) xs ≡ []
 
 head-known : {X : Type 0} (networks : List (ℕ × NetworkLines)) (network : X → ℕ) (x : X) (xs : List X)
     → AreKnown networks network (x ∷ xs) → among (names_in networks) (network x) ≡ true
-head-known {X} networks network x xs known = by (value_at networks (network x)) refl
+head-known {X} networks network x xs known = by (entry_at networks (network x)) refl
   where
     never : (b : Bool) → b ≡ true
         → cond b (x ∷ filter (λ y. network y == network x) xs) (filter (λ y. network y == network x) xs) ≡ [] → ⊥
     never true is none = cc
     never false is none = true≢false (sym is)
 
-    by : (o : Option NetworkLines) → value_at networks (network x) ≡ o → among (names_in networks) (network x) ≡ true
+    by : (o : Option NetworkLines) → entry_at networks (network x) ≡ o → among (names_in networks) (network x) ≡ true
     by None is = absurd (never (network x == network x) (itself (network x)) (known (network x) is))
     by (Some net) is = is-among networks (network x) net is
 
@@ -73,7 +73,7 @@ tail-known {X} networks network x xs known g is = by (network x == g) (known g i
 
 declared-of : (networks : List (ℕ × NetworkLines)) (ds : List (ℕ × Declaration))
     → AreKnown networks (λ (e : ℕ × Declaration). e.1.network) ds
-    → AreOf (names_in networks) (map (declared_tag networks) ds)
+    → AreLinesOf (names_in networks) (map (declared_tag networks) ds)
 declared-of networks [] known = tt
 declared-of networks (e ∷ ds) known = (
   head-known networks (λ (e : ℕ × Declaration). e.1.network) e ds known,
@@ -81,14 +81,14 @@ declared-of networks (e ∷ ds) known = (
 )
 
 applied-of : (networks : List (ℕ × NetworkLines)) (es : List AppliedLine)
-    → AreKnown networks (λ (e : AppliedLine). e.network) es → AreOf (names_in networks) (map applied_tag es)
+    → AreKnown networks (λ (e : AppliedLine). e.network) es → AreLinesOf (names_in networks) (map applied_tag es)
 applied-of networks [] known = tt
 applied-of networks (e ∷ es) known = (
   head-known networks (λ (e : AppliedLine). e.network) e es known,
   applied-of networks es (tail-known networks (λ (e : AppliedLine). e.network) e es known),
 )
 
-more-names : (names : List ℕ) (g : ℕ) (es : List (ℕ × Bytes)) → AreOf names es → AreOf (g ∷ names) es
+more-names : (names : List ℕ) (g : ℕ) (es : List (ℕ × Bytes)) → AreLinesOf names es → AreLinesOf (g ∷ names) es
 more-names names g [] are = tt
 more-names names g (e ∷ es) are = (by (g == e.0) are.0, more-names names g es are.1)
   where
@@ -96,29 +96,29 @@ more-names names g (e ∷ es) are = (by (g == e.0) are.0, more-names names g es 
     by true is = refl
     by false is = is
 
-naming-of : (networks : List (ℕ × NetworkLines)) → AreOf (names_in networks) (naming_tags networks)
+naming-of : (networks : List (ℕ × NetworkLines)) → AreLinesOf (names_in networks) (naming_tags networks)
 naming-of [] = tt
 naming-of (e ∷ networks) =
     by (e.1.is_named && not (nat_lt 0 (length e.1.slots)))
     (more-names (names_in networks) e.0 (naming_tags networks) (naming-of networks))
   where
-    by : (b : Bool) → AreOf (names_in (e ∷ networks)) (naming_tags networks)
-        → AreOf (names_in (e ∷ networks)) (cond b ((e.0, naming_line e.0) ∷ naming_tags networks) (naming_tags networks))
+    by : (b : Bool) → AreLinesOf (names_in (e ∷ networks)) (naming_tags networks)
+        → AreLinesOf (names_in (e ∷ networks)) (cond b ((e.0, naming_line e.0) ∷ naming_tags networks) (naming_tags networks))
     by true others = (ap (λ b. b || among (names_in networks) e.0) (itself e.0), others)
     by false others = others
 
-tags-of : (longest : ℕ) (bytes : Bool) (n : ℕ) (l : Live) (lines : Lines) (known : IsKnown longest bytes n l lines)
-    → AreOf (names_in lines.networks) (short_tags lines known.applied)
+tags-of : (longest : ℕ) (bytes : Bool) (n : ℕ) (l : Live) (lines : Lines) (known : AreLinesKnown longest bytes n l lines)
+    → AreLinesOf (names_in lines.networks) (short_tags lines known.applied)
 tags-of longest bytes n l lines known =
     of-both (names_in lines.networks) (map (declared_tag lines.networks) lines.lasting.declarations)
     (naming_tags lines.networks ++ map applied_tag known.applied)
     (declared-of lines.networks lines.lasting.declarations
-    (λ g is. (subst (λ o. AreNoted o (declarations_of g lines.lasting.declarations) (of_network g known.applied)) is
+    (λ g is. (subst (λ o. AreLinesNoted o (declarations_of g lines.lasting.declarations) (of_network g known.applied)) is
     (known.noted g)).0))
     (of-both (names_in lines.networks) (naming_tags lines.networks) (map applied_tag known.applied)
     (naming-of lines.networks)
     (applied-of lines.networks known.applied
-    (λ g is. (subst (λ o. AreNoted o (declarations_of g lines.lasting.declarations) (of_network g known.applied)) is
+    (λ g is. (subst (λ o. AreLinesNoted o (declarations_of g lines.lasting.declarations) (of_network g known.applied)) is
     (known.noted g)).1)))
 
 -- ---- the law

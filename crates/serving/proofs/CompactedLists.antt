@@ -5,7 +5,7 @@ use Rattle.std.specs.Ordering.{is_eq, match_ordering, nat_cmp}
 use Rattle.std.specs.BTreeMap.{insert_entry, is_at}
 use Rattle.std.proofs.Common.{◌∙◌, Less, Equal, Greater, refl, ap, arith}
 use Rattle.feed.specs.Lasting.{without, without_all}
-use Rattle.serving.specs.Compacted.{AreWithin}
+use Rattle.serving.specs.Compacted.{AscendWithin}
 use Rattle.serving.proofs.Alone.{IsOrder, at-itself, order-of}
 
 -- ---- what passes tests
@@ -65,22 +65,22 @@ not-at g h apart = by (nat_cmp g h) (order-of g h)
     by Equal is = absurd (apart is)
     by Greater is = refl
 
-pub within-more : {X : Type 0} (k n : ℕ) (es : List (ℕ × X)) → AreWithin k n es → AreWithin k (n + 1) es
+pub within-more : {X : Type 0} (k n : ℕ) (es : List (ℕ × X)) → AscendWithin k n es → AscendWithin k (n + 1) es
 within-more k n [] are = omega (arith, are)
 within-more k n (e ∷ es) are = (are.0, within-more (e.0 + 1) n es are.1)
 
-pub within-from : {X : Type 0} (j k n : ℕ) (es : List (ℕ × X)) → j ≤ k → AreWithin k n es → AreWithin j n es
+pub within-from : {X : Type 0} (j k n : ℕ) (es : List (ℕ × X)) → j ≤ k → AscendWithin k n es → AscendWithin j n es
 within-from j k n [] le are = omega (arith, are, le)
 within-from j k n (e ∷ es) le are = let more = are.0 in (omega (arith, more, le), are.1)
 
 -- one more behind them, which stands there by its number
-pub inserted-last : {X : Type 0} (k n : ℕ) (es : List (ℕ × X)) (x : X) → AreWithin k n es
+pub inserted-last : {X : Type 0} (k n : ℕ) (es : List (ℕ × X)) (x : X) → AscendWithin k n es
     → insert_entry nat_cmp es n x ≡ es ++ (n, x) ∷ []
 inserted-last k n [] x are = refl
 inserted-last {X} k n (e ∷ es) x are =
     step (nat_cmp n e.0) (order-of n e.0) (first-below (e.0 + 1) n es are.1) (inserted-last (e.0 + 1) n es x are.1)
   where
-    first-below : (j n : ℕ) (es : List (ℕ × X)) → AreWithin j n es → j ≤ n
+    first-below : (j n : ℕ) (es : List (ℕ × X)) → AscendWithin j n es → j ≤ n
     first-below j n [] are = are
     first-below j n (f ∷ es) are = let rest = first-below (f.0 + 1) n es are.1 in let more = are.0 in omega (arith, rest, more)
 
@@ -90,19 +90,19 @@ inserted-last {X} k n (e ∷ es) x are =
     step Equal order below others = absurd (omega (arith, order, below))
     step Greater order below others = ap (λ l. e ∷ l) others
 
-pub within-one-more : {X : Type 0} (k n : ℕ) (es : List (ℕ × X)) (x : X) → AreWithin k n es
-    → AreWithin k (n + 1) (es ++ (n, x) ∷ [])
+pub within-one-more : {X : Type 0} (k n : ℕ) (es : List (ℕ × X)) (x : X) → AscendWithin k n es
+    → AscendWithin k (n + 1) (es ++ (n, x) ∷ [])
 within-one-more k n [] x are = (are, omega arith)
 within-one-more k n (e ∷ es) x are = (are.0, within-one-more (e.0 + 1) n es x are.1)
 
 -- those of the numbered things that pass a test
-pub within-filtered : {X Z : Type 0} (pair : Z → ℕ × X) (p : Z → Bool) (k n : ℕ) (zs : List Z) → AreWithin k n (map pair zs)
-    → AreWithin k n (map pair (filter p zs))
+pub within-filtered : {X Z : Type 0} (pair : Z → ℕ × X) (p : Z → Bool) (k n : ℕ) (zs : List Z) → AscendWithin k n (map pair zs)
+    → AscendWithin k n (map pair (filter p zs))
 within-filtered pair p k n [] are = are
 within-filtered {X} {Z} pair p k n (z ∷ zs) are = by (p z) (within-filtered pair p ((pair z).0 + 1) n zs are.1)
   where
-    by : (b : Bool) → AreWithin ((pair z).0 + 1) n (map pair (filter p zs))
-        → AreWithin k n (map pair (cond b (z ∷ filter p zs) (filter p zs)))
+    by : (b : Bool) → AscendWithin ((pair z).0 + 1) n (map pair (filter p zs))
+        → AscendWithin k n (map pair (cond b (z ∷ filter p zs) (filter p zs)))
     by true rest = (are.0, rest)
     by false rest =
         let more = are.0 in within-from k ((pair z).0 + 1) n (map pair (filter p zs)) (omega (arith, more)) rest
@@ -119,7 +119,7 @@ above-more j k (n ∷ ns) le are = let more = are.0 in (omega (arith, more, le),
 abbrev number_by : {X Z : Type 0} → (Z → ℕ × X) → Z → ℕ
 number_by pair z = (pair z).0
 
-above-filtered : {X Z : Type 0} (pair : Z → ℕ × X) (p : Z → Bool) (k n : ℕ) (zs : List Z) → AreWithin k n (map pair zs)
+above-filtered : {X Z : Type 0} (pair : Z → ℕ × X) (p : Z → Bool) (k n : ℕ) (zs : List Z) → AscendWithin k n (map pair zs)
     → AreAbove k (map (number_by pair) (filter p zs))
 above-filtered pair p k n [] are = tt
 above-filtered {X} {Z} pair p k n (z ∷ zs) are = by (p z) (above-filtered pair p ((pair z).0 + 1) n zs are.1)
@@ -142,7 +142,7 @@ first-stays {X} e (n ∷ ns) es are =
     ap (without_all ns) (ap (λ b. cond b es (e ∷ without n es)) (not-at n e.0 apart)) ∙ first-stays e ns (without n es) are.1
 
 -- Without the numbers of those that pass a test, all others are left.
-pub without-passing : {X Z : Type 0} (pair : Z → ℕ × X) (p : Z → Bool) (k n : ℕ) (zs : List Z) → AreWithin k n (map pair zs)
+pub without-passing : {X Z : Type 0} (pair : Z → ℕ × X) (p : Z → Bool) (k n : ℕ) (zs : List Z) → AscendWithin k n (map pair zs)
     → without_all (map (number_by pair) (filter p zs)) (map pair zs) ≡ map pair (filter (λ z. not (p z)) zs)
 without-passing pair p k n [] are = refl
 without-passing {X} {Z} pair p k n (z ∷ zs) are =

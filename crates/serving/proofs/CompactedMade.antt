@@ -9,40 +9,41 @@ use Rattle.network.specs.Standing.{Machine}
 use Rattle.protocol.specs.Hosts.{Config}
 use Rattle.protocol.specs.Networks.{Budgets}
 use Rattle.scripts.specs.Script.{Bytes}
-use Rattle.feed.specs.Served.{Reply}
+use Rattle.feed.specs.Served.{LineReply}
 use Rattle.feed.specs.WholeLines.{given}
 use Rattle.feed.specs.declared.answering.Deed.{Deed}
 use Rattle.feed.specs.declared.answering.Deed.TheVariants as deed
 use Rattle.feed.specs.declared.answering.Done.{Done}
 use Rattle.feed.specs.declared.answering.Drawn.{Drawn}
-use Rattle.requests.specs.Asking.{IsAsked}
-use Rattle.requests.specs.Outlines.{IsConfigOf, Outlined, fresh, waiting_at, waiting_set, with_node, with_roster}
+use Rattle.requests.specs.Asking.{IsAskedOf}
+use Rattle.requests.specs.Outlines.{IsConfigOf, Outlined, bare_outline, waiting_at, waiting_set, with_node, with_roster}
 use Rattle.requests.specs.declared.ask.Ask.{Ask}
 use Rattle.requests.specs.declared.ask.Ask.TheVariants as ask
 use Rattle.requests.specs.declared.request.Declaration.TheVariants as declaration
-use Rattle.serving.specs.Compacted.{Act, DeclarationsAreSmall, DoAll, IsSmall, done_by, one_runs, one_waits}
-use Rattle.serving.specs.Compacted.DoAll.{no_act, one_act}
+use Rattle.serving.specs.Compacted.{DeclarationsAreSmall, DoAll, IsSmall, LineDeed, done_as}
+use Rattle.serving.specs.Lowering.{waits_alone, runs_alone}
+use Rattle.serving.specs.Compacted.DoAll.{no_deed, one_deed}
 use Rattle.serving.specs.Futures.{AreAlike, AreAllAlike, IsAlike}
 use Rattle.serving.specs.Futures.AreAllAlike.{both_run, none_runs}
-use Rattle.serving.specs.Hosts.{AreAllAnswered, IsAnswer, IsAnsweredOnceBegun, IsDroppedAt, IsEventAnswered, Live, Serves, begun, deed_at, deed_by, deed_of_all, done_if, live_at, new_live}
+use Rattle.serving.specs.Hosts.{AreAllAnswered, IsAnsweredOnceBegun, IsAskAnswered, IsDroppedAt, IsEventAnswered, Live, Serves, begun, deed_at, deed_by, deed_of_all, done_if, live_at, new_live}
 use Rattle.serving.proofs.Alone.{at-itself, same-live}
 use Rattle.serving.proofs.AlikeHosts.{alike_hosts_answer_alike}
 use Rattle.serving.proofs.ApartLines.{not-done}
 use Rattle.serving.proofs.CompactedAsked.{Asks, begins-then, placed, runs-there, waits-there}
 
 -- ---- lines that act
-pub do-one-more : (longest g n : ℕ) (text : Bytes) (act : Act) {l now new : Live} {acts : List Act}
+pub do-one-more : (longest g n : ℕ) (text : Bytes) (act : LineDeed) {l now new : Live} {acts : List LineDeed}
     → DoAll longest g l acts now
-    → Serves now n (given longest act.line) (record { text = text; done = Some (done_by g act.deed) }) new
+    → Serves now n (given longest act.line) (record { text = text; done = Some (done_as g act.deed) }) new
     → DoAll longest g l (acts ++ act ∷ []) new
-do-one-more longest g n text act no_act serves = one_act n text act serves no_act
-do-one-more longest g n text act (one_act k told first does others) serves =
-    one_act k told first does (do-one-more longest g n text act others serves)
+do-one-more longest g n text act no_deed serves = one_deed n text act serves no_deed
+do-one-more longest g n text act (one_deed k told first does others) serves =
+    one_deed k told first does (do-one-more longest g n text act others serves)
 
-pub do-both : (longest g : ℕ) {l now new : Live} {acts more : List Act} → DoAll longest g l acts now
+pub do-both : (longest g : ℕ) {l now new : Live} {acts more : List LineDeed} → DoAll longest g l acts now
     → DoAll longest g now more new → DoAll longest g l (acts ++ more) new
-do-both longest g no_act later = later
-do-both longest g (one_act n text act does others) later = one_act n text act does (do-both longest g others later)
+do-both longest g no_deed later = later
+do-both longest g (one_deed n text act does others) later = one_deed n text act does (do-both longest g others later)
 
 -- ---- what events do
 abbrev pub IsEventDeed : Deed → Type 0
@@ -69,54 +70,54 @@ abbrev deed_in : Deed → Option Done → Deed
 deed_in d None = d
 deed_in d (Some done) = done.deed
 
-pub same-deed : (g : ℕ) (d e : Deed) (a : Reply) → a.done ≡ Some (done_by g e) → a.done ≡ Some (done_by g d) → e ≡ d
+pub same-deed : (g : ℕ) (d e : Deed) (a : LineReply) → a.done ≡ Some (done_as g e) → a.done ≡ Some (done_as g d) → e ≡ d
 same-deed g d e a one other = ap (deed_in d) (sym one ∙ other)
 
 -- ---- a network that runs
 -- it is served an event, or it is taken back
 abbrev pub RunsOn : Bool → ℕ → Deed → Live → Type 0
-RunsOn bytes g d new = (IsEventDeed d × ((after : Machine) × (new ≡ one_runs bytes g after))) ⊎ ((d ≡ deed.Dropped) × (new ≡ new_live bytes))
+RunsOn bytes g d new = (IsEventDeed d × ((after : Machine) × (new ≡ runs_alone bytes g after))) ⊎ ((d ≡ deed.Dropped) × (new ≡ new_live bytes))
 
-found-runs : (bytes : Bool) (g : ℕ) (m found : Machine) → live_at (one_runs bytes g m) g ≡ Some found → found ≡ m
+found-runs : (bytes : Bool) (g : ℕ) (m found : Machine) → live_at (runs_alone bytes g m) g ≡ Some found → found ≡ m
 found-runs bytes g m found is =
     let here = sym is ∙ runs-there bytes g m in cc
 
-event-runs-on : (n g : ℕ) (bytes : Bool) (e : Event) (m : Machine) (a : Reply) (d : Deed) (new : Live)
-    → a.done ≡ Some (done_by g d) → IsEventAnswered n g e (one_runs bytes g m) a new → RunsOn bytes g d new
-event-runs-on n g bytes e m a d new some (None, at, (is, same)) = not-done a (done_by g d) (ap (λ x. x.done) is) some
+event-runs-on : (n g : ℕ) (bytes : Bool) (e : Event) (m : Machine) (a : LineReply) (d : Deed) (new : Live)
+    → a.done ≡ Some (done_as g d) → IsEventAnswered n g e (runs_alone bytes g m) a new → RunsOn bytes g d new
+event-runs-on n g bytes e m a d new some (None, at, (is, same)) = not-done a (done_as g d) (ap (λ x. x.done) is) some
 event-runs-on n g bytes e m a d new some (Some found, at, (after, s, serves, is, says)) = inl (
   subst IsEventDeed (same-deed g d _ a (ap (λ x. x.done) says) some) (event-deed s.refused e s.slot _),
   (after, is ∙ placed bytes g m after),
 )
 
-all-run-on : (n g : ℕ) (bytes : Bool) (text : Bytes) (m : Machine) (a : Reply) (d : Deed) (new : Live)
-    → a.done ≡ Some (done_by g d) → AreAllAnswered n g text (one_runs bytes g m) a new → RunsOn bytes g d new
-all-run-on n g bytes text m a d new some (None, at, (is, same)) = not-done a (done_by g d) (ap (λ x. x.done) is) some
+all-run-on : (n g : ℕ) (bytes : Bool) (text : Bytes) (m : Machine) (a : LineReply) (d : Deed) (new : Live)
+    → a.done ≡ Some (done_as g d) → AreAllAnswered n g text (runs_alone bytes g m) a new → RunsOn bytes g d new
+all-run-on n g bytes text m a d new some (None, at, (is, same)) = not-done a (done_as g d) (ap (λ x. x.done) is) some
 all-run-on n g bytes text m a d new some (Some found, at, (after, answers, serves, is, says)) = inl (
   subst IsEventDeed (same-deed g d _ a (ap (λ x. x.done) says) some) (all-deed _ _),
   (after, is ∙ placed bytes g m after),
 )
 
-once-begun-runs-on : (n g : ℕ) (bytes : Bool) (answers : Live → Reply → Live → Type 0) (m : Machine) (a : Reply) (d : Deed)
-    (new : Live) → a.done ≡ Some (done_by g d) → (answers (one_runs bytes g m) a new → RunsOn bytes g d new)
-    → IsAnsweredOnceBegun n g answers (one_runs bytes g m) a new → RunsOn bytes g d new
+once-begun-runs-on : (n g : ℕ) (bytes : Bool) (answers : Live → LineReply → Live → Type 0) (m : Machine) (a : LineReply) (d : Deed)
+    (new : Live) → a.done ≡ Some (done_as g d) → (answers (runs_alone bytes g m) a new → RunsOn bytes g d new)
+    → IsAnsweredOnceBegun n g answers (runs_alone bytes g m) a new → RunsOn bytes g d new
 once-begun-runs-on n g bytes answers m a d new some law (true, now, same, answered) =
     law (subst (λ l. answers l a new) same answered)
 once-begun-runs-on n g bytes answers m a d new some law (false, now, begins, (is, same)) =
-    not-done a (done_by g d) (ap (λ x. x.done) is) some
+    not-done a (done_as g d) (ap (λ x. x.done) is) some
 
 not-taken : {X : Type 0} (o : Option Machine) (room : Bool) (m : Machine) → o ≡ Some m → (not (is_some o) && room) ≡ true → X
 not-taken None room m is taken = absurd (cc)
 not-taken (Some n) room m is taken = absurd (true≢false (sym taken))
 
-pub runs-on : (n g : ℕ) (bytes : Bool) (line : Option Bytes) (m : Machine) (a : Reply) (d : Deed) (new : Live)
-    → a.done ≡ Some (done_by g d) → Asks n g line (one_runs bytes g m) a new → RunsOn bytes g d new
+pub runs-on : (n g : ℕ) (bytes : Bool) (line : Option Bytes) (m : Machine) (a : LineReply) (d : Deed) (new : Live)
+    → a.done ≡ Some (done_as g d) → Asks n g line (runs_alone bytes g m) a new → RunsOn bytes g d new
 runs-on n g bytes line m a d new some asks = by asks.asked asks.answered
   where
-    by : (asked : Ask) → IsAnswer n g asked (one_runs bytes g m) a new → RunsOn bytes g d new
-    by (ask.Declare x) (false, declares, is) = not-done a (done_by g d) (ap (λ x. x.done) is) some
+    by : (asked : Ask) → IsAskAnswered n g asked (runs_alone bytes g m) a new → RunsOn bytes g d new
+    by (ask.Declare x) (false, declares, is) = not-done a (done_as g d) (ap (λ x. x.done) is) some
     by (ask.Declare (declaration.Net b)) (true, declares, is) =
-        not-taken (live_at (one_runs bytes g m) g) _ m (runs-there bytes g m) declares.0
+        not-taken (live_at (runs_alone bytes g m) g) _ m (runs-there bytes g m) declares.0
     by (ask.Declare (declaration.Node u q)) (true, declares, is) = absurd (true≢false (sym declares.0))
     by (ask.Declare (declaration.Roster r)) (true, declares, is) = absurd (true≢false (sym declares.0))
     by (ask.Serve e) answered =
@@ -124,30 +125,30 @@ runs-on n g bytes line m a d new some asks = by asks.asked asks.answered
     by (ask.ForAll text) answered =
         once-begun-runs-on n g bytes (AreAllAnswered n g text) m a d new some (all-run-on n g bytes text m a d new some)
         answered
-    by ask.Left answered = not-done a (done_by g d) answered.1 some
-    by (ask.Show i u) answered = not-done a (done_by g d) answered.1 some
-    by ask.Drop (false, drops, is) = not-done a (done_by g d) (ap (λ x. x.done) is) some
+    by ask.Left answered = not-done a (done_as g d) answered.1 some
+    by (ask.Show i u) answered = not-done a (done_as g d) answered.1 some
+    by ask.Drop (false, drops, is) = not-done a (done_as g d) (ap (λ x. x.done) is) some
     by ask.Drop (true, drops, is) = inr (
       sym (same-deed g d deed.Dropped a (ap (λ x. x.done) is) some),
-      (subst (λ o. IsDroppedAt None o g (one_runs bytes g m) true new) (runs-there bytes g m) drops).1
+      (subst (λ o. IsDroppedAt None o g (runs_alone bytes g m) true new) (runs-there bytes g m) drops).1
           ∙ ap (λ o. record { bytes = bytes; waiting = []; running = cond (is_eq o) [] ((g, m) ∷ []) }) (at-itself g),
     )
 
 -- ---- a network that waits
 -- more of it is declared, it is served its first event, or it is taken back
 pub data WaitsOn (longest : ℕ) (bytes : Bool) (g n : ℕ) (line text : Bytes) (o : Outlined) (d : Deed) (new : Live) : Type 0 where
-  declares_more : d ≡ deed.Declared → (p : Outlined) → IsSmall p → new ≡ one_waits bytes g p
+  declares_more : d ≡ deed.Declared → (p : Outlined) → IsSmall p → new ≡ waits_alone bytes g p
       → WaitsOn longest bytes g n line text o d new
   begins : (c : Config) → IsConfigOf g o c
-      → Serves (one_runs bytes g (begun c)) n (given longest line) (record { text = text; done = Some (done_by g d) }) new
+      → Serves (runs_alone bytes g (begun c)) n (given longest line) (record { text = text; done = Some (done_as g d) }) new
       → WaitsOn longest bytes g n line text o d new
   taken_back : d ≡ deed.Dropped → new ≡ new_live bytes → WaitsOn longest bytes g n line text o d new
 
-small-net : (b : Budgets) → (b.events < 2 ^ 64) × (b.bytes < 2 ^ 64) → IsSmall (fresh b)
+small-net : (b : Budgets) → (b.events < 2 ^ 64) × (b.bytes < 2 ^ 64) → IsSmall (bare_outline b)
 small-net b small = record { events = small.0; bytes = small.1; opens = tt }
 
 revised-there : (bytes : Bool) (g : ℕ) (o p : Outlined) (new : Live)
-    → new.waiting ≡ waiting_set ((g, o) ∷ []) g p → new.running ≡ [] → new.bytes ≡ bytes → new ≡ one_waits bytes g p
+    → new.waiting ≡ waiting_set ((g, o) ∷ []) g p → new.running ≡ [] → new.bytes ≡ bytes → new ≡ waits_alone bytes g p
 revised-there bytes g o p new waiting running is =
     same-live new.bytes bytes new.waiting ((g, p) ∷ []) new.running [] is
     (waiting ∙ ap (λ r. cond (is_eq r) ((g, p) ∷ []) ((g, o) ∷ [])) (at-itself g)) running
@@ -160,21 +161,21 @@ not-new : {X : Type 0} (o : Option Outlined) (room : Bool) (p : Outlined) → o 
 not-new None room p is taken = absurd (cc)
 not-new (Some q) room p is taken = absurd (true≢false (sym taken))
 
-abbrev pub replied : Bytes → ℕ → Deed → Reply
-replied text g d = record { text = text; done = Some (done_by g d) }
+abbrev pub replied : Bytes → ℕ → Deed → LineReply
+replied text g d = record { text = text; done = Some (done_as g d) }
 
 pub waits-on : DeclarationsAreSmall → (longest : ℕ) (bytes : Bool) (g n : ℕ) (line text : Bytes) (o : Outlined) (d : Deed)
     (new : Live) → IsSmall o
-    → Asks n g (given longest line) (one_waits bytes g o) (replied text g d) new
+    → Asks n g (given longest line) (waits_alone bytes g o) (replied text g d) new
     → WaitsOn longest bytes g n line text o d new
 waits-on are_small longest bytes g n line text o d new small asks = by asks.asked asks.is_asked asks.answered asks.back
   where
-    by : (asked : Ask) → IsAsked asks.fields (Some (g, asked))
-        → IsAnswer n g asked (one_waits bytes g o) (replied text g d) new
-        → ((k : ℕ) (other after : Live) (b : Reply) → IsAnswer k g asked other b after
+    by : (asked : Ask) → IsAskedOf asks.fields (Some (g, asked))
+        → IsAskAnswered n g asked (waits_alone bytes g o) (replied text g d) new
+        → ((k : ℕ) (other after : Live) (b : LineReply) → IsAskAnswered k g asked other b after
         → Serves other k (given longest line) b after)
         → WaitsOn longest bytes g n line text o d new
-    by (ask.Declare x) is_asked (false, declares, is) back = not-done (replied text g d) (done_by g d) (ap (λ x. x.done) is) refl
+    by (ask.Declare x) is_asked (false, declares, is) back = not-done (replied text g d) (done_as g d) (ap (λ x. x.done) is) refl
     by (ask.Declare (declaration.Net b)) is_asked (true, declares, is) back =
         not-new (waiting_at ((g, o) ∷ []) g) _ o (waits-there g o) declares.0
     by (ask.Declare (declaration.Node u q)) is_asked (true, declares, is) back =
@@ -200,27 +201,27 @@ waits-on are_small longest bytes g n line text o d new small asks = by asks.aske
         (revised-there bytes g o (with_roster o r.names.items r.shares) new
         (was.2 ∙ ap (λ p. waiting_set ((g, o) ∷ []) g (with_roster p r.names.items r.shares)) same) declares.2 declares.3)
     by (ask.Serve e) is_asked answered back =
-        let begin = begins-then n g bytes (IsEventAnswered n g e) o (replied text g d) (done_by g d) new refl answered in
-        begins begin.0 begin.1 (back n (one_runs bytes g (begun begin.0)) new (replied text g d) begin.2)
+        let begin = begins-then n g bytes (IsEventAnswered n g e) o (replied text g d) (done_as g d) new refl answered in
+        begins begin.0 begin.1 (back n (runs_alone bytes g (begun begin.0)) new (replied text g d) begin.2)
     by (ask.ForAll bytes_given) is_asked answered back =
-        let begin = begins-then n g bytes (AreAllAnswered n g bytes_given) o (replied text g d) (done_by g d) new refl answered in
-        begins begin.0 begin.1 (back n (one_runs bytes g (begun begin.0)) new (replied text g d) begin.2)
-    by ask.Left is_asked answered back = not-done (replied text g d) (done_by g d) answered.1 refl
-    by (ask.Show i u) is_asked answered back = not-done (replied text g d) (done_by g d) answered.1 refl
-    by ask.Drop is_asked (false, drops, is) back = not-done (replied text g d) (done_by g d) (ap (λ x. x.done) is) refl
+        let begin = begins-then n g bytes (AreAllAnswered n g bytes_given) o (replied text g d) (done_as g d) new refl answered in
+        begins begin.0 begin.1 (back n (runs_alone bytes g (begun begin.0)) new (replied text g d) begin.2)
+    by ask.Left is_asked answered back = not-done (replied text g d) (done_as g d) answered.1 refl
+    by (ask.Show i u) is_asked answered back = not-done (replied text g d) (done_as g d) answered.1 refl
+    by ask.Drop is_asked (false, drops, is) back = not-done (replied text g d) (done_as g d) (ap (λ x. x.done) is) refl
     by ask.Drop is_asked (true, drops, is) back =
         taken_back
         (sym (same-deed g d deed.Dropped (replied text g d) (ap (λ x. x.done) is) refl))
-        ((subst (λ w. IsDroppedAt w (live_at (one_waits bytes g o) g) g (one_waits bytes g o) true new) (waits-there g o)
+        ((subst (λ w. IsDroppedAt w (live_at (waits_alone bytes g o) g) g (waits_alone bytes g o) true new) (waits-there g o)
         drops).1
         ∙ ap (λ r. record { bytes = bytes; waiting = cond (is_eq r) [] ((g, o) ∷ []); running = [] }) (at-itself g))
 
 -- ---- a network that is none
 -- it is declared
 abbrev pub NewOn : Bool → ℕ → Deed → Live → Type 0
-NewOn bytes g d new = (d ≡ deed.Declared) × ((o : Outlined) × IsSmall o × (new ≡ one_waits bytes g o))
+NewOn bytes g d new = (d ≡ deed.Declared) × ((o : Outlined) × IsSmall o × (new ≡ waits_alone bytes g o))
 
-event-of-none : {X : Type 0} (n g : ℕ) (bytes : Bool) (e : Event) (a : Reply) (did : Done) (new : Live)
+event-of-none : {X : Type 0} (n g : ℕ) (bytes : Bool) (e : Event) (a : LineReply) (did : Done) (new : Live)
     → a.done ≡ Some did → IsAnsweredOnceBegun n g (IsEventAnswered n g e) (new_live bytes) a new → X
 event-of-none n g bytes e a did new some (false, now, starts, (is, same)) = not-done a did (ap (λ x. x.done) is) some
 event-of-none n g bytes e a did new some (true, now, same, (None, at, (is, still))) =
@@ -228,7 +229,7 @@ event-of-none n g bytes e a did new some (true, now, same, (None, at, (is, still
 event-of-none n g bytes e a did new some (true, now, same, (Some m, at, served)) =
     let here = ap (λ l. live_at l g) (sym same) ∙ at in absurd (cc)
 
-all-of-none : {X : Type 0} (n g : ℕ) (bytes : Bool) (text : Bytes) (a : Reply) (did : Done) (new : Live)
+all-of-none : {X : Type 0} (n g : ℕ) (bytes : Bool) (text : Bytes) (a : LineReply) (did : Done) (new : Live)
     → a.done ≡ Some did → IsAnsweredOnceBegun n g (AreAllAnswered n g text) (new_live bytes) a new → X
 all-of-none n g bytes text a did new some (false, now, starts, (is, same)) = not-done a did (ap (λ x. x.done) is) some
 all-of-none n g bytes text a did new some (true, now, same, (None, at, (is, still))) =
@@ -236,42 +237,42 @@ all-of-none n g bytes text a did new some (true, now, same, (None, at, (is, stil
 all-of-none n g bytes text a did new some (true, now, same, (Some m, at, served)) =
     let here = ap (λ l. live_at l g) (sym same) ∙ at in absurd (cc)
 
-pub new-on : DeclarationsAreSmall → (bytes : Bool) (g n : ℕ) (line : Option Bytes) (a : Reply) (d : Deed) (new : Live)
-    → a.done ≡ Some (done_by g d) → Asks n g line (new_live bytes) a new → NewOn bytes g d new
+pub new-on : DeclarationsAreSmall → (bytes : Bool) (g n : ℕ) (line : Option Bytes) (a : LineReply) (d : Deed) (new : Live)
+    → a.done ≡ Some (done_as g d) → Asks n g line (new_live bytes) a new → NewOn bytes g d new
 new-on are_small bytes g n line a d new some asks = by asks.asked asks.is_asked asks.answered
   where
-    by : (asked : Ask) → IsAsked asks.fields (Some (g, asked)) → IsAnswer n g asked (new_live bytes) a new
+    by : (asked : Ask) → IsAskedOf asks.fields (Some (g, asked)) → IsAskAnswered n g asked (new_live bytes) a new
         → NewOn bytes g d new
-    by (ask.Declare x) is_asked (false, declares, is) = not-done a (done_by g d) (ap (λ x. x.done) is) some
+    by (ask.Declare x) is_asked (false, declares, is) = not-done a (done_as g d) (ap (λ x. x.done) is) some
     by (ask.Declare (declaration.Net b)) is_asked (true, declares, is) = (
       sym (same-deed g d deed.Declared a (ap (λ x. x.done) is) some),
       (
-        fresh b,
+        bare_outline b,
         small-net b (are_small asks.fields g (declaration.Net b) is_asked),
-        same-live new.bytes bytes new.waiting ((g, fresh b) ∷ []) new.running [] declares.3 declares.1.1 declares.2,
+        same-live new.bytes bytes new.waiting ((g, bare_outline b) ∷ []) new.running [] declares.3 declares.1.1 declares.2,
       ),
     )
     by (ask.Declare (declaration.Node u q)) is_asked (true, declares, is) = absurd (true≢false (sym declares.0))
     by (ask.Declare (declaration.Roster r)) is_asked (true, declares, is) = absurd (true≢false (sym declares.0))
-    by (ask.Serve e) is_asked answered = event-of-none n g bytes e a (done_by g d) new some answered
-    by (ask.ForAll text) is_asked answered = all-of-none n g bytes text a (done_by g d) new some answered
-    by ask.Left is_asked answered = not-done a (done_by g d) answered.1 some
-    by (ask.Show i u) is_asked answered = not-done a (done_by g d) answered.1 some
+    by (ask.Serve e) is_asked answered = event-of-none n g bytes e a (done_as g d) new some answered
+    by (ask.ForAll text) is_asked answered = all-of-none n g bytes text a (done_as g d) new some answered
+    by ask.Left is_asked answered = not-done a (done_as g d) answered.1 some
+    by (ask.Show i u) is_asked answered = not-done a (done_as g d) answered.1 some
     by ask.Drop is_asked (taken, drops, is) =
-        not-done a (done_by g d) (ap (λ x. x.done) is ∙ ap (λ t. done_if t g deed.Dropped) drops.0) some
+        not-done a (done_as g d) (ap (λ x. x.done) is ∙ ap (λ t. done_if t g deed.Dropped) drops.0) some
 
 -- ---- what is alike
 abbrev OneAlike : Bool → ℕ → Machine → Live → Type 0
-OneAlike bytes g m other = (n : Machine) × IsAlike m n × (other ≡ one_runs bytes g n)
+OneAlike bytes g m other = (n : Machine) × IsAlike m n × (other ≡ runs_alone bytes g n)
 
-runs-alike : (bytes : Bool) (g : ℕ) (m n : Machine) → IsAlike m n → AreAlike (one_runs bytes g m) (one_runs bytes g n)
+runs-alike : (bytes : Bool) (g : ℕ) (m n : Machine) → IsAlike m n → AreAlike (runs_alone bytes g m) (runs_alone bytes g n)
 runs-alike bytes g m n alike = record { bytes = refl; waiting = refl; running = both_run alike none_runs }
 
 one-in-list : (g : ℕ) (m : Machine) (ns : List (ℕ × Machine)) → AreAllAlike ((g, m) ∷ []) ns
     → (n : Machine) × IsAlike m n × (ns ≡ (g, n) ∷ [])
 one-in-list g m ns (both_run {n} alike none_runs) = (n, alike, refl)
 
-one-alike : (bytes : Bool) (g : ℕ) (m : Machine) (other : Live) → AreAlike (one_runs bytes g m) other
+one-alike : (bytes : Bool) (g : ℕ) (m : Machine) (other : Live) → AreAlike (runs_alone bytes g m) other
     → OneAlike bytes g m other
 one-alike bytes g m other alike =
     let one = one-in-list g m other.running alike.running in
@@ -279,14 +280,14 @@ one-alike bytes g m other alike =
 
 -- what is served to the one is served to the other
 pub served-the-other : (longest : ℕ) (bytes : Bool) (g n : ℕ) (line text : Bytes) (d : Deed) (m after left : Machine)
-    → IsAlike m left → Serves (one_runs bytes g m) n (given longest line) (replied text g d) (one_runs bytes g after)
+    → IsAlike m left → Serves (runs_alone bytes g m) n (given longest line) (replied text g d) (runs_alone bytes g after)
     → (next : Machine) × IsAlike after next
-    × Serves (one_runs bytes g left) n (given longest line) (replied text g d) (one_runs bytes g next)
+    × Serves (runs_alone bytes g left) n (given longest line) (replied text g d) (runs_alone bytes g next)
 served-the-other longest bytes g n line text d m after left alike serves =
-    let both = alike_hosts_answer_alike (one_runs bytes g m) (one_runs bytes g left) (one_runs bytes g after) n (given longest line)
+    let both = alike_hosts_answer_alike (runs_alone bytes g m) (runs_alone bytes g left) (runs_alone bytes g after) n (given longest line)
     (replied text g d) (runs-alike bytes g m left alike) serves in
     let one = one-alike bytes g after both.0 both.2 in (
       one.0,
       one.1,
-      subst (λ l. Serves (one_runs bytes g left) n (given longest line) (replied text g d) l) one.2 both.1,
+      subst (λ l. Serves (runs_alone bytes g left) n (given longest line) (replied text g d) l) one.2 both.1,
     )

@@ -23,10 +23,10 @@ use Rattle.live.specs.Serving.IsTried.{stepped}
 use Rattle.live.specs.Telling.{IsServedBy}
 use Rattle.live.specs.declared.hearing.Told.{Told}
 use Rattle.live.specs.declared.served.Served.{Served}
-use Rattle.feed.specs.Served.{Reply}
+use Rattle.feed.specs.Served.{LineReply}
 use Rattle.feed.specs.WholeLines.{given}
 use Rattle.feed.specs.declared.answering.Deed.TheVariants as deed
-use Rattle.requests.specs.Asking.{IsAsked}
+use Rattle.requests.specs.Asking.{IsAskedOf}
 use Rattle.requests.specs.Outlines.{Outlined}
 use Rattle.requests.specs.Requests.{IsRequestOf}
 use Rattle.requests.specs.declared.ask.Ask.TheVariants as ask
@@ -35,8 +35,9 @@ use Rattle.requests.specs.declared.request.Declaration.{Declaration}
 use Rattle.requests.specs.declared.verbs.EventVerb.TheVariants as event_verb
 use Rattle.requests.specs.declared.verbs.Verb.TheVariants as verb
 use Rattle.serving.specs.Blocks.{block_of}
-use Rattle.serving.specs.Compacted.{DoAll, NamingLinesBegin, declaring, done_by, naming_line, one_runs, one_waits}
-use Rattle.serving.specs.Compacted.DoAll.{no_act, one_act}
+use Rattle.serving.specs.Compacted.{DoAll, NamingLinesBegin, declaring, done_as, naming_line}
+use Rattle.serving.specs.Lowering.{waits_alone, runs_alone}
+use Rattle.serving.specs.Compacted.DoAll.{no_deed, one_deed}
 use Rattle.serving.specs.Hosts.{IsAnsweredOnceBegun, IsEventAnswered, Live, Serves, begun, new_live}
 use Rattle.serving.proofs.CompactedAsked.{placed, runs-then, runs-there, what-it-asks}
 use Rattle.serving.proofs.CompactedMade.{replied}
@@ -48,7 +49,7 @@ use Rattle.serving.proofs.LoweringWords.{decimal-is-field, read-as}
 counter-small : (g : ℕ) (word : Bytes) → word_counter word ≡ Some g → g < 2 ^ 32
 counter-small g word is = (read-as (2 ^ 32) word g is).below
 
-declared-small : (g : ℕ) (x : Declaration) (fields : List Bytes) → IsAsked fields (Some (g, ask.Declare x)) → g < 2 ^ 32
+declared-small : (g : ℕ) (x : Declaration) (fields : List Bytes) → IsAskedOf fields (Some (g, ask.Declare x)) → g < 2 ^ 32
 declared-small g x fields asked = by (asks-script g x fields asked)
   where
     by : IsScriptOf g x fields → g < 2 ^ 32
@@ -57,16 +58,16 @@ declared-small g x fields asked = by (asks-script g x fields asked)
     by (inr (other, h)) = let parts = has-parts g x fields h in counter-small g parts.number parts.is_number
 
 number-is-small : (longest g : ℕ) (bytes : Bool) (texts : List Bytes) (o : Outlined)
-    → DoAll longest g (new_live bytes) (map declaring texts) (one_waits bytes g o) → g < 2 ^ 32
-number-is-small longest g bytes texts o does = by texts (new_live bytes) (one_waits bytes g o) refl refl does
+    → DoAll longest g (new_live bytes) (map declaring texts) (waits_alone bytes g o) → g < 2 ^ 32
+number-is-small longest g bytes texts o does = by texts (new_live bytes) (waits_alone bytes g o) refl refl does
   where
-    by : (texts : List Bytes) (l t : Live) → l ≡ new_live bytes → t ≡ one_waits bytes g o
+    by : (texts : List Bytes) (l t : Live) → l ≡ new_live bytes → t ≡ waits_alone bytes g o
         → DoAll longest g l (map declaring texts) t → g < 2 ^ 32
-    by [] l t is so no_act = let same : new_live bytes ≡ one_waits bytes g o = sym is ∙ so in let none = ap (λ x. x.waiting) same in cc
-    by (line ∷ texts) l t is so (one_act {now} n text act serves others) =
-        let asks = what-it-asks n (given longest line) l now (replied text g deed.Declared) (done_by g deed.Declared) serves refl in
+    by [] l t is so no_deed = let same : new_live bytes ≡ waits_alone bytes g o = sym is ∙ so in let none = ap (λ x. x.waiting) same in cc
+    by (line ∷ texts) l t is so (one_deed {now} n text act serves others) =
+        let asks = what-it-asks n (given longest line) l now (replied text g deed.Declared) (done_as g deed.Declared) serves refl in
         let was = was-declared g n g asks.asked l now (replied text g deed.Declared) asks.answered refl in
-        declared-small g was.what asks.fields (subst (λ o. IsAsked asks.fields o) was.asks asks.is_asked)
+        declared-small g was.what asks.fields (subst (λ o. IsAskedOf asks.fields o) was.asks asks.is_asked)
 
 -- ---- its fields
 abbrev naming-fields : ℕ → List Bytes
@@ -75,7 +76,7 @@ naming-fields g = codes "close" ∷ decimal g ∷ codes "0" ∷ []
 naming-are-fields : (g : ℕ) → g < 2 ^ 32 → AreFields (naming_line g) (naming-fields g)
 naming-are-fields g small = (refl, rw (decimal-is-field g (omega (arith, small))) refl)
 
-naming-asks : (g : ℕ) → g < 2 ^ 32 → IsAsked (naming-fields g) (Some (g, ask.Serve (event.CloseSlot 0)))
+naming-asks : (g : ℕ) → g < 2 ^ 32 → IsAskedOf (naming-fields g) (Some (g, ask.Serve (event.CloseSlot 0)))
 naming-asks g small =
     let is : word_counter (decimal g) ≡ Some g = number_read_back g (2 ^ 32) small (omega (arith, small)) in
     let of : IsRequestOf (Some (verb.Event event_verb.Close)) (word_counter (decimal g)) (codes "0" ∷ [])
@@ -130,11 +131,11 @@ is-served c = record {
 
 -- ---- the line
 naming-answered : (bytes : Bool) (g : ℕ) (c : Config)
-    → IsAnsweredOnceBegun 1 g (IsEventAnswered 1 g (event.CloseSlot 0)) (one_runs bytes g (begun c))
-    (replied (block_of bytes 1 g 0 [] (IsRefused SlotNotOpen)) g deed.Refused) (one_runs bytes g (begun c))
+    → IsAnsweredOnceBegun 1 g (IsEventAnswered 1 g (event.CloseSlot 0)) (runs_alone bytes g (begun c))
+    (replied (block_of bytes 1 g 0 [] (IsRefused SlotNotOpen)) g deed.Refused) (runs_alone bytes g (begun c))
 naming-answered bytes g c = (
   true,
-  one_runs bytes g (begun c),
+  runs_alone bytes g (begun c),
   refl,
   (
     Some (begun c),
@@ -149,12 +150,12 @@ not-skipped g skipped = let comment = skipped.0 in cc
 pub naming_lines_begin : NamingLinesBegin
 naming_lines_begin longest long bytes g texts o c does of =
     let small = number-is-small longest g bytes texts o does in
-    let reply : Reply = replied (block_of bytes 1 g 0 [] (IsRefused SlotNotOpen)) g deed.Refused in
+    let reply : LineReply = replied (block_of bytes 1 g 0 [] (IsRefused SlotNotOpen)) g deed.Refused in
     let answered =
-    runs-then 1 g bytes (IsEventAnswered 1 g (event.CloseSlot 0)) o c reply (done_by g deed.Refused) (one_runs bytes g (begun c))
+    runs-then 1 g bytes (IsEventAnswered 1 g (event.CloseSlot 0)) o c reply (done_as g deed.Refused) (runs_alone bytes g (begun c))
     refl of (naming-answered bytes g c) in (
       reply.text,
-      subst (λ line. Serves (one_waits bytes g o) 1 line reply (one_runs bytes g (begun c)))
+      subst (λ line. Serves (waits_alone bytes g o) 1 line reply (runs_alone bytes g (begun c)))
           (sym (naming-is-given longest g long small))
           (inr (
             not-skipped g,

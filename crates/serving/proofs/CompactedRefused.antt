@@ -8,7 +8,7 @@ use Rattle.protocol.specs.Networks.{Net, Step}
 use Rattle.network.specs.Decoding.{step_of}
 use Rattle.network.specs.Standing.{Machine, StandsFor}
 use Rattle.scripts.specs.Script.{Bytes}
-use Rattle.live.specs.Serving.{Ending, IsServed, Telling}
+use Rattle.live.specs.Serving.{Ending, IsServed, ToldReply}
 use Rattle.live.specs.Serving.Ending.{IsDone, IsRefused}
 use Rattle.live.specs.Serving.IsServed.{done, refused}
 use Rattle.live.specs.Telling.{IsServedBy, ending_by}
@@ -18,9 +18,10 @@ use Rattle.feed.specs.declared.answering.Deed.TheVariants as deed
 use Rattle.feed.specs.declared.answering.Drawn.{Drawn}
 use Rattle.requests.specs.declared.ask.Ask.{Ask}
 use Rattle.requests.specs.declared.ask.Ask.TheVariants as ask
-use Rattle.serving.specs.Compacted.{done_by, one_runs}
+use Rattle.serving.specs.Compacted.{done_as}
+use Rattle.serving.specs.Lowering.{runs_alone}
 use Rattle.serving.specs.Erasing.{StandsAsWell}
-use Rattle.serving.specs.Hosts.{AreAllAnswered, AreServed, IsAnswer, IsEventAnswered, Serves, deed_at, deed_by, deed_of_all, live_at, slot_of_answer, slot_of_answers}
+use Rattle.serving.specs.Hosts.{AreAllAnswered, AreServed, IsAskAnswered, IsEventAnswered, Serves, deed_at, deed_by, deed_of_all, live_at, slot_of_answer, slot_of_answers}
 use Rattle.serving.specs.Hosts.AreServed.{next_node, none_left}
 use Rattle.serving.proofs.ApartLines.{not-done}
 use Rattle.serving.proofs.CompactedAsked.{placed, runs-there, what-it-asks}
@@ -33,7 +34,7 @@ abbrev IsRefusedNet : Ending → Net → Net → Type 0
 IsRefusedNet (IsRefused r) net after = after ≡ net
 IsRefusedNet (IsDone stale) net after = Unit {0}
 
-refused-net : {net after : Net} {e : Step} {ending : Ending} {told : List Telling} → IsServed net e ending told after
+refused-net : {net after : Net} {e : Step} {ending : Ending} {told : List ToldReply} → IsServed net e ending told after
     → IsRefusedNet ending net after
 refused-net (refused r tried) = refl
 refused-net (done os tried heard) = tt
@@ -77,23 +78,23 @@ abbrev machine_of_one : Machine → List (ℕ × Machine) → Machine
 machine_of_one m [] = m
 machine_of_one m (e ∷ es) = e.1
 
-pub same-machine : (bytes : Bool) (g : ℕ) (m n : Machine) → one_runs bytes g m ≡ one_runs bytes g n → m ≡ n
+pub same-machine : (bytes : Bool) (g : ℕ) (m n : Machine) → runs_alone bytes g m ≡ runs_alone bytes g n → m ≡ n
 same-machine bytes g m n is = ap (λ l. machine_of_one m l.running) is
 
-pub found-machine : (bytes : Bool) (g : ℕ) (m found : Machine) → live_at (one_runs bytes g m) g ≡ Some found → found ≡ m
+pub found-machine : (bytes : Bool) (g : ℕ) (m found : Machine) → live_at (runs_alone bytes g m) g ≡ Some found → found ≡ m
 found-machine bytes g m found is = let here = sym is ∙ runs-there bytes g m in cc
 
 pub refused-line : (longest : ℕ) (bytes : Bool) (g n : ℕ) (line text : Bytes) (m after : Machine)
-    → Serves (one_runs bytes g m) n (given longest line) (replied text g deed.Refused) (one_runs bytes g after)
+    → Serves (runs_alone bytes g m) n (given longest line) (replied text g deed.Refused) (runs_alone bytes g after)
     → StandsAsWell m after
 refused-line longest bytes g n line text m after serves =
-    let asks = what-it-asks n (given longest line) (one_runs bytes g m) (one_runs bytes g after) (replied text g deed.Refused)
-    (done_by g deed.Refused) serves refl in
+    let asks = what-it-asks n (given longest line) (runs_alone bytes g m) (runs_alone bytes g after) (replied text g deed.Refused)
+    (done_as g deed.Refused) serves refl in
     by asks.asked asks.answered
   where
-    one : (e : Event) → IsEventAnswered n g e (one_runs bytes g m) (replied text g deed.Refused) (one_runs bytes g after)
+    one : (e : Event) → IsEventAnswered n g e (runs_alone bytes g m) (replied text g deed.Refused) (runs_alone bytes g after)
         → StandsAsWell m after
-    one e (None, at, (is, same)) = not-done (replied text g deed.Refused) (done_by g deed.Refused) (ap (λ x. x.done) is) refl
+    one e (None, at, (is, same)) = not-done (replied text g deed.Refused) (done_as g deed.Refused) (ap (λ x. x.done) is) refl
     one e (Some found, at, (next, s, serves, is, says)) =
         let was = event-refused s.refused e s.slot _
         (same-deed g deed.Refused _ (replied text g deed.Refused) (ap (λ x. x.done) says) refl) in
@@ -103,10 +104,10 @@ refused-line longest bytes g n line text m after serves =
         (refused-stands found next (step_of e) s was.0 was.1 serves))
 
     all : (given_bytes : Bytes)
-        → AreAllAnswered n g given_bytes (one_runs bytes g m) (replied text g deed.Refused) (one_runs bytes g after)
+        → AreAllAnswered n g given_bytes (runs_alone bytes g m) (replied text g deed.Refused) (runs_alone bytes g after)
         → StandsAsWell m after
     all given_bytes (None, at, (is, same)) =
-        not-done (replied text g deed.Refused) (done_by g deed.Refused) (ap (λ x. x.done) is) refl
+        not-done (replied text g deed.Refused) (done_as g deed.Refused) (ap (λ x. x.done) is) refl
     all given_bytes (Some found, at, (next, answers, serves, is, says)) =
         let was = all-refused (slot_of_answers answers) _
         (same-deed g deed.Refused _ (replied text g deed.Refused) (ap (λ x. x.done) says) refl) in
@@ -114,27 +115,27 @@ refused-line longest bytes g n line text m after serves =
         subst (StandsAsWell m) (sym same)
         (subst (λ f. StandsAsWell f next) (found-machine bytes g m found at) (each-refused given_bytes serves was))
 
-    by : (asked : Ask) → IsAnswer n g asked (one_runs bytes g m) (replied text g deed.Refused) (one_runs bytes g after)
+    by : (asked : Ask) → IsAskAnswered n g asked (runs_alone bytes g m) (replied text g deed.Refused) (runs_alone bytes g after)
         → StandsAsWell m after
     by (ask.Declare x) (false, declares, is) =
-        not-done (replied text g deed.Refused) (done_by g deed.Refused) (ap (λ x. x.done) is) refl
+        not-done (replied text g deed.Refused) (done_as g deed.Refused) (ap (λ x. x.done) is) refl
     by (ask.Declare x) (true, declares, is) = absurd
         (subst IsEventDeed
         (sym (same-deed g deed.Refused deed.Declared (replied text g deed.Refused) (ap (λ x. x.done) is) refl)) tt)
     by (ask.Serve e) (false, now, begins, (is, same)) =
-        not-done (replied text g deed.Refused) (done_by g deed.Refused) (ap (λ x. x.done) is) refl
+        not-done (replied text g deed.Refused) (done_as g deed.Refused) (ap (λ x. x.done) is) refl
     by (ask.Serve e) (true, now, same, answered) =
         one e (subst
-        (λ l. IsEventAnswered n g e l (replied text g deed.Refused) (one_runs bytes g after)) same answered)
+        (λ l. IsEventAnswered n g e l (replied text g deed.Refused) (runs_alone bytes g after)) same answered)
     by (ask.ForAll given_bytes) (false, now, begins, (is, same)) =
-        not-done (replied text g deed.Refused) (done_by g deed.Refused) (ap (λ x. x.done) is) refl
+        not-done (replied text g deed.Refused) (done_as g deed.Refused) (ap (λ x. x.done) is) refl
     by (ask.ForAll given_bytes) (true, now, same, answered) =
         all given_bytes (subst
-        (λ l. AreAllAnswered n g given_bytes l (replied text g deed.Refused) (one_runs bytes g after)) same answered)
-    by ask.Left answered = not-done (replied text g deed.Refused) (done_by g deed.Refused) answered.1 refl
-    by (ask.Show i u) answered = not-done (replied text g deed.Refused) (done_by g deed.Refused) answered.1 refl
+        (λ l. AreAllAnswered n g given_bytes l (replied text g deed.Refused) (runs_alone bytes g after)) same answered)
+    by ask.Left answered = not-done (replied text g deed.Refused) (done_as g deed.Refused) answered.1 refl
+    by (ask.Show i u) answered = not-done (replied text g deed.Refused) (done_as g deed.Refused) answered.1 refl
     by ask.Drop (false, drops, is) =
-        not-done (replied text g deed.Refused) (done_by g deed.Refused) (ap (λ x. x.done) is) refl
+        not-done (replied text g deed.Refused) (done_as g deed.Refused) (ap (λ x. x.done) is) refl
     by ask.Drop (true, drops, is) = absurd
         (subst IsEventDeed
         (sym (same-deed g deed.Refused deed.Dropped (replied text g deed.Refused) (ap (λ x. x.done) is) refl)) tt)

@@ -9,17 +9,17 @@ use Rattle.std.proofs.lemmas.Bool.Decides.{Decides-ltb}
 use Rattle.types.specs.declared.event.Event.{Event}
 use Rattle.network.specs.Standing.{Machine}
 use Rattle.scripts.specs.Script.{Bytes}
-use Rattle.feed.specs.Lasting.{value_at}
-use Rattle.feed.specs.Served.{Reply}
+use Rattle.feed.specs.Lasting.{entry_at}
+use Rattle.feed.specs.Served.{LineReply}
 use Rattle.feed.specs.declared.answering.Done.{Done}
 use Rattle.requests.specs.Outlines.{Outlined, waiting_at}
 use Rattle.requests.specs.Taking.{takes_node, takes_roster}
 use Rattle.requests.specs.declared.ask.Ask.{Ask}
 use Rattle.requests.specs.declared.ask.Ask.TheVariants as ask
 use Rattle.requests.specs.declared.request.Declaration.TheVariants as declaration
-use Rattle.serving.specs.Apart.{AreFrom, HasRoom, alone, only}
-use Rattle.serving.specs.Compacted.{one_runs, one_waits}
-use Rattle.serving.specs.Hosts.{AreAllAnswered, IsAnswer, IsAnsweredOnceBegun, IsDroppedAt, IsEventAnswered, IsStarted, Live, done_if, live_at, new_live}
+use Rattle.serving.specs.Apart.{AreFrom, HasRoomForNetwork, alone, only}
+use Rattle.serving.specs.Lowering.{waits_alone, runs_alone}
+use Rattle.serving.specs.Hosts.{AreAllAnswered, IsAnsweredOnceBegun, IsAskAnswered, IsDroppedAt, IsEventAnswered, IsStarted, Live, done_if, live_at, new_live}
 use Rattle.serving.proofs.Alone.{at-itself, none-below, removed-apart}
 use Rattle.serving.proofs.ApartLines.{not-done}
 use Rattle.serving.proofs.CompactedAsked.{Asks}
@@ -29,14 +29,14 @@ use Rattle.feed.specs.declared.answering.Deed.TheVariants as deed
 -- ---- entries
 -- there is one of this number
 abbrev pub Has : {X : Type 0} → List (ℕ × X) → ℕ → Type 0
-Has es g = is_some (value_at es g) ≡ true
+Has es g = is_some (entry_at es g) ≡ true
 
 removed-one : {X : Type 0} (g : ℕ) (es : List (ℕ × X)) → Has es g
     → length es ≡ length (remove_entry (is_at (nat_cmp g)) es) + 1
 removed-one g [] has = absurd (true≢false (sym has))
 removed-one {X} g (e ∷ es) has = by (is_at (nat_cmp g) e.0) has (removed-one g es)
   where
-    by : (b : Bool) → is_some (cond b (Some e.1) (value_at es g)) ≡ true
+    by : (b : Bool) → is_some (cond b (Some e.1) (entry_at es g)) ≡ true
         → (Has es g → length es ≡ length (remove_entry (is_at (nat_cmp g)) es) + 1)
         → length (e ∷ es) ≡ length (cond b es (e ∷ remove_entry (is_at (nat_cmp g)) es)) + 1
     by true has others = omega arith
@@ -50,18 +50,18 @@ pub no-more : {X Y Z : Type 0} (k : ℕ) (es : List (ℕ × X)) (ws : List (ℕ 
     → ((g : ℕ) → Has es g → Has ws g ⊎ Has ms g) → length es ≤ length ws + length ms
 no-more k [] ws ms ascend has = omega arith
 no-more {X} {Y} {Z} k (e ∷ es) ws ms ascend has =
-    by (has e.0 (ap (λ o. is_some (cond (is_eq o) (Some e.1) (value_at es e.0))) (at-itself e.0)))
+    by (has e.0 (ap (λ o. is_some (cond (is_eq o) (Some e.1) (entry_at es e.0))) (at-itself e.0)))
     (λ ws ms has. no-more (e.0 + 1) es ws ms ascend.1 has)
   where
     apart-from : (g : ℕ) → Has es g → g ≢ e.0
     apart-from g here same =
         true≢false
-        (sym here ∙ ap (λ h. is_some (value_at es h)) same
+        (sym here ∙ ap (λ h. is_some (entry_at es h)) same
         ∙ ap is_some (none-below e.0 (e.0 + 1) es ascend.1 (omega arith)))
 
     there : (g : ℕ) → Has es g → Has (e ∷ es) g
     there g here =
-        ap (λ b. is_some (cond b (Some e.1) (value_at es g))) (not-at g e.0 (apart-from g here)) ∙ here
+        ap (λ b. is_some (cond b (Some e.1) (entry_at es g))) (not-at g e.0 (apart-from g here)) ∙ here
 
     other-waits : (g : ℕ) → Has es g → Has ws g ⊎ Has ms g → Has (remove_entry (is_at (nat_cmp e.0)) ws) g ⊎ Has ms g
     other-waits g here (inl one) = inl (has-still e.0 g ws (apart-from g here) one)
@@ -120,7 +120,7 @@ both-false true true c is = is
 both-false true false c is = absurd (true≢false (sym is))
 both-false false b c is = absurd (true≢false (sym is))
 
-event-needs-one : {X : Type 0} (n g : ℕ) (e : Event) (l : Live) (a : Reply) (did : Done) (t : Live) → a.done ≡ Some did
+event-needs-one : {X : Type 0} (n g : ℕ) (e : Event) (l : Live) (a : LineReply) (did : Done) (t : Live) → a.done ≡ Some did
     → waiting_at l.waiting g ≡ None → live_at l g ≡ None → IsAnsweredOnceBegun n g (IsEventAnswered n g e) l a t → X
 event-needs-one n g e l a did t some no_wait no_run (false, now, starts, (is, same)) =
     not-done a did (ap (λ x. x.done) is) some
@@ -130,7 +130,7 @@ event-needs-one n g e l a did t some no_wait no_run (true, now, starts, (Some m,
     let same : now ≡ l = subst (λ w. IsStarted w g l now) no_wait starts in
     let here = sym no_run ∙ ap (λ l. live_at l g) (sym same) ∙ at in absurd (cc)
 
-all-need-one : {X : Type 0} (n g : ℕ) (bytes : Bytes) (l : Live) (a : Reply) (did : Done) (t : Live) → a.done ≡ Some did
+all-need-one : {X : Type 0} (n g : ℕ) (bytes : Bytes) (l : Live) (a : LineReply) (did : Done) (t : Live) → a.done ≡ Some did
     → waiting_at l.waiting g ≡ None → live_at l g ≡ None → IsAnsweredOnceBegun n g (AreAllAnswered n g bytes) l a t → X
 all-need-one n g bytes l a did t some no_wait no_run (false, now, starts, (is, same)) =
     not-done a did (ap (λ x. x.done) is) some
@@ -140,11 +140,11 @@ all-need-one n g bytes l a did t some no_wait no_run (true, now, starts, (Some m
     let same : now ≡ l = subst (λ w. IsStarted w g l now) no_wait starts in
     let here = sym no_run ∙ ap (λ l. live_at l g) (sym same) ∙ at in absurd (cc)
 
-pub has-room : (n g : ℕ) (line : Option Bytes) (l t : Live) (a : Reply) (did : Done) → a.done ≡ Some did
-    → waiting_at l.waiting g ≡ None → live_at l g ≡ None → Asks n g line l a t → HasRoom l
+pub has-room : (n g : ℕ) (line : Option Bytes) (l t : Live) (a : LineReply) (did : Done) → a.done ≡ Some did
+    → waiting_at l.waiting g ≡ None → live_at l g ≡ None → Asks n g line l a t → HasRoomForNetwork l
 has-room n g line l t a did some no_wait no_run asks = by asks.asked asks.answered
   where
-    by : (asked : Ask) → IsAnswer n g asked l a t → HasRoom l
+    by : (asked : Ask) → IsAskAnswered n g asked l a t → HasRoomForNetwork l
     by (ask.Declare x) (false, declares, is) = not-done a did (ap (λ x. x.done) is) some
     by (ask.Declare (declaration.Net b)) (true, declares, is) =
         (Decides-ltb (length l.waiting + length l.running) 4096).0
@@ -181,10 +181,10 @@ pub alone-is-none : (g : ℕ) (bytes : Bool) (l : Live) → alone g l ≡ new_li
 alone-is-none g bytes l is =
     (only-none g (waiting_at l.waiting g) (ap (λ l. l.waiting) is), only-none g (live_at l g) (ap (λ l. l.running) is))
 
-pub alone-waits : (g : ℕ) (bytes : Bool) (l : Live) (o : Outlined) → alone g l ≡ one_waits bytes g o
+pub alone-waits : (g : ℕ) (bytes : Bool) (l : Live) (o : Outlined) → alone g l ≡ waits_alone bytes g o
     → waiting_at l.waiting g ≡ Some o
 alone-waits g bytes l o is = only-some g (waiting_at l.waiting g) o (ap (λ l. l.waiting) is)
 
-pub alone-runs : (g : ℕ) (bytes : Bool) (l : Live) (m : Machine) → alone g l ≡ one_runs bytes g m
+pub alone-runs : (g : ℕ) (bytes : Bool) (l : Live) (m : Machine) → alone g l ≡ runs_alone bytes g m
     → live_at l g ≡ Some m
 alone-runs g bytes l m is = only-some g (live_at l g) m (ap (λ l. l.running) is)

@@ -14,7 +14,7 @@ use Rattle.protocol.specs.Networks.Reply.{Done, Refused}
 use Rattle.protocol.specs.Networks.Step.{BallotTimerFires, Closes, Delivers, Hears, NominationTimerFires, Opens, Proposes, Reslices}
 use Rattle.network.specs.Decoding.{reading, step_of}
 use Rattle.network.specs.Standing.{IsStood, Machine, net_of}
-use Rattle.live.specs.Serving.{Ending, IsServed, Telling}
+use Rattle.live.specs.Serving.{Ending, IsServed, ToldReply}
 use Rattle.live.specs.Serving.Ending.{IsDone, IsRefused}
 use Rattle.live.specs.Serving.IsServed.{done, refused}
 use Rattle.live.specs.Telling.{IsServedBy, IsToldAt, ending_by, ending_of, tellings_of}
@@ -27,14 +27,15 @@ use Rattle.requests.specs.declared.ask.Ask.{Ask}
 use Rattle.requests.specs.declared.ask.Ask.TheVariants as ask
 use Rattle.configuration.specs.Configs.{names_of}
 use Rattle.serving.specs.Blocks.{TellsOfNoWant, block_of, closing_line, closing_of, front_of_line, line_of_telling, text_of_reply, want_of_memory}
-use Rattle.serving.specs.Compacted.{AppliedLine, AreServedFor, AsksOf, DoAll, IsAskedBy, IsServedFor, act_of, done_by, one_runs}
+use Rattle.serving.specs.Compacted.{AppliedLine, AreServedFor, DoAll, IsAskedBy, IsServedFor, LineAsks, done_as, line_deed_of}
+use Rattle.serving.specs.Lowering.{runs_alone}
 use Rattle.serving.specs.Compacted.AreServedFor.{next_served, none_served}
-use Rattle.serving.specs.Compacted.DoAll.{no_act, one_act}
+use Rattle.serving.specs.Compacted.DoAll.{no_deed, one_deed}
 use Rattle.serving.specs.Compacted.IsAskedBy.{asks_event, asks_for_all}
-use Rattle.serving.specs.Erasing.{AreRun, HadMemory, IsEnough, IsKept, IsLine, Line, is_reading_at, is_step_at}
-use Rattle.serving.specs.Erasing.AreRun.{ended, goes_on}
+use Rattle.serving.specs.Erasing.{AreServedInTurn, HadMemoryToServe, IsEnough, IsLine, IsNoRefusedOpening, Line, is_reading_at, is_step_at}
+use Rattle.serving.specs.Erasing.AreServedInTurn.{ended, goes_on}
 use Rattle.serving.specs.Erasing.Line.{OfBytes, OfEvent}
-use Rattle.serving.specs.Hosts.{AreAllAnswered, AreServed, IsAnswer, IsEventAnswered, Serves, block_of_answers, closing_of_answers, deed_at, deed_by, deed_of, deed_of_all, drawn, lines_of_answer, lines_of_answers, slot_of_answer, slot_of_answers}
+use Rattle.serving.specs.Hosts.{AreAllAnswered, AreServed, IsAskAnswered, IsEventAnswered, Serves, block_of_answers, closing_of_answers, deed_at, deed_by, deed_of, deed_of_all, drawn, lines_of_answer, lines_of_answers, slot_of_answer, slot_of_answers}
 use Rattle.serving.specs.Hosts.AreServed.{next_node, none_left}
 use Rattle.serving.specs.declared.all.NodeAnswer.{NodeAnswer}
 use Rattle.serving.proofs.ApartLines.{not-done}
@@ -52,14 +53,14 @@ behind-it : (a b : Bytes) → TellsOfNoWant (a ++ b) → TellsOfNoWant b
 behind-it a b tells front rest is =
     tells (a ++ front) rest (ap (λ x. a ++ x) is ∙ sym (append_assoc a front (want_of_memory ++ rest)))
 
-line-is-enough : (bytes : Bool) (n g i : ℕ) (t : Telling) (rest : Bytes)
+line-is-enough : (bytes : Bool) (n g i : ℕ) (t : ToldReply) (rest : Bytes)
     → TellsOfNoWant (line_of_telling bytes n g i t ++ rest) → IsEnough t
 line-is-enough bytes n g i t rest tells is =
     tells (front_of_line n g i t.node) rest
     (append_assoc (front_of_line n g i t.node) (text_of_reply bytes t.reply ++ 10 ∷ []) rest
     ∙ ap (λ r. front_of_line n g i t.node ++ ((text_of_reply bytes r ++ 10 ∷ []) ++ rest)) is)
 
-lines-are-enough : (bytes : Bool) (n g i : ℕ) (ts : List Telling) (rest : Bytes)
+lines-are-enough : (bytes : Bool) (n g i : ℕ) (ts : List ToldReply) (rest : Bytes)
     → TellsOfNoWant (flat_map (line_of_telling bytes n g i) ts ++ rest) → AllByRecursion IsEnough ts
 lines-are-enough bytes n g i [] rest tells = tt
 lines-are-enough bytes n g i (t ∷ ts) rest tells =
@@ -71,11 +72,11 @@ lines-are-enough bytes n g i (t ∷ ts) rest tells =
     )
 
 -- an event that was refused tells nothing
-abbrev ToldIf : Ending → List Telling → Type 0
+abbrev ToldIf : Ending → List ToldReply → Type 0
 ToldIf (IsRefused r) ts = ts ≡ []
 ToldIf (IsDone stale) ts = Unit {0}
 
-told-if : {net after : Net} {e : Step} {ending : Ending} {ts : List Telling} → IsServed net e ending ts after → ToldIf ending ts
+told-if : {net after : Net} {e : Step} {ending : Ending} {ts : List ToldReply} → IsServed net e ending ts after → ToldIf ending ts
 told-if (refused r tried) = refl
 told-if (done os tried heard) = tt
 
@@ -86,7 +87,7 @@ refused-tells m after e s r (draws, tallied) is served =
     (told-if (served.served (net_of m draws) (record { is = refl; tallied = tallied })).1)
 
 node-had-memory : (bytes : Bool) (n g i : ℕ) (a : NodeAnswer) (m after : Machine) (e : Step) (rest : Bytes) → IsStood m
-    → IsServedBy m e after a.served → TellsOfNoWant (lines_of_answer bytes n g i a ++ rest) → HadMemory a.served
+    → IsServedBy m e after a.served → TellsOfNoWant (lines_of_answer bytes n g i a ++ rest) → HadMemoryToServe a.served
 node-had-memory bytes n g i a m after e rest stood served tells = by a.served.refused refl
   where
     at : (o : Option Refusal) → a.served.refused ≡ o
@@ -95,7 +96,7 @@ node-had-memory bytes n g i a m after e rest stood served tells = by a.served.re
         (λ o. TellsOfNoWant (lines_of_answer bytes n g i (record { node = a.node; served = record a.served { refused = o } }) ++ rest))
         is tells
 
-    by : (o : Option Refusal) → a.served.refused ≡ o → HadMemory a.served
+    by : (o : Option Refusal) → a.served.refused ≡ o → HadMemoryToServe a.served
     by None is = record {
       refused = λ want. let never : None ≡ Some NoMemory = sym is ∙ want in cc;
       told = lines-are-enough bytes n g i (tellings_of a.served.told.items) rest (at None is);
@@ -111,7 +112,7 @@ node-had-memory bytes n g i a m after e rest stood served tells = by a.served.re
 all-had-memory : (bytes : Bool) (n g i : ℕ) (text : Bytes) {us : List ℕ} {m after : Machine} {answers : List NodeAnswer}
     (rest : Bytes) → IsStood m → AreServed text us m answers after
     → TellsOfNoWant (flat_map (lines_of_answer bytes n g i) answers ++ rest)
-    → AllByRecursion (λ a. HadMemory a.served) answers
+    → AllByRecursion (λ a. HadMemoryToServe a.served) answers
 all-had-memory bytes n g i text rest stood none_left tells = tt
 all-had-memory bytes n g i text {m = m} rest stood (next_node {now} {answers} a served others) tells =
     let here = subst TellsOfNoWant
@@ -132,7 +133,7 @@ turned i j = by (i == j) refl
     by false is = sym (other-way i j is)
 
 -- an event that is not refused is a step of the network
-done-so : {net after : Net} {e : Step} {ending : Ending} {ts : List Telling} (stale : Bool)
+done-so : {net after : Net} {e : Step} {ending : Ending} {ts : List ToldReply} (stale : Bool)
     → IsServed net e ending ts after → ending ≡ IsDone stale → (os : List Out) × ((net_step net e).1 ≡ Done os)
 done-so stale (refused r tried) is = absurd (cc)
 done-so {net} {e = e} stale (done {now} os tried heard) is = (os, (stepped-to net e os now tried).0)
@@ -175,7 +176,7 @@ applied-drew (event.OpenSlot i) k j d c is = cc
 applied-drew (event.CloseSlot i) k j d c is = absurd (cc)
 applied-drew _ k j d c is = cc
 
-kept-if-done : (e : Step) (s : Served) → s.refused ≡ None → IsKept e s
+kept-if-done : (e : Step) (s : Served) → s.refused ≡ None → IsNoRefusedOpening e s
 kept-if-done (Opens i) s is = is
 kept-if-done (Closes i) s is = tt
 kept-if-done (Proposes i u x) s is = tt
@@ -236,7 +237,7 @@ abbrev IsLineOf : ℕ → ℕ → AppliedLine → Machine → Machine → Type 0
 IsLineOf longest g e m after = (l : Line) × IsServedFor longest g e l × IsLine l m after
 
 event-line : (longest : ℕ) (bytes : Bool) (g n : ℕ) (m after : Machine) (e : AppliedLine) (text : Bytes) (x : Event) (s : Served)
-    → IsStood m → TellsOfNoWant text → AsksOf longest g e.text (ask.Serve x) → IsServedBy m (step_of x) after s
+    → IsStood m → TellsOfNoWant text → LineAsks longest g e.text (ask.Serve x) → IsServedBy m (step_of x) after s
     → text ≡ block_of bytes n g s.slot (tellings_of s.told.items) (ending_of s)
     → deed_of x s (drawn m after) ≡ deed.Applied e.slot e.drawn → IsLineOf longest g e m after
 event-line longest bytes g n m after e text x s stood tells asks served says did =
@@ -260,7 +261,7 @@ event-line longest bytes g n m after e text x s stood tells asks served says did
     )
 
 bytes-line : (longest : ℕ) (bytes : Bool) (g n : ℕ) (m after : Machine) (e : AppliedLine) (text given_bytes : Bytes)
-    (answers : List NodeAnswer) → IsStood m → TellsOfNoWant text → AsksOf longest g e.text (ask.ForAll given_bytes)
+    (answers : List NodeAnswer) → IsStood m → TellsOfNoWant text → LineAsks longest g e.text (ask.ForAll given_bytes)
     → AreServed given_bytes (names_of m.config.nodes) m answers after → text ≡ block_of_answers bytes n g answers
     → deed_of_all (slot_of_answers answers) (drawn m after) ≡ deed.Applied e.slot e.drawn → IsLineOf longest g e m after
 bytes-line longest bytes g n m after e text given_bytes answers stood tells asks served says did =
@@ -279,19 +280,19 @@ bytes-line longest bytes g n m after e text given_bytes answers stood tells asks
 
 pub line-of : (longest : ℕ) (bytes : Bool) (g n : ℕ) (m after : Machine) (e : AppliedLine) (text : Bytes) → IsStood m
     → TellsOfNoWant text
-    → Serves (one_runs bytes g m) n (given longest e.text) (replied text g (deed.Applied e.slot e.drawn))
-    (one_runs bytes g after)
+    → Serves (runs_alone bytes g m) n (given longest e.text) (replied text g (deed.Applied e.slot e.drawn))
+    (runs_alone bytes g after)
     → IsLineOf longest g e m after
 line-of longest bytes g n m after e text stood tells serves =
-    let asks = what-it-asks n (given longest e.text) (one_runs bytes g m) (one_runs bytes g after)
-    (replied text g (deed.Applied e.slot e.drawn)) (done_by g (deed.Applied e.slot e.drawn)) serves refl in
+    let asks = what-it-asks n (given longest e.text) (runs_alone bytes g m) (runs_alone bytes g after)
+    (replied text g (deed.Applied e.slot e.drawn)) (done_as g (deed.Applied e.slot e.drawn)) serves refl in
     by asks.asked asks.back asks.answered
   where
-    one : (x : Event) → AsksOf longest g e.text (ask.Serve x)
-        → IsEventAnswered n g x (one_runs bytes g m) (replied text g (deed.Applied e.slot e.drawn)) (one_runs bytes g after)
+    one : (x : Event) → LineAsks longest g e.text (ask.Serve x)
+        → IsEventAnswered n g x (runs_alone bytes g m) (replied text g (deed.Applied e.slot e.drawn)) (runs_alone bytes g after)
         → IsLineOf longest g e m after
     one x asks (None, at, (is, same)) =
-        not-done (replied text g (deed.Applied e.slot e.drawn)) (done_by g (deed.Applied e.slot e.drawn))
+        not-done (replied text g (deed.Applied e.slot e.drawn)) (done_as g (deed.Applied e.slot e.drawn))
         (ap (λ x. x.done) is) refl
     one x asks (Some found, at, (next, s, served, is, says)) =
         let here = found-machine bytes g m found at in
@@ -302,12 +303,12 @@ line-of longest bytes g n m after e text stood tells serves =
         (same-deed g (deed.Applied e.slot e.drawn) _ (replied text g (deed.Applied e.slot e.drawn)) (ap (λ x. x.done) says)
         refl)))
 
-    all : (given_bytes : Bytes) → AsksOf longest g e.text (ask.ForAll given_bytes)
-        → AreAllAnswered n g given_bytes (one_runs bytes g m) (replied text g (deed.Applied e.slot e.drawn))
-        (one_runs bytes g after)
+    all : (given_bytes : Bytes) → LineAsks longest g e.text (ask.ForAll given_bytes)
+        → AreAllAnswered n g given_bytes (runs_alone bytes g m) (replied text g (deed.Applied e.slot e.drawn))
+        (runs_alone bytes g after)
         → IsLineOf longest g e m after
     all given_bytes asks (None, at, (is, same)) =
-        not-done (replied text g (deed.Applied e.slot e.drawn)) (done_by g (deed.Applied e.slot e.drawn))
+        not-done (replied text g (deed.Applied e.slot e.drawn)) (done_as g (deed.Applied e.slot e.drawn))
         (ap (λ x. x.done) is) refl
     all given_bytes asks (Some found, at, (next, answers, served, is, says)) =
         let here = found-machine bytes g m found at in
@@ -318,37 +319,37 @@ line-of longest bytes g n m after e text stood tells serves =
         (same-deed g (deed.Applied e.slot e.drawn) _ (replied text g (deed.Applied e.slot e.drawn)) (ap (λ x. x.done) says)
         refl)))
 
-    by : (asked : Ask) → AsksOf longest g e.text asked
-        → IsAnswer n g asked (one_runs bytes g m) (replied text g (deed.Applied e.slot e.drawn)) (one_runs bytes g after)
+    by : (asked : Ask) → LineAsks longest g e.text asked
+        → IsAskAnswered n g asked (runs_alone bytes g m) (replied text g (deed.Applied e.slot e.drawn)) (runs_alone bytes g after)
         → IsLineOf longest g e m after
     by (ask.Declare x) asks (false, declares, is) =
-        not-done (replied text g (deed.Applied e.slot e.drawn)) (done_by g (deed.Applied e.slot e.drawn))
+        not-done (replied text g (deed.Applied e.slot e.drawn)) (done_as g (deed.Applied e.slot e.drawn))
         (ap (λ x. x.done) is) refl
     by (ask.Declare x) asks (true, declares, is) = absurd
         (subst IsEventDeed
         (sym (same-deed g (deed.Applied e.slot e.drawn) deed.Declared (replied text g (deed.Applied e.slot e.drawn))
         (ap (λ x. x.done) is) refl)) tt)
     by (ask.Serve x) asks (false, now, begins, (is, same)) =
-        not-done (replied text g (deed.Applied e.slot e.drawn)) (done_by g (deed.Applied e.slot e.drawn))
+        not-done (replied text g (deed.Applied e.slot e.drawn)) (done_as g (deed.Applied e.slot e.drawn))
         (ap (λ x. x.done) is) refl
     by (ask.Serve x) asks (true, now, same, answered) =
         one x asks
         (subst
-        (λ l. IsEventAnswered n g x l (replied text g (deed.Applied e.slot e.drawn)) (one_runs bytes g after)) same answered)
+        (λ l. IsEventAnswered n g x l (replied text g (deed.Applied e.slot e.drawn)) (runs_alone bytes g after)) same answered)
     by (ask.ForAll given_bytes) asks (false, now, begins, (is, same)) =
-        not-done (replied text g (deed.Applied e.slot e.drawn)) (done_by g (deed.Applied e.slot e.drawn))
+        not-done (replied text g (deed.Applied e.slot e.drawn)) (done_as g (deed.Applied e.slot e.drawn))
         (ap (λ x. x.done) is) refl
     by (ask.ForAll given_bytes) asks (true, now, same, answered) =
         all given_bytes asks
         (subst
-        (λ l. AreAllAnswered n g given_bytes l (replied text g (deed.Applied e.slot e.drawn)) (one_runs bytes g after)) same
+        (λ l. AreAllAnswered n g given_bytes l (replied text g (deed.Applied e.slot e.drawn)) (runs_alone bytes g after)) same
         answered)
     by ask.Left asks answered =
-        not-done (replied text g (deed.Applied e.slot e.drawn)) (done_by g (deed.Applied e.slot e.drawn)) answered.1 refl
+        not-done (replied text g (deed.Applied e.slot e.drawn)) (done_as g (deed.Applied e.slot e.drawn)) answered.1 refl
     by (ask.Show i u) asks answered =
-        not-done (replied text g (deed.Applied e.slot e.drawn)) (done_by g (deed.Applied e.slot e.drawn)) answered.1 refl
+        not-done (replied text g (deed.Applied e.slot e.drawn)) (done_as g (deed.Applied e.slot e.drawn)) answered.1 refl
     by ask.Drop asks (false, drops, is) =
-        not-done (replied text g (deed.Applied e.slot e.drawn)) (done_by g (deed.Applied e.slot e.drawn))
+        not-done (replied text g (deed.Applied e.slot e.drawn)) (done_as g (deed.Applied e.slot e.drawn))
         (ap (λ x. x.done) is) refl
     by ask.Drop asks (true, drops, is) = absurd
         (subst IsEventDeed
@@ -359,14 +360,14 @@ line-of longest bytes g n m after e text stood tells serves =
 -- the lines do what they did
 line-does : (longest : ℕ) (bytes : Bool) (g : ℕ) (m after : Machine) (e : AppliedLine) {l : Line} → IsAskedBy longest g e l
     → IsLine l m after
-    → (text : Bytes) × Serves (one_runs bytes g m) 1 (given longest e.text) (replied text g (deed.Applied e.slot e.drawn))
-    (one_runs bytes g after)
+    → (text : Bytes) × Serves (runs_alone bytes g m) 1 (given longest e.text) (replied text g (deed.Applied e.slot e.drawn))
+    (runs_alone bytes g after)
 line-does longest bytes g m after e (asks_event x s d asks did) line =
     let text = block_of bytes 1 g s.slot (tellings_of s.told.items) (ending_of s) in (
       text,
-      asks 1 (one_runs bytes g m) (one_runs bytes g after) (replied text g (deed.Applied e.slot e.drawn)) (
+      asks 1 (runs_alone bytes g m) (runs_alone bytes g after) (replied text g (deed.Applied e.slot e.drawn)) (
         true,
-        one_runs bytes g m,
+        runs_alone bytes g m,
         refl,
         (
           Some m,
@@ -384,9 +385,9 @@ line-does longest bytes g m after e (asks_event x s d asks did) line =
 line-does longest bytes g m after e (asks_for_all given_bytes answers d asks did) line =
     let text = block_of_answers bytes 1 g answers in (
       text,
-      asks 1 (one_runs bytes g m) (one_runs bytes g after) (replied text g (deed.Applied e.slot e.drawn)) (
+      asks 1 (runs_alone bytes g m) (runs_alone bytes g after) (replied text g (deed.Applied e.slot e.drawn)) (
         true,
-        one_runs bytes g m,
+        runs_alone bytes g m,
         refl,
         (
           Some m,
@@ -403,9 +404,9 @@ line-does longest bytes g m after e (asks_for_all given_bytes answers d asks did
     )
 
 pub all-done : (longest : ℕ) (bytes : Bool) (g : ℕ) {m after : Machine} {es : List AppliedLine} {lines : List Line}
-    → AreServedFor longest g es lines → AreRun m lines after
-    → DoAll longest g (one_runs bytes g m) (map act_of es) (one_runs bytes g after)
-all-done longest bytes g none_served ended = no_act
+    → AreServedFor longest g es lines → AreServedInTurn m lines after
+    → DoAll longest g (runs_alone bytes g m) (map line_deed_of es) (runs_alone bytes g after)
+all-done longest bytes g none_served ended = no_deed
 all-done longest bytes g {m = m} (next_served {e} is_for others) (goes_on {now} l line run) =
     let does = line-does longest bytes g m now e is_for.asked line in
-    one_act 1 does.0 (act_of e) does.1 (all-done longest bytes g others run)
+    one_deed 1 does.0 (line_deed_of e) does.1 (all-done longest bytes g others run)

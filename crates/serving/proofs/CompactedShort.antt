@@ -7,7 +7,7 @@ use Rattle.std.specs.Map.{values_of}
 use Rattle.std.proofs.Common.{◌∙◌, refl, sym, ap, arith, true≢false}
 use Rattle.std.proofs.lemmas.Bool.Decides.{Decides-eqb}
 use Rattle.scripts.specs.Script.{Bytes, lines_with_feeds}
-use Rattle.feed.specs.Lasting.{Declaration, Lines, NetworkLines, compacted, declaration_text, lost_at, lowered, naming_text, value_at}
+use Rattle.feed.specs.Lasting.{Declaration, Lines, NetworkLines, compacted, declaration_text, entry_at, lost_at, lowered, naming_text}
 use Rattle.serving.specs.Apart.{AreFrom}
 use Rattle.serving.specs.Compacted.{AppliedLine, applied_tag, declarations_of, declared_tag, declared_text, naming_line, naming_tags, of_network, pair_of, short_tags}
 use Rattle.serving.specs.Merging.{all_lines, lines_for}
@@ -34,9 +34,9 @@ declared-feeds : (networks : List (ℕ × NetworkLines)) (ds : List (ℕ × Decl
     → flat_map (declaration_text networks) (values_of ds) ≡ lines_with_feeds (all_lines (map (declared_tag networks) ds))
 declared-feeds networks [] = refl
 declared-feeds networks (e ∷ ds) =
-    nested (lowered (lost_at (value_at networks e.1.network)) e.1.text) (10 ∷ [])
+    nested (lowered (lost_at (entry_at networks e.1.network)) e.1.text) (10 ∷ [])
     (flat_map (declaration_text networks) (values_of ds))
-    ∙ ap (λ l. lowered (lost_at (value_at networks e.1.network)) e.1.text ++ 10 ∷ l) (declared-feeds networks ds)
+    ∙ ap (λ l. lowered (lost_at (entry_at networks e.1.network)) e.1.text ++ 10 ∷ l) (declared-feeds networks ds)
 
 naming-feed : (g : ℕ) (more : Bytes)
     → (codes "close " ++ (decimal g ++ 32 ∷ 48 ∷ 10 ∷ [])) ++ more ≡ naming_line g ++ 10 ∷ more
@@ -97,21 +97,21 @@ for-both g (e ∷ es) fs = by (e.0 == g) (for-both g es fs)
 
 declared-for : (g : ℕ) (networks : List (ℕ × NetworkLines)) (ds : List (ℕ × Declaration))
     → lines_for g (map (declared_tag networks) ds)
-    ≡ map (lowered (lost_at (value_at networks g))) (map declared_text (declarations_of g ds))
+    ≡ map (lowered (lost_at (entry_at networks g))) (map declared_text (declarations_of g ds))
 declared-for g networks [] = refl
 declared-for g networks (e ∷ ds) = by (e.1.network == g) refl (declared-for g networks ds)
   where
     by : (b : Bool) → (e.1.network == g) ≡ b
         → lines_for g (map (declared_tag networks) ds)
-        ≡ map (lowered (lost_at (value_at networks g))) (map declared_text (declarations_of g ds))
-        → (if b then lowered (lost_at (value_at networks e.1.network)) e.1.text ∷ lines_for g (map (declared_tag networks) ds)
+        ≡ map (lowered (lost_at (entry_at networks g))) (map declared_text (declarations_of g ds))
+        → (if b then lowered (lost_at (entry_at networks e.1.network)) e.1.text ∷ lines_for g (map (declared_tag networks) ds)
         else lines_for g (map (declared_tag networks) ds))
-        ≡ map (lowered (lost_at (value_at networks g)))
+        ≡ map (lowered (lost_at (entry_at networks g)))
         (map declared_text (cond b (e ∷ declarations_of g ds) (declarations_of g ds)))
     by true is others =
-        ap (λ h. lowered (lost_at (value_at networks h)) e.1.text ∷ lines_for g (map (declared_tag networks) ds))
+        ap (λ h. lowered (lost_at (entry_at networks h)) e.1.text ∷ lines_for g (map (declared_tag networks) ds))
         ((Decides-eqb e.1.network g).0 is)
-        ∙ ap (λ l. lowered (lost_at (value_at networks g)) e.1.text ∷ l) others
+        ∙ ap (λ l. lowered (lost_at (entry_at networks g)) e.1.text ∷ l) others
     by false is others = others
 
 abbrev pub applied_text : AppliedLine → Bytes
@@ -153,7 +153,7 @@ none-named g k (e ∷ networks) ascend below =
     by false is others = others
 
 naming-for : (g k : ℕ) (networks : List (ℕ × NetworkLines)) → AreFrom k networks
-    → lines_for g (naming_tags networks) ≡ naming_of g (value_at networks g)
+    → lines_for g (naming_tags networks) ≡ naming_of g (entry_at networks g)
 naming-for g k [] ascend = refl
 naming-for g k (e ∷ networks) ascend = by (e.0 == g) refl (naming-for g (e.0 + 1) networks ascend.1)
   where
@@ -172,29 +172,29 @@ naming-for g k (e ∷ networks) ascend = by (e.0 == g) refl (naming-for g (e.0 +
         ap (λ c. if c then naming_line e.0 ∷ lines_for g (naming_tags networks) else lines_for g (naming_tags networks)) is
     there false is = refl
 
-    by : (b : Bool) → (e.0 == g) ≡ b → lines_for g (naming_tags networks) ≡ naming_of g (value_at networks g)
-        → lines_for g (naming_tags (e ∷ networks)) ≡ naming_of g (value_at (e ∷ networks) g)
+    by : (b : Bool) → (e.0 == g) ≡ b → lines_for g (naming_tags networks) ≡ naming_of g (entry_at networks g)
+        → lines_for g (naming_tags (e ∷ networks)) ≡ naming_of g (entry_at (e ∷ networks) g)
     by true is others =
         let same : e.0 ≡ g = (Decides-eqb e.0 g).0 is in
         here (is_bare_named e.1) is (none-named g (e.0 + 1) networks ascend.1 (omega (arith, same)))
-        ∙ sym (ap (λ o. naming_of g (cond (is_eq o) (Some e.1) (value_at networks g)))
+        ∙ sym (ap (λ o. naming_of g (cond (is_eq o) (Some e.1) (entry_at networks g)))
         (ap (nat_cmp g) same ∙ at-itself g))
     by false is others =
         let apart : g ≢ e.0 = λ same. true≢false (sym ((Decides-eqb e.0 g).1 (sym same)) ∙ is) in
         there (is_bare_named e.1) is ∙ others
-        ∙ sym (ap (λ b. naming_of g (cond b (Some e.1) (value_at networks g))) (not-at g e.0 apart))
+        ∙ sym (ap (λ b. naming_of g (cond b (Some e.1) (entry_at networks g))) (not-at g e.0 apart))
 
 pub short-for : (g : ℕ) (lines : Lines) (es : List AppliedLine) → AreFrom 0 lines.networks
     → lines_for g (short_tags lines es)
-    ≡ map (lowered (lost_at (value_at lines.networks g))) (map declared_text (declarations_of g lines.lasting.declarations))
-    ++ (naming_of g (value_at lines.networks g) ++ map applied_text (of_network g es))
+    ≡ map (lowered (lost_at (entry_at lines.networks g))) (map declared_text (declarations_of g lines.lasting.declarations))
+    ++ (naming_of g (entry_at lines.networks g) ++ map applied_text (of_network g es))
 short-for g lines es ascend =
     for-both g (map (declared_tag lines.networks) lines.lasting.declarations)
     (naming_tags lines.networks ++ map applied_tag es)
     ∙ ap (λ l. l ++ lines_for g (naming_tags lines.networks ++ map applied_tag es))
     (declared-for g lines.networks lines.lasting.declarations)
-    ∙ ap (λ l. map (lowered (lost_at (value_at lines.networks g)))
+    ∙ ap (λ l. map (lowered (lost_at (entry_at lines.networks g)))
     (map declared_text (declarations_of g lines.lasting.declarations)) ++ l)
     (for-both g (naming_tags lines.networks) (map applied_tag es)
     ∙ ap (λ l. l ++ lines_for g (map applied_tag es)) (naming-for g 0 lines.networks ascend)
-    ∙ ap (λ l. naming_of g (value_at lines.networks g) ++ l) (applied-for g es))
+    ∙ ap (λ l. naming_of g (entry_at lines.networks g) ++ l) (applied-for g es))

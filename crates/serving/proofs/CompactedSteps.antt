@@ -4,17 +4,18 @@ use Rattle.std.proofs.Common.{◌∙◌, refl, sym, ap, subst, inl, inr}
 use Rattle.protocol.specs.Hosts.{Config}
 use Rattle.network.specs.Standing.{Machine}
 use Rattle.scripts.specs.Script.{Bytes}
-use Rattle.feed.specs.Lasting.{Declaration, NetworkLines, both_drawn, drawn_at, nothing_drawn, value_at}
+use Rattle.feed.specs.Lasting.{Declaration, NetworkLines, both_drawn, drawn_at, entry_at, nothing_drawn}
 use Rattle.feed.specs.WholeLines.{given}
 use Rattle.feed.specs.declared.answering.Deed.{Deed}
 use Rattle.feed.specs.declared.answering.Deed.TheVariants as deed
 use Rattle.feed.specs.declared.answering.Drawn.{Drawn}
 use Rattle.requests.specs.Outlines.{IsConfigOf, Outlined}
 use Rattle.serving.specs.Blocks.{TellsOfNoWant}
-use Rattle.serving.specs.Compacted.{AppliedLine, AreApplied, AreServedFor, DeclarationsAreSmall, DoAll, IsMade, IsMadeAs, IsNamed, IsSmall, IsUnnamed, NetworksAreMade, applied_behind, at_slot, but_at_slot, but_there, declarations_behind, declared_text, declaring, done_by, is_at_slot, is_of_network, network_behind, of_network, one_runs, one_waits, slot_lines}
+use Rattle.serving.specs.Compacted.{AppliedLine, AreApplied, AreServedFor, DeclarationsAreSmall, DoAll, IsMade, IsMadeAs, IsNamedNetwork, IsSmall, IsUnnamed, NetworksAreMade, applied_behind, but_at_slot, but_there, declarations_behind, declared_text, declaring, done_as, is_at_slot, is_of_network, lines_at_slot, network_behind, of_network, slot_lines}
+use Rattle.serving.specs.Lowering.{waits_alone, runs_alone}
 use Rattle.serving.specs.Compacted.AreServedFor.{none_served}
-use Rattle.serving.specs.Compacted.DoAll.{no_act}
-use Rattle.serving.specs.Erasing.AreRun.{ended}
+use Rattle.serving.specs.Compacted.DoAll.{no_deed}
+use Rattle.serving.specs.Erasing.AreServedInTurn.{ended}
 use Rattle.serving.specs.Futures.{moved_config}
 use Rattle.serving.specs.Hosts.{Live, Serves, begun, new_live}
 use Rattle.serving.proofs.AlikeInTurn.{alike-in-turn}
@@ -42,7 +43,7 @@ declared-more longest g n line text ds {l} {old} {new} before serves =
 
 -- ---- a network that runs
 abbrev SlotsAre : NetworkLines → List AppliedLine → Type 0
-SlotsAre net es = (i : ℕ) → value_at net.slots i ≡ slot_lines (at_slot i es)
+SlotsAre net es = (i : ℕ) → entry_at net.slots i ≡ slot_lines (lines_at_slot i es)
 
 others-there : (g i : ℕ) (es : List AppliedLine) → of_network g es ≡ es → but_there g i es ≡ but_at_slot i es
 others-there g i es own =
@@ -57,10 +58,10 @@ others-there g i es own =
     by false b = refl
 
 applied-made : (longest : ℕ) (bytes : Bool) (g n i : ℕ) (line text : Bytes) (d lost : Drawn) (ds : List (ℕ × Declaration))
-    (es : List AppliedLine) (old : Live) (after : Machine) (is : IsNamed longest bytes g lost ds es old)
+    (es : List AppliedLine) (old : Live) (after : Machine) (is : IsNamedNetwork longest bytes g lost ds es old)
     → TellsOfNoWant text
-    → Serves (one_runs bytes g is.machine) n (given longest line) (replied text g (deed.Applied i d)) (one_runs bytes g after)
-    → IsNamed longest bytes g lost ds (applied_behind n line g (deed.Applied i d) es) (one_runs bytes g after)
+    → Serves (runs_alone bytes g is.machine) n (given longest line) (replied text g (deed.Applied i d)) (runs_alone bytes g after)
+    → IsNamedNetwork longest bytes g lost ds (applied_behind n line g (deed.Applied i d) es) (runs_alone bytes g after)
 applied-made longest bytes g n i line text d lost ds es old after is tells serves =
     let other = served-the-other longest bytes g n line text (deed.Applied i d) is.machine after is.left is.alike serves in
     let e : AppliedLine = record { number = n; network = g; text = line; slot = i; drawn = d } in
@@ -87,10 +88,10 @@ applied-made longest bytes g n i line text d lost ds es old after is tells serve
 
 closed-made : (longest : ℕ) (bytes : Bool) (g n i : ℕ) (line text : Bytes) (d : Drawn)
     (net : NetworkLines) (ds : List (ℕ × Declaration)) (es : List AppliedLine) (old : Live) (after : Machine)
-    (is : IsNamed longest bytes g net.lost ds es old) → SlotsAre net es → of_network g es ≡ es
-    → Serves (one_runs bytes g is.machine) n (given longest line) (replied text g (deed.Closed i d)) (one_runs bytes g after)
-    → IsNamed longest bytes g (both_drawn net.lost (both_drawn (drawn_at (value_at net.slots i)) d)) ds (but_there g i es)
-    (one_runs bytes g after)
+    (is : IsNamedNetwork longest bytes g net.lost ds es old) → SlotsAre net es → of_network g es ≡ es
+    → Serves (runs_alone bytes g is.machine) n (given longest line) (replied text g (deed.Closed i d)) (runs_alone bytes g after)
+    → IsNamedNetwork longest bytes g (both_drawn net.lost (both_drawn (drawn_at (entry_at net.slots i)) d)) ds (but_there g i es)
+    (runs_alone bytes g after)
 closed-made longest bytes g n i line text d net ds es old after is slots own serves =
     let other = served-the-other longest bytes g n line text (deed.Closed i d) is.machine after is.left is.alike serves in
     let left = slots_may_be_erased longest bytes g n i line text d is.rest es is.left other.0 is.applied other.2 in
@@ -102,7 +103,7 @@ closed-made longest bytes g n i line text d net ds es old after is slots own ser
       rest = left.0;
       is_config = is.is_config;
       less = subst (λ o. is.config ≡ moved_config (both_drawn net.lost (both_drawn (drawn_at o) d)) left.0) (sym (slots i))
-          (lost-more g is.outlined is.config is.rest left.0 net.lost (at_slot i es) d is.small is.is_config is.less left.2);
+          (lost-more g is.outlined is.config is.rest left.0 net.lost (lines_at_slot i es) d is.small is.is_config is.less left.2);
       machine = after;
       left = left.1;
       applied = subst (λ others. AreApplied longest g (begun left.0) others left.1) (sym (others-there g i es own)) left.3;
@@ -112,9 +113,9 @@ closed-made longest bytes g n i line text d net ds es old after is slots own ser
 
 refused-made : (longest : ℕ) (bytes : Bool) (g n : ℕ) (line text : Bytes) (lost : Drawn)
     (ds : List (ℕ × Declaration)) (es : List AppliedLine) (old : Live) (after : Machine)
-    (is : IsNamed longest bytes g lost ds es old)
-    → Serves (one_runs bytes g is.machine) n (given longest line) (replied text g deed.Refused) (one_runs bytes g after)
-    → IsNamed longest bytes g lost ds es (one_runs bytes g after)
+    (is : IsNamedNetwork longest bytes g lost ds es old)
+    → Serves (runs_alone bytes g is.machine) n (given longest line) (replied text g deed.Refused) (runs_alone bytes g after)
+    → IsNamedNetwork longest bytes g lost ds es (runs_alone bytes g after)
 refused-made longest bytes g n line text lost ds es old after is serves =
     let left = refused_lines_stay_alike longest bytes g n line text is.rest es is.machine after is.left is.applied is.alike serves in
     record {
@@ -141,16 +142,16 @@ IsMadeBehind longest bytes g n line d net ds es new =
 
 named-made : (longest : ℕ) (bytes : Bool) (g n : ℕ) (line text : Bytes)
     (d : Deed) (net : NetworkLines) (ds : List (ℕ × Declaration)) (es : List AppliedLine) (old new : Live)
-    (is : IsNamed longest bytes g net.lost ds es old) → SlotsAre net es → of_network g es ≡ es → TellsOfNoWant text
-    → Serves (one_runs bytes g is.machine) n (given longest line) (replied text g d) new
+    (is : IsNamedNetwork longest bytes g net.lost ds es old) → SlotsAre net es → of_network g es ≡ es → TellsOfNoWant text
+    → Serves (runs_alone bytes g is.machine) n (given longest line) (replied text g d) new
     → IsMadeBehind longest bytes g n line d net ds es new
 named-made longest bytes g n line text d net ds es old new is slots own tells serves =
     by (runs-on n g bytes (given longest line) is.machine (replied text g d) d new refl
-    (what-it-asks n (given longest line) (one_runs bytes g is.machine) new (replied text g d) (done_by g d) serves refl))
+    (what-it-asks n (given longest line) (runs_alone bytes g is.machine) new (replied text g d) (done_as g d) serves refl))
   where
     at : (d : Deed) (after : Machine) → IsEventDeed d
-        → Serves (one_runs bytes g is.machine) n (given longest line) (replied text g d) (one_runs bytes g after)
-        → IsMadeBehind longest bytes g n line d net ds es (one_runs bytes g after)
+        → Serves (runs_alone bytes g is.machine) n (given longest line) (replied text g d) (runs_alone bytes g after)
+        → IsMadeBehind longest bytes g n line d net ds es (runs_alone bytes g after)
     at deed.Declared after event serves = absurd event
     at deed.Refused after event serves = refused-made longest bytes g n line text net.lost ds es old after is serves
     at (deed.Applied i drawn) after event serves =
@@ -162,14 +163,14 @@ named-made longest bytes g n line text d net ds es old new is slots own tells se
     by : RunsOn bytes g d new → IsMadeBehind longest bytes g n line d net ds es new
     by (inl (event, (after, same))) =
         subst (IsMadeBehind longest bytes g n line d net ds es) (sym same)
-        (at d after event (subst (Serves (one_runs bytes g is.machine) n (given longest line) (replied text g d)) same serves))
+        (at d after event (subst (Serves (runs_alone bytes g is.machine) n (given longest line) (replied text g d)) same serves))
     by (inr (drops, gone)) = subst (λ d. IsMadeBehind longest bytes g n line d net ds es new) (sym drops) gone
 
 -- ---- a network that waits
 -- it has begun, and nothing has happened to it
 abbrev begun-made : (longest : ℕ) (bytes : Bool) (g : ℕ) (c : Config) (lost : Drawn) (ds : List (ℕ × Declaration))
     (es : List AppliedLine) (old : Live) (is : IsUnnamed longest bytes g lost ds es old) → IsConfigOf g is.outlined c
-    → IsNamed longest bytes g lost ds es (one_runs bytes g (begun c))
+    → IsNamedNetwork longest bytes g lost ds es (runs_alone bytes g (begun c))
 begun-made longest bytes g c lost ds es old is of = record {
   outlined = is.outlined;
   small = is.small;
@@ -197,9 +198,9 @@ waiting-made : DeclarationsAreSmall → (longest : ℕ) (bytes : Bool) (g n : �
 waiting-made are_small longest bytes g n line text d net ds es old new unnamed is slots own tells serves =
     let here = subst (λ l. Serves l n (given longest line) (replied text g d) new) is.is serves in
     by (waits-on are_small longest bytes g n line text is.outlined d new is.small
-    (what-it-asks n (given longest line) (one_waits bytes g is.outlined) new (replied text g d) (done_by g d) here refl))
+    (what-it-asks n (given longest line) (waits_alone bytes g is.outlined) new (replied text g d) (done_as g d) here refl))
   where
-    more : (p : Outlined) → IsSmall p → new ≡ one_waits bytes g p
+    more : (p : Outlined) → IsSmall p → new ≡ waits_alone bytes g p
         → Serves old n (given longest line) (replied text g deed.Declared) new
         → IsMadeBehind longest bytes g n line deed.Declared net ds es new
     more p small same serves = subst
@@ -219,7 +220,7 @@ waiting-made are_small longest bytes g n line text d net ds es old new unnamed i
         subst (λ d. IsMadeBehind longest bytes g n line d net ds es new) (sym declares)
         (more p small same (subst (λ d. Serves old n (given longest line) (replied text g d) new) declares serves))
     by (begins c of later) =
-        named-made longest bytes g n line text d net ds es (one_runs bytes g (begun c)) new
+        named-made longest bytes g n line text d net ds es (runs_alone bytes g (begun c)) new
         (begun-made longest bytes g c net.lost ds es old is of) slots own tells later
     by (taken_back drops gone) = subst (λ d. IsMadeBehind longest bytes g n line d net ds es new) (sym drops) gone
 
@@ -230,16 +231,16 @@ none-made : DeclarationsAreSmall → (longest : ℕ) (bytes : Bool) (g n : ℕ) 
     → IsMade longest bytes g (network_behind n d None) (declarations_behind n line g d ds) (applied_behind n line g d es) new
 none-made are_small longest bytes g n line text d ds es new no-ds no-es serves =
     by (new-on are_small bytes g n (given longest line) (replied text g d) d new refl
-    (what-it-asks n (given longest line) (new_live bytes) new (replied text g d) (done_by g d) serves refl))
+    (what-it-asks n (given longest line) (new_live bytes) new (replied text g d) (done_as g d) serves refl))
   where
-    more : (o : Outlined) → IsSmall o → new ≡ one_waits bytes g o
+    more : (o : Outlined) → IsSmall o → new ≡ waits_alone bytes g o
         → Serves (new_live bytes) n (given longest line) (replied text g deed.Declared) new
         → IsUnnamed longest bytes g nothing_drawn (ds ++ (n, record { network = g; text = line }) ∷ []) es new
     more o small same serves = record {
       outlined = o;
       small = small;
       declared = declared-more longest g n line text ds
-          (subst (λ l. DoAll longest g (new_live bytes) (map declaring (map declared_text l)) (new_live bytes)) (sym no-ds) no_act)
+          (subst (λ l. DoAll longest g (new_live bytes) (map declaring (map declared_text l)) (new_live bytes)) (sym no-ds) no_deed)
           serves;
       none_applied = no-es;
       none_lost = refl;

@@ -5,7 +5,7 @@ use Rattle.network.specs.Decoding.{step_of}
 use Rattle.network.specs.Standing.{Machine}
 use Rattle.live.specs.Telling.{IsServedBy}
 use Rattle.scripts.specs.Script.{AreFields, Bytes, IsSkipped}
-use Rattle.feed.specs.Served.{Reply}
+use Rattle.feed.specs.Served.{LineReply}
 use Rattle.serving.specs.Hosts.{AreFieldsAnswered, AreServed, Live, Serves}
 use Rattle.serving.specs.Hosts.AreServed.{next_node, none_left}
 use Rattle.serving.specs.declared.all.NodeAnswer.{NodeAnswer}
@@ -40,7 +40,7 @@ all-served bytes us rest u old now new a before mid after is one pushed others =
 pub is-not-skipped : {X E : Type 0} (r : Result (Option X) E) (x : X) → r ≡ Ok (Some x) → r ≡ Ok None → ⊥
 is-not-skipped r x some none = absurd (cc)
 
-pub line-served : {P E : Type 0} (read : P → Reply) (r : Result P E) (n : ℕ) (line : Bytes) (fields : List Bytes) (old new : Live) → (IsSkipped line → ⊥) → AreFields line fields
+pub line-served : {P E : Type 0} (read : P → LineReply) (r : Result P E) (n : ℕ) (line : Bytes) (fields : List Bytes) (old new : Live) → (IsSkipped line → ⊥) → AreFields line fields
     → IfOk r (λ p. AreFieldsAnswered n fields old (read p) new) → IfOk r (λ p. Serves old n (Some line) (read p) new)
 line-served read (Ok p) n line fields old new runs are answered = inr (runs, inr (fields, are, answered))
 line-served read (Err e) n line fields old new runs are answered = tt

@@ -5,12 +5,12 @@ use Rattle.std.proofs.Common.{◌∙◌, refl, sym, ap, arith}
 use Rattle.protocol.specs.Hosts.{Config}
 use Rattle.protocol.specs.Networks.{instances_at}
 use Rattle.protocol.specs.Rosters.{Roster}
-use Rattle.network.specs.Lodgings.{slot_of}
+use Rattle.network.specs.FiledSlots.{slot_of}
 use Rattle.network.specs.Standing.{IsStood, Machine}
 use Rattle.feed.specs.declared.answering.Drawn.{Drawn}
 use Rattle.serving.specs.Futures.{moved, moved_budgets, moved_config, moved_roster}
 use Rattle.serving.specs.Hosts.{begun}
-use Rattle.serving.specs.Erasing.{AllClosedSlotsAreErased, AreOthers, AreOthersOf, AreRun, IsLineKept, Line, both, drawn_at, drawn_of, is_line_at}
+use Rattle.serving.specs.Erasing.{AllClosedSlotsAreErased, AreOthers, AreOthersOf, AreServedInTurn, IsLineErasable, Line, both_amounts, drawn_at_slot, drawn_of, is_line_at}
 use Rattle.serving.specs.Erasing.AreOthersOf.{next_slot, no_slots}
 use Rattle.serving.proofs.AlikeMachines.{stays}
 use Rattle.serving.proofs.MovedParts.{roster_with, same-budgets, same-machine}
@@ -21,21 +21,21 @@ add-twice : (n a b : ℕ) → (n + a) + b ≡ n + (a + b)
 add-twice n a b = omega arith
 
 roster-twice : (d e : Drawn) (r : Option Roster)
-    → option_map (moved_roster e) (option_map (moved_roster d) r) ≡ option_map (moved_roster (both d e)) r
+    → option_map (moved_roster e) (option_map (moved_roster d) r) ≡ option_map (moved_roster (both_amounts d e)) r
 roster-twice d e None = refl
 roster-twice d e (Some r) = ap (λ n. Some (roster_with r n)) (add-twice r.shares.opens d.opens e.opens)
 
-moved-twice : (d e : Drawn) (m : Machine) → moved e (moved d m) ≡ moved (both d e) m
+moved-twice : (d e : Drawn) (m : Machine) → moved e (moved d m) ≡ moved (both_amounts d e) m
 moved-twice d e m =
     same-machine m _ _ _ _ _ _ _ _ _ _
-    (same-budgets (moved_budgets e (moved_budgets d m.config.budgets)) (moved_budgets (both d e) m.config.budgets)
+    (same-budgets (moved_budgets e (moved_budgets d m.config.budgets)) (moved_budgets (both_amounts d e) m.config.budgets)
     (add-twice m.config.budgets.events d.events e.events) (add-twice m.config.budgets.bytes d.bytes e.bytes) refl)
     (roster-twice d e m.config.roster) (add-twice m.events d.events e.events) (add-twice m.bytes d.bytes e.bytes)
     (add-twice m.opens d.opens e.opens)
 
 -- ---- in turn
-keep-all : (i : ℕ) (lines : List Line) → AllByRecursion IsLineKept lines
-    → AllByRecursion (λ l. is_line_at i l ≡ false → IsLineKept l) lines
+keep-all : (i : ℕ) (lines : List Line) → AllByRecursion IsLineErasable lines
+    → AllByRecursion (λ l. is_line_at i l ≡ false → IsLineErasable l) lines
 keep-all i [] kept = tt
 keep-all i (l ∷ lines) kept = (λ off. kept.0, keep-all i lines kept.1)
 
@@ -50,23 +50,23 @@ others-draw : (i : ℕ) (slots : List ℕ) (lines others : List Line) → AllByR
     → AreOthers i lines others → drawn_of slots others ≡ drawn_of slots lines
 others-draw i [] lines others apart are = refl
 others-draw i (k ∷ slots) lines others apart are =
-    ap (λ d. both d (drawn_at k others)) (others-draw i slots lines others apart.1 are)
-    ∙ ap (both (drawn_of slots lines)) (others_draw_as_much i k lines others apart.0 are)
+    ap (λ d. both_amounts d (drawn_at_slot k others)) (others-draw i slots lines others apart.1 are)
+    ∙ ap (both_amounts (drawn_of slots lines)) (others_draw_as_much i k lines others apart.0 are)
 
 -- what is left without these slots
 abbrev IsLeftOf : List ℕ → Config → List Line → Machine → Type 0
 IsLeftOf slots c lines m =
     (less : Config) × (others : List Line) × (left : Machine) × (c ≡ moved_config (drawn_of slots lines) less)
-    × AreOthersOf slots lines others × AreRun (begun less) others left × IsStood left
+    × AreOthersOf slots lines others × AreServedInTurn (begun less) others left × IsStood left
     × (m ≡ moved (drawn_of slots lines) left)
 
 -- without one slot, and then without the others
 one-more : (i : ℕ) (slots : List ℕ) (c less : Config) (lines between : List Line) (m still : Machine)
     → AllByRecursion (λ k. (i == k) ≡ false) slots → AreOthers i lines between
-    → c ≡ moved_config (drawn_at i lines) less → m ≡ moved (drawn_at i lines) still → IsLeftOf slots less between still
+    → c ≡ moved_config (drawn_at_slot i lines) less → m ≡ moved (drawn_at_slot i lines) still → IsLeftOf slots less between still
     → IsLeftOf (i ∷ slots) c lines m
 one-more i slots c less lines between m still apart are is so more =
-    let d : Drawn = drawn_at i lines in
+    let d : Drawn = drawn_at_slot i lines in
     let e : Drawn = drawn_of slots lines in
     let same = others-draw i slots lines between apart are in (
       more.0,

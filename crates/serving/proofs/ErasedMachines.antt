@@ -9,7 +9,7 @@ use Rattle.protocol.specs.Networks.{Net, Step, source}
 use Rattle.protocol.specs.Networks.Step.{BallotTimerFires, Closes, Delivers, Hears, NominationTimerFires, Opens, Proposes, Reslices}
 use Rattle.network.specs.Decoding.{reading, step_of}
 use Rattle.network.specs.Standing.{IsStood, Machine, StandsFor, net_of}
-use Rattle.live.specs.Serving.{IsServed, Telling}
+use Rattle.live.specs.Serving.{IsServed, ToldReply}
 use Rattle.live.specs.Serving.Ending.{IsDone, IsRefused}
 use Rattle.live.specs.Telling.{IsServedBy, IsToldAt, ending_by, ending_of, tellings_of}
 use Rattle.live.specs.declared.served.Served.{Served}
@@ -20,7 +20,7 @@ use Rattle.serving.specs.Hosts.{AreServed, drawn}
 use Rattle.serving.specs.Hosts.AreServed.{next_node, none_left}
 use Rattle.serving.specs.declared.all.NodeAnswer.{NodeAnswer}
 use Rattle.serving.specs.Erasing.CameAllAs.{next_came, none_came}
-use Rattle.serving.specs.Erasing.{AllMachineEventsThereAreErased, AreToldAs, CameAllAs, CameAs, ErasedMachinesServeAlike, ErasedMachinesServeAllAlike, HasOpensFor, is_reading_at, HadMemory, HasRoomBy, IsErased, IsErasedBy, IsKept, MachineEventsThereAreErased, StandsAsWell, both, drawn_in, is_step_at, opens_slot}
+use Rattle.serving.specs.Erasing.{AllMachineEventsThereAreErased, AreToldAs, CameAllAs, CameAs, ErasedMachinesServeAlike, ErasedMachinesServeAllAlike, HasOpensFor, is_reading_at, HadMemoryToServe, HasRoomBy, IsErased, IsErasedBy, IsNoRefusedOpening, MachineEventsThereAreErased, StandsAsWell, both_amounts, drawn_in, is_step_at, opens_slot}
 use Rattle.serving.proofs.ErasedReasons.{is_full_for, no-memory, reason_without}
 use Rattle.serving.proofs.ErasedServed.{erased_nets_serve_alike, events_there_are_erased, refused-by, served-grows, told-same}
 use Rattle.serving.proofs.ErasedStanding.{IsOf, erased-left, is-of, left_of, room-of, some-left, stands-left, whole}
@@ -71,7 +71,7 @@ of-grown m n next stands grows =
 -- ---- events that are done
 module _ (i : ℕ) (rest lost : Drawn) (m left : Machine) (e : Step) (after : Machine) (s : Served) (stood : IsStood m)
     (h : IsErasedBy i rest lost m left) (off : is_step_at i e ≡ false) (served : IsServedBy m e after s)
-    (memory : HadMemory s) where
+    (memory : HadMemoryToServe s) where
   done-left : s.refused ≡ None → HasRoomBy rest after → AreServedLeft i rest lost after left e s
   done-left none room n stands =
       let here = whole i rest lost m left stood h n stands in
@@ -82,7 +82,7 @@ module _ (i : ℕ) (rest lost : Drawn) (m left : Machine) (e : Step) (after : Ma
       (room-of rest after step.0 step.2 room))
     where
       by : (net : Net) → StandsFor after net
-          → (told : List Telling) × (next : Net) × AreToldAs (tellings_of s.told.items) told
+          → (told : List ToldReply) × (next : Net) × AreToldAs (tellings_of s.told.items) told
           × IsServed n e (IsDone s.stale) told next × IsErased i rest lost net next
           → IsServedLeft i rest lost after left e s n
       by net stands_after (told, next, alike, served_too, erased) = record {
@@ -127,7 +127,7 @@ module _ (i : ℕ) (rest lost : Drawn) (m left : Machine) (e : Step) (after : Ma
       memory.refused
       (is ∙ ap Some (no-memory (is_full_for (source left.config.roster e) e left.events left.config.budgets.events) r none))
 
-  not-opening : (e : Step) (r : Refusal) → IsKept e s → s.refused ≡ Some r → opens_slot e ≡ false
+  not-opening : (e : Step) (r : Refusal) → IsNoRefusedOpening e s → s.refused ≡ Some r → opens_slot e ≡ false
   not-opening (Opens j) r kept is = cc
   not-opening (Closes j) r kept is = refl
   not-opening (Proposes j u x) r kept is = refl
@@ -142,7 +142,7 @@ module _ (i : ℕ) (rest lost : Drawn) (m left : Machine) (e : Step) (after : Ma
       (after_too : Machine) × (t : Served) × IsStood after × IsErasedBy i rest lost after after_too × CameAs s t
       × IsServedBy left e after_too t
 
-  served-too : IsKept e s → HasRoomBy rest after → ServedToo
+  served-too : IsNoRefusedOpening e s → HasRoomBy rest after → ServedToo
   served-too kept room = by s.refused refl
     where
       by : (o : Option Refusal) → s.refused ≡ o → ServedToo
@@ -160,25 +160,25 @@ erased_machines_serve_alike i rest lost m left e after s stood h off served kept
 
 -- ---- events at the slot
 there-left : (i : ℕ) (rest lost : Drawn) (m left : Machine) (e : Step) (after : Machine) (s : Served) → IsStood m
-    → is_step_at i e ≡ true → IsServedBy m e after s → IsErasedBy i (both (drawn m after) rest) lost m left
+    → is_step_at i e ≡ true → IsServedBy m e after s → IsErasedBy i (both_amounts (drawn m after) rest) lost m left
     → (n : Net) → StandsFor left n
-    → (net : Net) × StandsFor after net × IsErased i rest (both lost (drawn m after)) net n
+    → (net : Net) × StandsFor after net × IsErased i rest (both_amounts lost (drawn m after)) net n
 there-left i rest lost m left e after s stood on served h n stands =
-    let here = whole i (both (drawn m after) rest) lost m left stood h n stands in
+    let here = whole i (both_amounts (drawn m after) rest) lost m left stood h n stands in
     let step = served.served here.0 here.1.stands in
     let same : drawn_in here.0 step.0 ≡ drawn m after =
     ap (λ x. drawn_in x step.0) here.1.stands.is ∙ ap (drawn_in (net_of m here.0.draws)) step.2.is in (
       step.0,
       step.2,
-      subst (λ d. IsErased i rest (both lost d) step.0 n) same
+      subst (λ d. IsErased i rest (both_amounts lost d) step.0 n) same
           (events_there_are_erased i rest lost here.0 n e (ending_of s) (tellings_of s.told.items) step.0 on step.1
-          (subst (λ d. IsErased i (both d rest) lost here.0 n) (sym same) here.1.erased)),
+          (subst (λ d. IsErased i (both_amounts d rest) lost here.0 n) (sym same) here.1.erased)),
     )
 
 pub machine_events_there_are_erased : MachineEventsThereAreErased
 machine_events_there_are_erased i rest lost m left e after s stood on served h =
-    let gone : Drawn = both lost (drawn m after) in
-    let some = some-left i (both (drawn m after) rest) lost m left stood h in
+    let gone : Drawn = both_amounts lost (drawn m after) in
+    let some = some-left i (both_amounts (drawn m after) rest) lost m left stood h in
     let one = there-left i rest lost m left e after s stood on served h some.0 some.1 in (
       left_of left.config i gone after,
       refl,
@@ -258,7 +258,7 @@ all-stood bytes {m = m} {after = after} stood (next_node {now} a served others) 
 
 all-served-too : (i : ℕ) (rest lost : Drawn) (bytes : Bytes) {us : List ℕ} {m : Machine} {answers : List NodeAnswer}
     {after : Machine} (left : Machine) → IsStood m → IsErasedBy i rest lost m left → is_reading_at i (reading bytes) ≡ false
-    → AllByRecursion (λ a. HadMemory a.served) answers → HasRoomBy rest after → AreServed bytes us m answers after
+    → AllByRecursion (λ a. HadMemoryToServe a.served) answers → HasRoomBy rest after → AreServed bytes us m answers after
     → (after_too : Machine) × (answers_too : List NodeAnswer) × IsStood after × IsErasedBy i rest lost after after_too
     × CameAllAs answers answers_too × AreServed bytes us left answers_too after_too
 all-served-too i rest lost bytes left stood h off memory room none_left = (left, [], stood, h, none_came, none_left)
@@ -282,7 +282,7 @@ erased_machines_serve_all_alike i rest lost m left bytes us answers after stood 
 
 -- what is drawn in turn
 drawn-twice : (m now after : Machine) → GrowsBy m now → GrowsBy now after
-    → both (drawn m now) (drawn now after) ≡ drawn m after
+    → both_amounts (drawn m now) (drawn now after) ≡ drawn m after
 drawn-twice m now after one two =
     let events : (now.events - m.events) + (after.events - now.events) ≡ after.events - m.events =
     omega (arith, one.events, two.events) in
@@ -298,8 +298,8 @@ drawn-twice m now after one two =
 none-lost : (n left lost : ℕ) → n ≡ left + lost → n ≡ left + (lost + (n - n))
 none-lost n left lost is = omega arith
 
-none-there : (i : ℕ) (rest lost : Drawn) (m left : Machine) → IsErasedBy i (both (drawn m m) rest) lost m left
-    → IsErasedBy i rest (both lost (drawn m m)) m left
+none-there : (i : ℕ) (rest lost : Drawn) (m left : Machine) → IsErasedBy i (both_amounts (drawn m m) rest) lost m left
+    → IsErasedBy i rest (both_amounts lost (drawn m m)) m left
 none-there i rest lost m left h = record {
   number = h.number;
   nodes = h.nodes;
@@ -313,9 +313,9 @@ none-there i rest lost m left h = record {
 
 all-there : (i : ℕ) (rest : Drawn) (bytes : Bytes) (lost : Drawn) {us : List ℕ} {m : Machine} {answers : List NodeAnswer}
     {after : Machine} (left : Machine) → IsStood m → is_reading_at i (reading bytes) ≡ true
-    → IsErasedBy i (both (drawn m after) rest) lost m left → AreServed bytes us m answers after
+    → IsErasedBy i (both_amounts (drawn m after) rest) lost m left → AreServed bytes us m answers after
     → (left_too : Machine) × (left_too.config ≡ left.config) × IsStood after
-    × IsErasedBy i rest (both lost (drawn m after)) after left_too × StandsAsWell left left_too
+    × IsErasedBy i rest (both_amounts lost (drawn m after)) after left_too × StandsAsWell left left_too
 all-there i rest bytes lost {m = m} left stood on h none_left =
     (left, refl, stood, none-there i rest lost m left h, λ net stands. stands)
 all-there i rest bytes lost {m = m} {after = after} left stood on h (next_node {now} a served others) =
@@ -324,15 +324,15 @@ all-there i rest bytes lost {m = m} {after = after} left stood on h (next_node {
     let grows = (all-stood bytes next.0 others).1 in
     let twice = drawn-twice m now after next.1 grows in
     let first = subst (λ d. IsErasedBy i d lost m left)
-    (ap (λ d. both d rest) (sym twice) ∙ sym (both-turn (drawn m now) (drawn now after) rest)) h in
-    let here = machine_events_there_are_erased i (both (drawn now after) rest) lost m left e now a.served stood on served
+    (ap (λ d. both_amounts d rest) (sym twice) ∙ sym (both-turn (drawn m now) (drawn now after) rest)) h in
+    let here = machine_events_there_are_erased i (both_amounts (drawn now after) rest) lost m left e now a.served stood on served
     first in
-    let more = all-there i rest bytes (both lost (drawn m now)) here.0 here.2 on here.3 others in (
+    let more = all-there i rest bytes (both_amounts lost (drawn m now)) here.0 here.2 on here.3 others in (
       more.0,
       more.1 ∙ here.1,
       more.2,
       subst (λ d. IsErasedBy i rest d after more.0)
-          (sym (both-turn lost (drawn m now) (drawn now after)) ∙ ap (both lost) twice) more.3,
+          (sym (both-turn lost (drawn m now) (drawn now after)) ∙ ap (both_amounts lost) twice) more.3,
       λ net stands. more.4 net (here.4 net stands),
     )
 

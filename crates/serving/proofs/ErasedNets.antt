@@ -19,7 +19,7 @@ use Rattle.protocol.proofs.Networks.Effects.{at_slot, effect-keeps, next}
 use Rattle.protocol.proofs.Networks.OpenSlots.{instances_at-drop_other}
 use Rattle.feed.specs.declared.answering.Drawn.{Drawn}
 use Rattle.serving.specs.Futures.{moved_roster, moved_shares}
-use Rattle.serving.specs.Erasing.{ErasedNetsRefuseAlike, ErasedNetsStepAlike, HasOpensFor, HasRoomFor, IsErased, both, is_step_at, opens_slot, slots_but}
+use Rattle.serving.specs.Erasing.{ErasedNetsRefuseAlike, ErasedNetsStepAlike, HasOpensFor, HasRoomForMore, IsErased, both_amounts, is_step_at, opens_slot, slots_but}
 use Rattle.serving.proofs.ErasedParts.{draws-behind, drawn-elsewhere, filter-shortens, filters-swap, slots-act, slots-push}
 
 -- ---- sources
@@ -112,8 +112,8 @@ module _ (i : ℕ) (rest lost : Drawn) (net left : Net) (h : IsErased i rest los
   drawn j s off =
       sym (drawn-elsewhere i j s left.draws off) ∙ ap (drawn_on j s) h.draws ∙ drawn-elsewhere i j s net.draws off
 
-  pub moved : (e : Step) → source net.roster e ≡ moved_source (both lost rest) (source left.roster e)
-  moved e = ap (λ r. source r e) h.roster ∙ source-moves (both lost rest) left.roster e
+  pub moved : (e : Step) → source net.roster e ≡ moved_source (both_amounts lost rest) (source left.roster e)
+  moved e = ap (λ r. source r e) h.roster ∙ source-moves (both_amounts lost rest) left.roster e
 
   -- what draws on the budgets, or on openings and closings, leaves room for the rest
   IsFit : ℕ → Source → Type 0
@@ -123,7 +123,7 @@ module _ (i : ℕ) (rest lost : Drawn) (net left : Net) (h : IsErased i rest los
   IsFit size (OfShare shares j s) = Unit {0}
 
   room-fits : (size : ℕ) (s : Source) → IsFit size s → IsElsewhere i left.roster s
-      → (room_test net (moved_source (both lost rest) s)).0 ≡ false → (room_test left s).0 ≡ false
+      → (room_test net (moved_source (both_amounts lost rest) s)).0 ≡ false → (room_test left s).0 ≡ false
   unfolding IsFit
   room-fits size OfBudgets fit here passes =
       let budget : net.budgets.events ≡ left.budgets.events + (lost.events + rest.events) = ap (λ b. b.events) h.budgets in
@@ -140,7 +140,7 @@ module _ (i : ℕ) (rest lost : Drawn) (net left : Net) (h : IsErased i rest los
       ap (λ ds. not (nat_lt (length ds) shares.pair)) (drawn j (Pair u from) here) ∙ passes
 
   pub room-back : (s : Source) → IsElsewhere i left.roster s → (room_test left s).0 ≡ false
-      → (room_test net (moved_source (both lost rest) s)).0 ≡ false
+      → (room_test net (moved_source (both_amounts lost rest) s)).0 ≡ false
   room-back OfBudgets here passes =
       let budget : net.budgets.events ≡ left.budgets.events + (lost.events + rest.events) = ap (λ b. b.events) h.budgets in
       let count : net.events ≡ left.events + lost.events = h.events in
@@ -156,7 +156,7 @@ module _ (i : ℕ) (rest lost : Drawn) (net left : Net) (h : IsErased i rest los
       ap (λ ds. not (nat_lt (length ds) shares.pair)) (sym (drawn j (Pair u from) here)) ∙ passes
 
   bytes-fit : (size : ℕ) (s : Source) → IsFit size s → IsElsewhere i left.roster s
-      → (bytes_test net (moved_source (both lost rest) s) size).0 ≡ false → (bytes_test left s size).0 ≡ false
+      → (bytes_test net (moved_source (both_amounts lost rest) s) size).0 ≡ false → (bytes_test left s size).0 ≡ false
   unfolding IsFit
   bytes-fit size OfBudgets fit here passes =
       let budget : net.budgets.bytes ≡ left.budgets.bytes + (lost.bytes + rest.bytes) = ap (λ b. b.bytes) h.budgets in
@@ -168,7 +168,7 @@ module _ (i : ℕ) (rest lost : Drawn) (net left : Net) (h : IsErased i rest los
       ap (λ ds. nat_lt shares.bytes (sum_by (λ d. d.size) ds + size)) (drawn j s here) ∙ passes
 
   pub bytes-back : (size : ℕ) (s : Source) → IsElsewhere i left.roster s → (bytes_test left s size).0 ≡ false
-      → (bytes_test net (moved_source (both lost rest) s) size).0 ≡ false
+      → (bytes_test net (moved_source (both_amounts lost rest) s) size).0 ≡ false
   bytes-back size OfBudgets here passes =
       let budget : net.budgets.bytes ≡ left.budgets.bytes + (lost.bytes + rest.bytes) = ap (λ b. b.bytes) h.budgets in
       let count : net.bytes ≡ left.bytes + lost.bytes = h.bytes in
@@ -191,7 +191,7 @@ module _ (i : ℕ) (rest lost : Drawn) (net left : Net) (h : IsErased i rest los
       ∙ ap (λ b. not (is_hosted net u) || not b || (u == from)) (hosted from)
 
   tests-follow : (s : Source) (e : Step) → IsFit (size_of e) s → IsElsewhere i left.roster s → is_step_at i e ≡ false
-      → Follow (tests_on net (moved_source (both lost rest) s) e) (tests_on left s e)
+      → Follow (tests_on net (moved_source (both_amounts lost rest) s) e) (tests_on left s e)
   tests-follow s (Opens j) fit here off =
       also (λ p. opened j off ∙ p)
       (also (λ p.
@@ -222,7 +222,7 @@ module _ (i : ℕ) (rest lost : Drawn) (net left : Net) (h : IsErased i rest los
       also (λ p. ap not (hosted u) ∙ p) (also (λ p. ap not (opened j off) ∙ p) (also (room-fits 0 s fit here) none))
 
   tests-back : (s : Source) (e : Step) → IsElsewhere i left.roster s → is_step_at i e ≡ false → opens_slot e ≡ false
-      → Follow (tests_on left s e) (tests_on net (moved_source (both lost rest) s) e)
+      → Follow (tests_on left s e) (tests_on net (moved_source (both_amounts lost rest) s) e)
   tests-back s (Opens j) here off kept = absurd (true≢false kept)
   tests-back s (Closes j) here off kept =
       also (λ p. sym (ap not (opened j off)) ∙ p) (also (room-back s here) none)
@@ -322,11 +322,11 @@ module _ (i : ℕ) (rest lost : Drawn) (net left : Net) (h : IsErased i rest los
 
   -- ---- what is counted
   fits-by : (size events bytes opens : ℕ) (r : Option Roster) (s : Source)
-      → events ≡ net.events + on_budgets (moved_source (both lost rest) s) 1
-      → bytes ≡ net.bytes + on_budgets (moved_source (both lost rest) s) size
-      → opens ≡ net.opens + on_opens (moved_source (both lost rest) s)
+      → events ≡ net.events + on_budgets (moved_source (both_amounts lost rest) s) 1
+      → bytes ≡ net.bytes + on_budgets (moved_source (both_amounts lost rest) s) size
+      → opens ≡ net.opens + on_opens (moved_source (both_amounts lost rest) s)
       → events + rest.events ≤ net.budgets.events → bytes + rest.bytes ≤ net.budgets.bytes
-      → HasOpensFor (opens + rest.opens) (option_map (moved_roster (both lost rest)) r)
+      → HasOpensFor (opens + rest.opens) (option_map (moved_roster (both_amounts lost rest)) r)
       → IsElsewhere i r s → IsFit size s
   unfolding IsFit
   fits-by size events bytes opens r OfBudgets e b o more-events more-bytes more-opens here =
@@ -339,7 +339,7 @@ module _ (i : ℕ) (rest lost : Drawn) (net left : Net) (h : IsErased i rest los
       omega arith
   fits-by size events bytes opens r (OfShare shares j s) e b o more-events more-bytes more-opens here = tt
 
-  fits : (e : Step) → is_step_at i e ≡ false → HasRoomFor rest (next net e) → IsFit (size_of e) (source left.roster e)
+  fits : (e : Step) → is_step_at i e ≡ false → HasRoomForMore rest (next net e) → IsFit (size_of e) (source left.roster e)
   fits e off room =
       let count = counted-next net e in
       let kept = effect-keeps net e in
@@ -352,7 +352,7 @@ module _ (i : ℕ) (rest lost : Drawn) (net left : Net) (h : IsErased i rest los
       (subst (HasOpensFor ((next net e).opens + rest.opens)) (kept.roster ∙ h.roster) room.opens)
       (source-elsewhere i left.roster e off)
 
-  passes-left : (e : Step) → is_step_at i e ≡ false → HasRoomFor rest (next net e) → first_that (tests net e) ≡ None
+  passes-left : (e : Step) → is_step_at i e ≡ false → HasRoomForMore rest (next net e) → first_that (tests net e) ≡ None
       → first_that (tests left e) ≡ None
   passes-left e off room passes =
       passed (tests-follow (source left.roster e) e (fits e off room) (source-elsewhere i left.roster e off) off)
@@ -409,7 +409,7 @@ next-erased : (i : ℕ) (rest lost : Drawn) (net left : Net) (h : IsErased i res
 next-erased i rest lost net left h e off =
     subst (λ s. IsErased i rest lost (with_draw s (size_of e) (effect net e).0) (next left e))
     (sym (moved i rest lost net left h e))
-    (draw-erased i rest lost (both lost rest) (source left.roster e) (size_of e) (effect net e).0 (effect left e).0
+    (draw-erased i rest lost (both_amounts lost rest) (source left.roster e) (size_of e) (effect net e).0 (effect left e).0
     (effect-erased i rest lost net left h e off).0)
 
 -- ---- steps
@@ -445,7 +445,7 @@ pub erased_nets_step_alike : ErasedNetsStepAlike
 erased_nets_step_alike i rest lost net left e os h off done room =
     let passes = passed-tests net e os done in
     let stepped = step-passed net e passes in
-    let room-next = subst (λ x. HasRoomFor rest x.0) stepped room in
+    let room-next = subst (λ x. HasRoomForMore rest x.0) stepped room in
     let left-stepped = step-passed left e (passes-left i rest lost net left h e off room-next passes) in (
       ap (λ x. x.1) left-stepped ∙ ap Done (effect-erased i rest lost net left h e off).1 ∙ sym (ap (λ x. x.1) stepped)
           ∙ done,

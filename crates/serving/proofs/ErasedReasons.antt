@@ -13,7 +13,7 @@ use Rattle.protocol.specs.Rosters.Share.{Own, Pair}
 use Rattle.protocol.specs.Rosters.Source.{OfBudgets, OfOpens, OfShare}
 use Rattle.feed.specs.declared.answering.Drawn.{Drawn}
 use Rattle.serving.specs.Futures.{moved_shares}
-use Rattle.serving.specs.Erasing.{IsErased, both, is_step_at, opens_slot}
+use Rattle.serving.specs.Erasing.{IsErased, both_amounts, is_step_at, opens_slot}
 use Rattle.serving.proofs.ErasedNets.{IsElsewhere, bytes-back, drawn, heard-there, hosted, moved, moved_source, node-there, opened, room-back, source-elsewhere}
 
 -- ---- reasons
@@ -118,14 +118,14 @@ not-full (OfShare shares i s) e used most is = refl
 
 module _ (i : ℕ) (rest lost : Drawn) (net left : Net) (h : IsErased i rest lost net left) where
   room-refuses : (s : Source) → IsElsewhere i left.roster s
-      → Refuse (room_test net (moved_source (both lost rest) s) ∷ []) (room_test left s ∷ [])
+      → Refuse (room_test net (moved_source (both_amounts lost rest) s) ∷ []) (room_test left s ∷ [])
   room-refuses s here =
-      last (room-reason (both lost rest) net left s)
-      (turned-over (room_test net (moved_source (both lost rest) s)).0 (room_test left s).0
+      last (room-reason (both_amounts lost rest) net left s)
+      (turned-over (room_test net (moved_source (both_amounts lost rest) s)).0 (room_test left s).0
       (room-back i rest lost net left h s here))
 
   hears-on : (s : Source) (j u from : ℕ) (kind : Kind) (k : ℕ) → IsElsewhere i left.roster s → (i == j) ≡ false
-      → Refuse (tests_on net (moved_source (both lost rest) s) (Hears j u from kind k)) (tests_on left s (Hears j u from kind k))
+      → Refuse (tests_on net (moved_source (both_amounts lost rest) s) (Hears j u from kind k)) (tests_on left s (Hears j u from kind k))
   hears-on s j u from kind k here off =
       same (heard-there i rest lost net left h u from) refl
       (same (ap not (opened i rest lost net left h j off)) refl
@@ -143,16 +143,16 @@ module _ (i : ℕ) (rest lost : Drawn) (net left : Net) (h : IsErased i rest los
       (moved i rest lost net left h (Hears j u from kind k))) ∙ refused)
 
   refuse-too : (s : Source) (e : Step) → is_full_by e left.events left.budgets.events ≡ false
-      → Refuse (tests_on net (moved_source (both lost rest) s) e) (tests_on left s e)
+      → Refuse (tests_on net (moved_source (both_amounts lost rest) s) e) (tests_on left s e)
       → AreRefusedAs (is_full_for s e left.events left.budgets.events)
-      (first_that (tests_on net (moved_source (both lost rest) s) e)) (first_that (tests_on left s e))
+      (first_that (tests_on net (moved_source (both_amounts lost rest) s) e)) (first_that (tests_on left s e))
   refuse-too s e none so =
       same-reason (is_full_for s e left.events left.budgets.events)
-      (first_that (tests_on net (moved_source (both lost rest) s) e)) (first_that (tests_on left s e))
+      (first_that (tests_on net (moved_source (both_amounts lost rest) s) e)) (first_that (tests_on left s e))
       (not-full s e left.events left.budgets.events none) (λ r. refused-so r so)
 
   share-room : (shares : Shares) (j : ℕ) (s : Share) → (i == j) ≡ false
-      → (room_test left (OfShare shares j s)).0 ≡ (room_test net (OfShare (moved_shares (both lost rest) shares) j s)).0
+      → (room_test left (OfShare shares j s)).0 ≡ (room_test net (OfShare (moved_shares (both_amounts lost rest) shares) j s)).0
   share-room shares j (Own u) here =
       ap (λ ds. not (nat_lt (length ds) shares.own)) (drawn i rest lost net left h j (Own u) here)
   share-room shares j (Pair u from) here =
@@ -160,7 +160,7 @@ module _ (i : ℕ) (rest lost : Drawn) (net left : Net) (h : IsErased i rest los
 
   bytes-refuse : (s : Source) (u size : ℕ) (e : Sent) → IsElsewhere i left.roster s
       → AreRefusedAs (is_full_for s (Delivers u size (Read e)) left.events left.budgets.events)
-      (first_that (room_test net (moved_source (both lost rest) s) ∷ bytes_test net (moved_source (both lost rest) s) size ∷ []))
+      (first_that (room_test net (moved_source (both_amounts lost rest) s) ∷ bytes_test net (moved_source (both_amounts lost rest) s) size ∷ []))
       (first_that (room_test left s ∷ bytes_test left s size ∷ []))
   bytes-refuse OfBudgets u size e here =
       last-reasons (not (nat_lt net.events net.budgets.events)) (nat_lt net.budgets.bytes (net.bytes + size))
@@ -170,23 +170,23 @@ module _ (i : ℕ) (rest lost : Drawn) (net left : Net) (h : IsErased i rest los
       (turned-over (nat_lt net.budgets.bytes (net.bytes + size)) (nat_lt left.budgets.bytes (left.bytes + size))
       (bytes-back i rest lost net left h size OfBudgets here))
   bytes-refuse (OfOpens shares) u size e here =
-      same-reason false (first_that (room_test net (moved_source (both lost rest) (OfOpens shares)) ∷ []))
+      same-reason false (first_that (room_test net (moved_source (both_amounts lost rest) (OfOpens shares)) ∷ []))
       (first_that (room_test left (OfOpens shares) ∷ [])) refl (λ r. refused-so r (room-refuses (OfOpens shares) here))
   bytes-refuse (OfShare shares j s) u size e here =
       same-reason false
-      (first_that (room_test net (OfShare (moved_shares (both lost rest) shares) j s)
-      ∷ bytes_test net (OfShare (moved_shares (both lost rest) shares) j s) size ∷ []))
+      (first_that (room_test net (OfShare (moved_shares (both_amounts lost rest) shares) j s)
+      ∷ bytes_test net (OfShare (moved_shares (both_amounts lost rest) shares) j s) size ∷ []))
       (first_that (room_test left (OfShare shares j s) ∷ bytes_test left (OfShare shares j s) size ∷ [])) refl
       (λ r. refused-so r
       (same (share-room shares j s here) refl
       (last refl
-      (turned-over (bytes_test net (OfShare (moved_shares (both lost rest) shares) j s) size).0
+      (turned-over (bytes_test net (OfShare (moved_shares (both_amounts lost rest) shares) j s) size).0
       (bytes_test left (OfShare shares j s) size).0
       (bytes-back i rest lost net left h size (OfShare shares j s) here)))))
 
   reasons-on : (s : Source) (e : Step) → IsElsewhere i left.roster s → is_step_at i e ≡ false → opens_slot e ≡ false
       → AreRefusedAs (is_full_for s e left.events left.budgets.events)
-      (first_that (tests_on net (moved_source (both lost rest) s) e)) (first_that (tests_on left s e))
+      (first_that (tests_on net (moved_source (both_amounts lost rest) s) e)) (first_that (tests_on left s e))
   reasons-on s (Opens j) here off kept = absurd (true≢false kept)
   reasons-on s (Closes j) here off kept =
       refuse-too s (Closes j) refl (same (ap not (opened i rest lost net left h j off)) refl (room-refuses s here))
@@ -198,7 +198,7 @@ module _ (i : ℕ) (rest lost : Drawn) (net left : Net) (h : IsErased i rest los
       (same (ap has_proposal (node-there i rest lost net left h j u off)) refl (room-refuses s here)))))
   reasons-on s (Delivers u size (Read e)) here off kept =
       let full : Bool = is_full_for s (Delivers u size (Read e)) left.events left.budgets.events in
-      let d : Drawn = both lost rest in
+      let d : Drawn = both_amounts lost rest in
       front-reason full (not (is_hosted net u)) (not (is_hosted left u)) NoSuchNode
       (first_that ((is_hosted net e.sender, HostedSender) ∷ (not (is_open net e.slot), SlotNotOpen)
       ∷ room_test net (moved_source d s) ∷ bytes_test net (moved_source d s) size ∷ []))

@@ -13,7 +13,7 @@ use Rattle.protocol.specs.Networks.Step.{BallotTimerFires, Closes, Delivers, Hea
 use Rattle.protocol.specs.Rosters.{Roster}
 use Rattle.configuration.specs.Configs.{names_of}
 use Rattle.network.specs.Decoding.{reading, step_of}
-use Rattle.network.specs.Lodgings.{Seats, slot_of}
+use Rattle.network.specs.FiledSlots.{CountedSlot, slot_of}
 use Rattle.network.specs.Standing.{IsStood, Machine, net_of}
 use Rattle.live.specs.Telling.{IsServedBy}
 use Rattle.live.specs.declared.served.Served.{Served}
@@ -23,10 +23,10 @@ use Rattle.serving.specs.Futures.{moved, moved_budgets, moved_config, moved_rost
 use Rattle.serving.specs.Hosts.{AreServed, begun, drawn}
 use Rattle.serving.specs.Hosts.AreServed.{next_node, none_left}
 use Rattle.serving.specs.declared.all.NodeAnswer.{NodeAnswer}
-use Rattle.serving.specs.Erasing.{AreOthers, AreRun, CameAllAs, CameAs, ClosedSlotsAreErased, HadMemory, HasOpensFor, HasRoomBy, IsErasedBy, IsKept, IsLine, IsLineKept, IsSameLine, Line, OthersDrawAsMuch, StandsAsWell, both, drawn_at, drawn_by, is_line_at, is_reading_at, is_step_at, none_drawn, seats_but}
+use Rattle.serving.specs.Erasing.{AreOthers, AreServedInTurn, CameAllAs, CameAs, ClosedSlotsAreErased, HadMemoryToServe, HasOpensFor, HasRoomBy, IsErasedBy, IsLine, IsLineErasable, IsNoRefusedOpening, IsSameLine, Line, OthersDrawAsMuch, StandsAsWell, both_amounts, counted_slots_but, drawn_at_slot, drawn_by, is_line_at, is_reading_at, is_step_at, none_drawn}
 use Rattle.serving.specs.Erasing.CameAllAs.{next_came, none_came}
 use Rattle.serving.specs.Erasing.AreOthers.{no_others, one_other, one_there}
-use Rattle.serving.specs.Erasing.AreRun.{ended, goes_on}
+use Rattle.serving.specs.Erasing.AreServedInTurn.{ended, goes_on}
 use Rattle.serving.specs.Erasing.Line.{OfBytes, OfEvent}
 use Rattle.serving.proofs.MovedParts.{lowered_budgets, lowered_roster, roster_with, same-budgets}
 use Rattle.serving.proofs.ErasedMachines.{GrowsBy, all-stood, all_machine_events_there_are_erased, erased_machines_serve_alike, erased_machines_serve_all_alike, grows-by-both, grows-by-none, machine_events_there_are_erased, served-stood}
@@ -44,7 +44,7 @@ line-within : (l : Line) (m now : Machine) → IsStood m → IsLine l m now → 
 line-within (OfEvent e s d) m now stood line room = served-within m e now s stood line.0 room
 line-within (OfBytes bytes answers d) m now stood line room = all-within bytes stood line.0 room
 
-pub run-stood : {m : Machine} {lines : List Line} {after : Machine} → IsStood m → AreRun m lines after
+pub run-stood : {m : Machine} {lines : List Line} {after : Machine} → IsStood m → AreServedInTurn m lines after
     → IsStood after × GrowsBy m after
 run-stood {m = m} stood ended = (stood, grows-by-none m)
 run-stood {m = m} {after = after} stood (goes_on {now} l line others) =
@@ -52,7 +52,7 @@ run-stood {m = m} {after = after} stood (goes_on {now} l line others) =
     let rest = run-stood here.0 others in
     (rest.0, grows-by-both m now after here.1 rest.1)
 
-run-within : {m : Machine} {lines : List Line} {after : Machine} → IsStood m → AreRun m lines after
+run-within : {m : Machine} {lines : List Line} {after : Machine} → IsStood m → AreServedInTurn m lines after
     → HasRoomBy none_drawn m → HasRoomBy none_drawn after
 run-within stood ended room = room
 run-within {m = m} stood (goes_on {now} l line others) room =
@@ -106,7 +106,7 @@ record Covers (m : Machine) (d : Drawn) (after : Machine) : Type 0 where
   opens : m.opens + d.opens ≤ after.opens
 
 covers-there : (m now after : Machine) (d : Drawn) → GrowsBy m now → Covers now d after
-    → Covers m (both (drawn m now) d) after
+    → Covers m (both_amounts (drawn m now) d) after
 covers-there m now after d grows more = record {
   events = omega (arith, grows.events, more.events);
   bytes = omega (arith, grows.bytes, more.bytes);
@@ -120,18 +120,18 @@ covers-elsewhere m now after d grows more = record {
   opens = omega (arith, grows.opens, more.opens);
 }
 
-covers : (i : ℕ) {m : Machine} {lines : List Line} {after : Machine} → IsStood m → AreRun m lines after
-    → Covers m (drawn_at i lines) after
+covers : (i : ℕ) {m : Machine} {lines : List Line} {after : Machine} → IsStood m → AreServedInTurn m lines after
+    → Covers m (drawn_at_slot i lines) after
 covers i {m = m} stood ended = record { events = omega arith; bytes = omega arith; opens = omega arith }
 covers i {m = m} {after = after} stood (goes_on {now} {lines} l line others) =
     let here = line-stood l m now stood line in by here.1 (covers i here.0 others) (is_line_at i l)
   where
-    by : GrowsBy m now → Covers now (drawn_at i lines) after → (b : Bool)
-        → Covers m (if b then both (drawn_by l) (drawn_at i lines) else drawn_at i lines) after
+    by : GrowsBy m now → Covers now (drawn_at_slot i lines) after → (b : Bool)
+        → Covers m (if b then both_amounts (drawn_by l) (drawn_at_slot i lines) else drawn_at_slot i lines) after
     by grows more true =
-        subst (λ d. Covers m (both d (drawn_at i lines)) after) (drawn-by-line l m now line)
-        (covers-there m now after (drawn_at i lines) grows more)
-    by grows more false = covers-elsewhere m now after (drawn_at i lines) grows more
+        subst (λ d. Covers m (both_amounts d (drawn_at_slot i lines)) after) (drawn-by-line l m now line)
+        (covers-there m now after (drawn_at_slot i lines) grows more)
+    by grows more false = covers-elsewhere m now after (drawn_at_slot i lines) grows more
 
 room-for : (m after : Machine) (d : Drawn) → GrowsBy m after → Covers m d after → HasRoomBy none_drawn after → HasRoomBy d m
 room-for m after d grows more room = record {
@@ -145,7 +145,7 @@ room-for m after d grows more room = record {
 
 -- a line of another slot is served without the slot
 other-line : (i : ℕ) (rest lost : Drawn) (l : Line) (m now left : Machine) → IsStood m → IsErasedBy i rest lost m left
-    → is_line_at i l ≡ false → IsLineKept l → HasRoomBy rest now → IsLine l m now
+    → is_line_at i l ≡ false → IsLineErasable l → HasRoomBy rest now → IsLine l m now
     → (k : Line) × (next : Machine) × IsSameLine l k × IsLine k left next × IsErasedBy i rest lost now next
 other-line i rest lost (OfEvent e s d) m now left stood h off kept room line =
     let too = erased_machines_serve_alike i rest lost m left e now s stood h off line.0 kept.0 kept.1 room in
@@ -166,19 +166,19 @@ other-line i rest lost (OfBytes bytes answers d) m now left stood h off kept roo
 -- a line of the slot changes nothing of what is left
 abbrev IsLineThere : ℕ → Drawn → Drawn → Machine → Machine → Drawn → Type 0
 IsLineThere i rest lost now left d =
-    (left_too : Machine) × (left_too.config ≡ left.config) × IsStood now × IsErasedBy i rest (both lost d) now left_too
+    (left_too : Machine) × (left_too.config ≡ left.config) × IsStood now × IsErasedBy i rest (both_amounts lost d) now left_too
     × StandsAsWell left left_too
 
 line-there : (i : ℕ) (rest lost : Drawn) (l : Line) (m now left : Machine) → IsStood m → is_line_at i l ≡ true
-    → IsErasedBy i (both (drawn_by l) rest) lost m left → IsLine l m now → IsLineThere i rest lost now left (drawn_by l)
+    → IsErasedBy i (both_amounts (drawn_by l) rest) lost m left → IsLine l m now → IsLineThere i rest lost now left (drawn_by l)
 line-there i rest lost (OfEvent e s d) m now left stood on h line =
     subst (IsLineThere i rest lost now left) line.1
     (machine_events_there_are_erased i rest lost m left e now s stood on line.0
-    (subst (λ x. IsErasedBy i (both x rest) lost m left) (sym line.1) h))
+    (subst (λ x. IsErasedBy i (both_amounts x rest) lost m left) (sym line.1) h))
 line-there i rest lost (OfBytes bytes answers d) m now left stood on h line =
     subst (IsLineThere i rest lost now left) line.1
     (all_machine_events_there_are_erased i rest lost m left bytes (names_of m.config.nodes) answers now stood on line.0
-    (subst (λ x. IsErasedBy i (both x rest) lost m left) (sym line.1) h))
+    (subst (λ x. IsErasedBy i (both_amounts x rest) lost m left) (sym line.1) h))
 
 -- ---- another beginning
 all-from : (bytes : Bytes) {us : List ℕ} {a : Machine} {answers : List NodeAnswer} {now : Machine} (b : Machine)
@@ -195,7 +195,7 @@ all-from bytes {now = now} b stands same (next_node a served others) = (
 
 -- lines lead from a machine that stands for no other networks to one that stands for no others
 run-from : {a : Machine} {lines : List Line} {x : Machine} (b : Machine) → IsStood b → StandsAsWell b a
-    → a.config ≡ b.config → AreRun a lines x → (y : Machine) × AreRun b lines y × StandsAsWell y x
+    → a.config ≡ b.config → AreServedInTurn a lines x → (y : Machine) × AreServedInTurn b lines y × StandsAsWell y x
 run-from b stood stands same ended = (b, ended, stands)
 run-from {a} {x = x} b stood stands same (goes_on {now} (OfEvent e s d) line others) = (
   x,
@@ -225,12 +225,12 @@ plus-none n = omega arith
 none-plus : (n : ℕ) → n ≡ 0 + n
 none-plus n = omega arith
 
-pub both-none : (d : Drawn) → d ≡ both d none_drawn
+pub both-none : (d : Drawn) → d ≡ both_amounts d none_drawn
 both-none d =
     ap (λ n. drawn_as n d.bytes d.opens) (plus-none d.events) ∙ ap (λ n. drawn_as (d.events + 0) n d.opens) (plus-none d.bytes)
     ∙ ap (drawn_as (d.events + 0) (d.bytes + 0)) (plus-none d.opens)
 
-none-both : (d : Drawn) → d ≡ both none_drawn d
+none-both : (d : Drawn) → d ≡ both_amounts none_drawn d
 none-both d =
     ap (λ n. drawn_as n d.bytes d.opens) (none-plus d.events) ∙ ap (λ n. drawn_as (0 + d.events) n d.opens) (none-plus d.bytes)
     ∙ ap (drawn_as (0 + d.events) (0 + d.bytes)) (none-plus d.opens)
@@ -241,13 +241,13 @@ left-stood i rest lost m left stood h = let some = some-left i rest lost m left 
 -- what the lines of a run come to without those of the slot
 abbrev IsRunLeft : ℕ → List Line → Machine → Drawn → Machine → Type 0
 IsRunLeft i lines left gone after =
-    (others : List Line) × (end : Machine) × (left_after : Machine) × AreOthers i lines others × AreRun left others end
+    (others : List Line) × (end : Machine) × (left_after : Machine) × AreOthers i lines others × AreServedInTurn left others end
     × StandsAsWell end left_after × IsErasedBy i none_drawn gone after left_after
 
 run-left : (i : ℕ) (lost : Drawn) {m : Machine} {lines : List Line} {after : Machine} (left : Machine) → IsStood m
-    → AllByRecursion (λ l. is_line_at i l ≡ false → IsLineKept l) lines → HasRoomBy none_drawn after
-    → AreRun m lines after → IsErasedBy i (drawn_at i lines) lost m left
-    → IsRunLeft i lines left (both lost (drawn_at i lines)) after
+    → AllByRecursion (λ l. is_line_at i l ≡ false → IsLineErasable l) lines → HasRoomBy none_drawn after
+    → AreServedInTurn m lines after → IsErasedBy i (drawn_at_slot i lines) lost m left
+    → IsRunLeft i lines left (both_amounts lost (drawn_at_slot i lines)) after
 run-left i lost {m = m} left stood kept room ended h = (
   [],
   left,
@@ -259,19 +259,19 @@ run-left i lost {m = m} left stood kept room ended h = (
 )
 run-left i lost {m = m} {after = after} left stood kept room (goes_on {now} {lines} l line others) h =
     let next = line-stood l m now stood line in
-    by (room-for now after (drawn_at i lines) (run-stood next.0 others).1 (covers i next.0 others) room)
+    by (room-for now after (drawn_at_slot i lines) (run-stood next.0 others).1 (covers i next.0 others) room)
     (is_line_at i l) refl h (λ gone still is. run-left i gone still next.0 kept.1 room others is)
   where
-    by : HasRoomBy (drawn_at i lines) now → (b : Bool) → is_line_at i l ≡ b
-        → IsErasedBy i (if b then both (drawn_by l) (drawn_at i lines) else drawn_at i lines) lost m left
-        → ((gone : Drawn) (still : Machine) → IsErasedBy i (drawn_at i lines) gone now still
-        → IsRunLeft i lines still (both gone (drawn_at i lines)) after)
+    by : HasRoomBy (drawn_at_slot i lines) now → (b : Bool) → is_line_at i l ≡ b
+        → IsErasedBy i (if b then both_amounts (drawn_by l) (drawn_at_slot i lines) else drawn_at_slot i lines) lost m left
+        → ((gone : Drawn) (still : Machine) → IsErasedBy i (drawn_at_slot i lines) gone now still
+        → IsRunLeft i lines still (both_amounts gone (drawn_at_slot i lines)) after)
         → IsRunLeft i (l ∷ lines) left
-        (both lost (if b then both (drawn_by l) (drawn_at i lines) else drawn_at i lines)) after
+        (both_amounts lost (if b then both_amounts (drawn_by l) (drawn_at_slot i lines) else drawn_at_slot i lines)) after
     by room_now true on erased more =
-        let here = line-there i (drawn_at i lines) lost l m now left stood on erased line in
-        let rest = more (both lost (drawn_by l)) here.0 here.3 in
-        let left_stood = left-stood i (both (drawn_by l) (drawn_at i lines)) lost m left stood erased in
+        let here = line-there i (drawn_at_slot i lines) lost l m now left stood on erased line in
+        let rest = more (both_amounts lost (drawn_by l)) here.0 here.3 in
+        let left_stood = left-stood i (both_amounts (drawn_by l) (drawn_at_slot i lines)) lost m left stood erased in
         let from = run-from left left_stood here.4 here.1 rest.4 in (
           rest.0,
           from.0,
@@ -280,10 +280,10 @@ run-left i lost {m = m} {after = after} left stood kept room (goes_on {now} {lin
           from.1,
           λ n stands. rest.5 n (from.2 n stands),
           subst (λ gone. IsErasedBy i none_drawn gone after rest.2)
-              (sym (both-turn lost (drawn_by l) (drawn_at i lines))) rest.6,
+              (sym (both-turn lost (drawn_by l) (drawn_at_slot i lines))) rest.6,
         )
     by room_now false off erased more =
-        let here = other-line i (drawn_at i lines) lost l m now left stood erased off (kept.0 off) room_now line in
+        let here = other-line i (drawn_at_slot i lines) lost l m now left stood erased off (kept.0 off) room_now line in
         let rest = more lost here.1 here.4 in
         (here.0 ∷ rest.0, rest.1, rest.2, one_other off here.2 rest.3, goes_on here.0 here.3 rest.4, rest.5, rest.6)
 
@@ -332,17 +332,17 @@ begun-erased i d c less is = record {
   opens = refl;
 }
 
-not-there : (i : ℕ) (ss : List Seats) → instances_at (map slot_of ss) i ≡ None → seats_but i ss ≡ ss
+not-there : (i : ℕ) (ss : List CountedSlot) → instances_at (map slot_of ss) i ≡ None → counted_slots_but i ss ≡ ss
 not-there i [] closed = refl
 not-there i (s ∷ ss) closed = by (s.number == i) closed (not-there i ss)
   where
     by : (b : Bool) → (if b then Some (slot_of s).instances else instances_at (map slot_of ss) i) ≡ None
-        → (instances_at (map slot_of ss) i ≡ None → seats_but i ss ≡ ss)
-        → cond (not b) (s ∷ seats_but i ss) (seats_but i ss) ≡ s ∷ ss
+        → (instances_at (map slot_of ss) i ≡ None → counted_slots_but i ss ≡ ss)
+        → cond (not b) (s ∷ counted_slots_but i ss) (counted_slots_but i ss) ≡ s ∷ ss
     by true none more = cc
     by false none more = ap (λ rest. s ∷ rest) (more none)
 
-abbrev machine_of_parts : ℕ → List HostedNode → Budgets → Option Roster → List Seats → ℕ → ℕ → ℕ → Machine
+abbrev machine_of_parts : ℕ → List HostedNode → Budgets → Option Roster → List CountedSlot → ℕ → ℕ → ℕ → Machine
 machine_of_parts number nodes budgets roster slots events bytes opens = record {
   config = record { number = number; nodes = nodes; budgets = budgets; roster = roster };
   slots = slots;
@@ -403,18 +403,18 @@ all-to bytes {a = old} {now = new} y stands (next_node {us = rest} {now} {answer
 
 -- lines that change no machine of these nodes
 abbrev NoneRun : List HostedNode → List Line → Type 0
-NoneRun nodes lines = (z : Machine) → z.config.nodes ≡ nodes → AreRun z lines z
+NoneRun nodes lines = (z : Machine) → z.config.nodes ≡ nodes → AreServedInTurn z lines z
 
 -- lines lead to each machine that stands for the same and more; or they change nothing
 run-to : {a : Machine} {lines : List Line} {x : Machine} (y : Machine) → IsStood a → StandsAsWell x y
-    → y.config.nodes ≡ x.config.nodes → AreAsUsed x y → AreRun a lines x
-    → AreRun a lines y ⊎ ((x ≡ a) × NoneRun a.config.nodes lines)
+    → y.config.nodes ≡ x.config.nodes → AreAsUsed x y → AreServedInTurn a lines x
+    → AreServedInTurn a lines y ⊎ ((x ≡ a) × NoneRun a.config.nodes lines)
 run-to y stood stands same used ended = inr (refl, λ z nodes. ended)
 run-to {a} {x = x} y stood stands same used (goes_on {now} {lines} (OfEvent e s d) line others) =
     by (run-to y (served-stood a e now s stood line.0).0 stands same used others)
   where
-    by : AreRun now lines y ⊎ ((x ≡ now) × NoneRun now.config.nodes lines)
-        → AreRun a (OfEvent e s d ∷ lines) y ⊎ ((x ≡ a) × NoneRun a.config.nodes (OfEvent e s d ∷ lines))
+    by : AreServedInTurn now lines y ⊎ ((x ≡ now) × NoneRun now.config.nodes lines)
+        → AreServedInTurn a (OfEvent e s d ∷ lines) y ⊎ ((x ≡ a) × NoneRun a.config.nodes (OfEvent e s d ∷ lines))
     by (inl to) = inl (goes_on (OfEvent e s d) line to)
     by (inr (is, none)) = inl
         (goes_on (OfEvent e s d) (
@@ -430,15 +430,15 @@ run-to {a} {x = x} y stood stands same used (goes_on {now} {lines} (OfBytes byte
     by : now.config.nodes ≡ a.config.nodes
         → ((x ≡ now) → AreServed bytes (names_of a.config.nodes) a answers y
         ⊎ ((now ≡ a) × NoneServed bytes (names_of a.config.nodes) answers))
-        → AreRun now lines y ⊎ ((x ≡ now) × NoneRun now.config.nodes lines)
-        → AreRun a (OfBytes bytes answers d ∷ lines) y
+        → AreServedInTurn now lines y ⊎ ((x ≡ now) × NoneRun now.config.nodes lines)
+        → AreServedInTurn a (OfBytes bytes answers d ∷ lines) y
         ⊎ ((x ≡ a) × NoneRun a.config.nodes (OfBytes bytes answers d ∷ lines))
     by nodes last (inl to) = inl (goes_on (OfBytes bytes answers d) line to)
     by nodes last (inr (is, none)) = so (last is)
       where
         so : AreServed bytes (names_of a.config.nodes) a answers y
             ⊎ ((now ≡ a) × NoneServed bytes (names_of a.config.nodes) answers)
-            → AreRun a (OfBytes bytes answers d ∷ lines) y
+            → AreServedInTurn a (OfBytes bytes answers d ∷ lines) y
             ⊎ ((x ≡ a) × NoneRun a.config.nodes (OfBytes bytes answers d ∷ lines))
         so (inl to) = inl
             (goes_on (OfBytes bytes answers d)
@@ -454,9 +454,9 @@ run-to {a} {x = x} y stood stands same used (goes_on {now} {lines} (OfBytes byte
               (none z (hosted ∙ sym nodes)),
         )
 
-no-seats : (ss : List Seats) → [] ≡ map slot_of ss → ss ≡ []
-no-seats [] is = refl
-no-seats (s ∷ ss) is = cc
+no-counted : (ss : List CountedSlot) → [] ≡ map slot_of ss → ss ≡ []
+no-counted [] is = refl
+no-counted (s ∷ ss) is = cc
 
 -- a machine that stands for a network that has just begun has just begun
 begun-so : (c : Config) (left : Machine) → StandsAsWell (begun c) left → left ≡ begun c
@@ -473,7 +473,7 @@ begun-so c left stands =
     ∙ ap (λ x. machine_of_parts c.number c.nodes c.budgets x left.slots left.events left.bytes left.opens)
     (sym (ap (λ x. x.roster) is))
     ∙ ap (λ x. machine_of_parts c.number c.nodes c.budgets c.roster x left.events left.bytes left.opens)
-    (no-seats left.slots (ap (λ x. x.slots) is))
+    (no-counted left.slots (ap (λ x. x.slots) is))
     ∙ ap (λ x. machine_of_parts c.number c.nodes c.budgets c.roster [] x left.bytes left.opens)
     (sym (ap (λ x. x.events) is))
     ∙ ap (λ x. machine_of_parts c.number c.nodes c.budgets c.roster [] 0 x left.opens) (sym (ap (λ x. x.bytes) is))
@@ -486,27 +486,27 @@ stood-as-well x y (draws, tallied) stands =
     ((draws, here.tallied), sym (ap (λ n. n.nodes) here.is))
 
 -- lines from the beginning lead to each machine that stands for the same and more
-pub begun-to : (c : Config) (lines : List Line) (x y : Machine) → AreRun (begun c) lines x → StandsAsWell x y
-    → AreRun (begun c) lines y × IsStood y
+pub begun-to : (c : Config) (lines : List Line) (x y : Machine) → AreServedInTurn (begun c) lines x → StandsAsWell x y
+    → AreServedInTurn (begun c) lines y × IsStood y
 begun-to c lines x y run stands =
     let well = stood-as-well x y (run-stood (begun-stood c) run).0 stands in
     (by (run-to y (begun-stood c) stands well.1 (as-used x y (run-stood (begun-stood c) run).0 stands) run), well.0)
   where
-    by : AreRun (begun c) lines y ⊎ ((x ≡ begun c) × NoneRun c.nodes lines) → AreRun (begun c) lines y
+    by : AreServedInTurn (begun c) lines y ⊎ ((x ≡ begun c) × NoneRun c.nodes lines) → AreServedInTurn (begun c) lines y
     by (inl to) = to
     by (inr (is, none)) =
-        subst (AreRun (begun c) lines) (sym (begun-so c y (subst (λ z. StandsAsWell z y) is stands)))
+        subst (AreServedInTurn (begun c) lines) (sym (begun-so c y (subst (λ z. StandsAsWell z y) is stands)))
         (none (begun c) refl)
 
 -- ---- the other lines
-memory-too : (s t : Served) → HadMemory s → CameAs s t → HadMemory t
-memory-too s t memory (inl is) = subst HadMemory (sym is) memory
+memory-too : (s t : Served) → HadMemoryToServe s → CameAs s t → HadMemoryToServe t
+memory-too s t memory (inl is) = subst HadMemoryToServe (sym is) memory
 memory-too s t memory (inr (r, other, refused, never, is)) =
-    subst HadMemory (sym is)
+    subst HadMemoryToServe (sym is)
     (record { refused = λ none. let why : other ≡ NoMemory = cc in never why; told = memory.told })
 
-kept-so : (e : Step) (s : Served) (r other : Refusal) → IsKept e s → s.refused ≡ Some r
-    → IsKept e (record s { refused = Some other })
+kept-so : (e : Step) (s : Served) (r other : Refusal) → IsNoRefusedOpening e s → s.refused ≡ Some r
+    → IsNoRefusedOpening e (record s { refused = Some other })
 kept-so (Opens i) s r other kept is = cc
 kept-so (Closes i) s r other kept is = tt
 kept-so (Proposes i u x) s r other kept is = tt
@@ -516,26 +516,26 @@ kept-so (NominationTimerFires i u n) s r other kept is = tt
 kept-so (BallotTimerFires i u n) s r other kept is = tt
 kept-so (Reslices i u q) s r other kept is = tt
 
-kept-too : (e : Step) (s t : Served) → IsKept e s → CameAs s t → IsKept e t
-kept-too e s t kept (inl is) = subst (IsKept e) (sym is) kept
+kept-too : (e : Step) (s t : Served) → IsNoRefusedOpening e s → CameAs s t → IsNoRefusedOpening e t
+kept-too e s t kept (inl is) = subst (IsNoRefusedOpening e) (sym is) kept
 kept-too e s t kept (inr (r, other, refused, never, is)) =
-    subst (IsKept e) (sym is) (kept-so e s r other kept refused)
+    subst (IsNoRefusedOpening e) (sym is) (kept-so e s r other kept refused)
 
 all-memory : {answers others : List NodeAnswer} → CameAllAs answers others
-    → AllByRecursion (λ a. HadMemory a.served) answers → AllByRecursion (λ a. HadMemory a.served) others
+    → AllByRecursion (λ a. HadMemoryToServe a.served) answers → AllByRecursion (λ a. HadMemoryToServe a.served) others
 all-memory none_came memory = tt
 all-memory (next_came {a} {b} node came more) memory =
     (memory-too a.served b.served memory.0 came, all-memory more memory.1)
 
-pub line-kept : (l k : Line) → IsSameLine l k → IsLineKept l → IsLineKept k
+pub line-kept : (l k : Line) → IsSameLine l k → IsLineErasable l → IsLineErasable k
 line-kept (OfEvent e s d) (OfEvent f t c) same kept =
-    subst (λ x. IsKept x t × HadMemory t) (sym same.0) (kept-too e s t kept.0 same.1, memory-too s t kept.1 same.1)
+    subst (λ x. IsNoRefusedOpening x t × HadMemoryToServe t) (sym same.0) (kept-too e s t kept.0 same.1, memory-too s t kept.1 same.1)
 line-kept (OfEvent e s d) (OfBytes bytes answers c) same kept = absurd same
 line-kept (OfBytes bytes answers d) (OfEvent e s c) same kept = absurd same
 line-kept (OfBytes bytes answers d) (OfBytes twin others c) same kept = all-memory same.1 kept
 
 others-kept : (i : ℕ) {lines others : List Line} → AreOthers i lines others
-    → AllByRecursion (λ l. is_line_at i l ≡ false → IsLineKept l) lines → AllByRecursion IsLineKept others
+    → AllByRecursion (λ l. is_line_at i l ≡ false → IsLineErasable l) lines → AllByRecursion IsLineErasable others
 others-kept i no_others kept = tt
 others-kept i (one_there on more) kept = others-kept i more kept.1
 others-kept i (one_other {l} {k} off same more) kept = (line-kept l k same (kept.0 off), others-kept i more kept.1)
@@ -573,23 +573,23 @@ same-line-at k (OfBytes bytes answers d) (OfBytes twin others c) same =
 pub others_draw_as_much : OthersDrawAsMuch
 others_draw_as_much i k lines others off are = draws are
   where
-    draws : {ls ks : List Line} → AreOthers i ls ks → drawn_at k ks ≡ drawn_at k ls
+    draws : {ls ks : List Line} → AreOthers i ls ks → drawn_at_slot k ks ≡ drawn_at_slot k ls
     draws no_others = refl
     draws (one_there {l} {lines = ls} on more) =
         draws more
-        ∙ ap (λ b. if b then both (drawn_by l) (drawn_at k ls) else drawn_at k ls) (sym (line-at-one i k l off on))
+        ∙ ap (λ b. if b then both_amounts (drawn_by l) (drawn_at_slot k ls) else drawn_at_slot k ls) (sym (line-at-one i k l off on))
     draws (one_other {l} {k = n} {lines = ls} {others = ks} away same more) =
         let one = same-line-at k l n same in
-        ap (λ rest. if is_line_at k n then both (drawn_by n) rest else rest) (draws more)
-        ∙ ap (λ b. if b then both (drawn_by n) (drawn_at k ls) else drawn_at k ls) one.0
-        ∙ ap (λ d. if is_line_at k l then both d (drawn_at k ls) else drawn_at k ls) one.1
+        ap (λ rest. if is_line_at k n then both_amounts (drawn_by n) rest else rest) (draws more)
+        ∙ ap (λ b. if b then both_amounts (drawn_by n) (drawn_at_slot k ls) else drawn_at_slot k ls) one.0
+        ∙ ap (λ d. if is_line_at k l then both_amounts d (drawn_at_slot k ls) else drawn_at_slot k ls) one.1
 
 ended-so : (i : ℕ) (d : Drawn) (c less : Config) (lines : List Line) (m : Machine) → c ≡ moved_config d less
-    → AllByRecursion (λ l. is_line_at i l ≡ false → IsLineKept l) lines
-    → instances_at (map slot_of m.slots) i ≡ None → IsRunLeft i lines (begun less) (both none_drawn d) m
+    → AllByRecursion (λ l. is_line_at i l ≡ false → IsLineErasable l) lines
+    → instances_at (map slot_of m.slots) i ≡ None → IsRunLeft i lines (begun less) (both_amounts none_drawn d) m
     → (less : Config) × (others : List Line) × (left : Machine) × (c ≡ moved_config d less)
-    × AreOthers i lines others × AreRun (begun less) others left × IsStood left × (m ≡ moved d left)
-    × AllByRecursion IsLineKept others
+    × AreOthers i lines others × AreServedInTurn (begun less) others left × IsStood left × (m ≡ moved d left)
+    × AllByRecursion IsLineErasable others
 ended-so i d c less lines m is kept closed run =
     let to = begun-to less run.0 run.1 run.2 run.4 run.5 in (
       less,
@@ -605,7 +605,7 @@ ended-so i d c less lines m is kept closed run =
 
 pub closed_slots_are_erased : ClosedSlotsAreErased
 closed_slots_are_erased i c lines m run kept closed =
-    let d : Drawn = drawn_at i lines in
+    let d : Drawn = drawn_at_slot i lines in
     let stood = begun-stood c in
     let within = run-within stood run (begun-within c) in
     let room = room-for (begun c) m d (run-stood stood run).1 (covers i stood run) within in

@@ -12,14 +12,14 @@ use Rattle.protocol.specs.Networks.Reply.{Done, Refused}
 use Rattle.protocol.specs.Networks.Step.{BallotTimerFires, Closes, Delivers, Hears, NominationTimerFires, Opens, Proposes, Reslices}
 use Rattle.configuration.specs.Configs.{names_of}
 use Rattle.network.specs.Marks.{emitted_at, emitted_before, marks_in, numbers_by_kind, slot_and_node_of}
-use Rattle.network.specs.Standing.{AreBytesRead}
-use Rattle.live.specs.Serving.{AreHeard, Ending, Hearing, IsServed, IsTried, Telling, all_hearings, is_left, is_stale, named, slot_at, step_of_hearing, told_at, told_of, waits_after}
+use Rattle.network.specs.Standing.{IsDeliveryThatTakesMemory}
+use Rattle.live.specs.Serving.{AreHeard, Ending, Hearing, IsServed, IsTried, ToldReply, all_hearings, is_left, is_stale, named, slot_at, step_of_hearing, told_at, told_of, waits_after}
 use Rattle.live.specs.Serving.AreHeard.{all_heard, one_heard}
 use Rattle.live.specs.Serving.Ending.{IsDone, IsRefused}
 use Rattle.live.specs.Serving.IsServed.{done, refused}
 use Rattle.live.specs.Serving.IsTried.{stepped, wanting}
 use Rattle.feed.specs.declared.answering.Drawn.{Drawn}
-use Rattle.serving.specs.Erasing.{AreToldAs, ErasedNetsRefuseEventsAlike, ErasedNetsServeAlike, EventsThereAreErased, HasRoomFor, IsEnough, IsErased, is_step_at, opens_slot}
+use Rattle.serving.specs.Erasing.{AreToldAs, ErasedNetsRefuseEventsAlike, ErasedNetsServeAlike, EventsThereAreErased, HasRoomForMore, IsEnough, IsErased, is_step_at, opens_slot}
 use Rattle.serving.specs.Erasing.AreToldAs.{none_told, told_so, wanting_so}
 use Rattle.serving.proofs.ErasedNets.{effect-erased, erased_nets_refuse_alike, erased_nets_step_alike, node-there, passed-tests, step-passed, step-refused, refused-tests}
 use Rattle.serving.proofs.ErasedReasons.{hears-refused, is_full_for, reason_without, refused-as}
@@ -29,7 +29,7 @@ use Rattle.serving.proofs.ErasedThere.{Grows, HappensAt, erased-there, grows-not
 -- a step that is tried is the network's, or memory is wanting
 tried-cases : {old : Net} {e : Step} {r : Reply} {new : Net} → IsTried old e r new
     → ((r ≡ (net_step old e).1) × (new ≡ (net_step old e).0))
-    ⊎ ((r ≡ Refused NoMemory) × (new ≡ old) × ((first_that (tests old e) ≡ None) ⊎ AreBytesRead old.nodes e))
+    ⊎ ((r ≡ Refused NoMemory) × (new ≡ old) × ((first_that (tests old e) ≡ None) ⊎ IsDeliveryThatTakesMemory old.nodes e))
 tried-cases stepped = inl (refl, refl)
 tried-cases (wanting why) = inr (refl, refl, why)
 
@@ -37,14 +37,14 @@ tried-grows : {old : Net} {e : Step} {r : Reply} {new : Net} → IsTried old e r
 tried-grows {old} {e} stepped = step-grows old e
 tried-grows {old} (wanting why) = grows-not old
 
-heard-grows : {j : ℕ} {hs : List Hearing} {old : Net} {told : List Telling} {new : Net}
+heard-grows : {j : ℕ} {hs : List Hearing} {old : Net} {told : List ToldReply} {new : Net}
     → AreHeard j hs old told new → Grows old new
 heard-grows {old = net} all_heard = grows-not net
 heard-grows {old = net} {new = after} (one_heard {now} r tried others) =
     grows-on net now after (tried-grows tried) (heard-grows others)
 
 -- what nobody is to hear is told nobody
-pub heard-none : {j : ℕ} {hs : List Hearing} {old : Net} {told : List Telling} {new : Net} → AreHeard j hs old told new
+pub heard-none : {j : ℕ} {hs : List Hearing} {old : Net} {told : List ToldReply} {new : Net} → AreHeard j hs old told new
     → hs ≡ [] → (told ≡ []) × (new ≡ old)
 heard-none all_heard is = (refl, refl)
 heard-none (one_heard r tried others) is = cc
@@ -81,7 +81,7 @@ tried-there : (i : ℕ) {old : Net} {e : Step} {r : Reply} {new : Net} → is_st
 tried-there i {old} {e} on stepped = step-happens i old e on
 tried-there i {old} on (wanting why) = nothing-happens i old
 
-heard-there : (i : ℕ) {j : ℕ} {hs : List Hearing} {old : Net} {told : List Telling} {new : Net} → (i == j) ≡ true
+heard-there : (i : ℕ) {j : ℕ} {hs : List Hearing} {old : Net} {told : List ToldReply} {new : Net} → (i == j) ≡ true
     → AreHeard j hs old told new → HappensAt i old new
 heard-there i {old = net} on all_heard = nothing-happens i net
 heard-there i {old = net} {new = after} on (one_heard {now} r tried others) =
@@ -93,12 +93,12 @@ pub stepped-to : (old : Net) (e : Step) (os : List Out) (new : Net) → IsTried 
 stepped-to old e os new tried = by (tried-cases tried)
   where
     by : ((Done os ≡ (net_step old e).1) × (new ≡ (net_step old e).0))
-        ⊎ ((Done os ≡ Refused NoMemory) × (new ≡ old) × ((first_that (tests old e) ≡ None) ⊎ AreBytesRead old.nodes e))
+        ⊎ ((Done os ≡ Refused NoMemory) × (new ≡ old) × ((first_that (tests old e) ≡ None) ⊎ IsDeliveryThatTakesMemory old.nodes e))
         → ((net_step old e).1 ≡ Done os) × (new ≡ (net_step old e).0)
     by (inl (is, so)) = (sym is, so)
     by (inr (is, so, why)) = cc
 
-pub served-happens : (i : ℕ) {net : Net} {e : Step} {ending : Ending} {told : List Telling} {after : Net}
+pub served-happens : (i : ℕ) {net : Net} {e : Step} {ending : Ending} {told : List ToldReply} {after : Net}
     → is_step_at i e ≡ true → IsServed net e ending told after → HappensAt i net after
 served-happens i {net} on (refused r tried) = nothing-happens i net
 served-happens i {net} {e} {after = after} on (done {now} {told} os tried heard) =
@@ -157,12 +157,12 @@ module _ (i : ℕ) (rest lost : Drawn) (net left : Net) (h : IsErased i rest los
 abbrev IsReplyAs : Reply → Reply → Type 0
 IsReplyAs r s = (s ≡ r) ⊎ ((r ≡ Refused NoMemory) × ((x : Refusal) × (s ≡ Refused x)))
 
-told-as-it : (u : ℕ) (r : Reply) {ts ss : List Telling} → AreToldAs ts ss → AreToldAs (told_of u r ++ ts) (told_of u r ++ ss)
+told-as-it : (u : ℕ) (r : Reply) {ts ss : List ToldReply} → AreToldAs ts ss → AreToldAs (told_of u r ++ ts) (told_of u r ++ ss)
 told-as-it u (Done []) so = so
 told-as-it u (Done (o ∷ os)) so = told_so (record { node = u; reply = Done (o ∷ os) }) so
 told-as-it u (Refused r) so = told_so (record { node = u; reply = Refused r }) so
 
-told-as : (u : ℕ) (r s : Reply) {ts ss : List Telling} → IsReplyAs r s → AreToldAs ts ss
+told-as : (u : ℕ) (r s : Reply) {ts ss : List ToldReply} → IsReplyAs r s → AreToldAs ts ss
     → AreToldAs (told_of u r ++ ts) (told_of u s ++ ss)
 told-as u r s {ts} {ss} (inl is) so =
     subst (λ x. AreToldAs (told_of u r ++ ts) (told_of u x ++ ss)) (sym is) (told-as-it u r so)
@@ -179,7 +179,7 @@ record IsHeardToo (i : ℕ) (rest lost : Drawn) (j : ℕ) (a : Hearing) (now lef
   erased : IsErased i rest lost now next
 
 hear-too : (i : ℕ) (rest lost : Drawn) (j : ℕ) (a : Hearing) {old : Net} (left : Net) {now : Net} {r : Reply}
-    → (i == j) ≡ false → IsErased i rest lost old left → HasRoomFor rest now → IsTried old (step_of_hearing j a) r now
+    → (i == j) ≡ false → IsErased i rest lost old left → HasRoomForMore rest now → IsTried old (step_of_hearing j a) r now
     → IsHeardToo i rest lost j a now left r
 hear-too i rest lost j a {old} left off h room stepped = by (net_step old (step_of_hearing j a)).1 refl
   where
@@ -231,13 +231,13 @@ waits-too i rest lost old left e r s h off (inr (is, (x, so))) =
     ap (waits_after left e) so ∙ waits-same i rest lost old left h e (Refused x) off ∙ ap (waits_after old e) (sym is)
 
 -- all hearings of an event, where the slot is erased
-abbrev AreHeardToo : ℕ → Drawn → Drawn → ℕ → List Hearing → List Telling → Net → Net → Type 0
+abbrev AreHeardToo : ℕ → Drawn → Drawn → ℕ → List Hearing → List ToldReply → Net → Net → Type 0
 AreHeardToo i rest lost j hs told left after =
-    (told_too : List Telling) × (after_too : Net) × AreToldAs told told_too × AreHeard j hs left told_too after_too
+    (told_too : List ToldReply) × (after_too : Net) × AreToldAs told told_too × AreHeard j hs left told_too after_too
     × IsErased i rest lost after after_too
 
-heard-too : (i : ℕ) (rest lost : Drawn) {j : ℕ} {hs : List Hearing} {old : Net} {told : List Telling} {after : Net}
-    (left : Net) → (i == j) ≡ false → IsErased i rest lost old left → HasRoomFor rest after
+heard-too : (i : ℕ) (rest lost : Drawn) {j : ℕ} {hs : List Hearing} {old : Net} {told : List ToldReply} {after : Net}
+    (left : Net) → (i == j) ≡ false → IsErased i rest lost old left → HasRoomForMore rest after
     → AreHeard j hs old told after → AreHeardToo i rest lost j hs told left after
 heard-too i rest lost left off h room all_heard = ([], left, none_told, all_heard, h)
 heard-too i rest lost {j} {after = after} left off h room (one_heard {h = a} {hs} {old} {now} {told} r tried others) =
@@ -253,15 +253,15 @@ heard-too i rest lost {j} {after = after} left off h room (one_heard {h = a} {hs
       more.4,
     )
 
-told-at-as : (at : Option (ℕ × ℕ)) (os : List Out) {ts ss : List Telling} → AreToldAs ts ss
+told-at-as : (at : Option (ℕ × ℕ)) (os : List Out) {ts ss : List ToldReply} → AreToldAs ts ss
     → AreToldAs (told_at at os ++ ts) (told_at at os ++ ss)
 told-at-as None os so = so
 told-at-as (Some at) os so = told-as-it at.1 (Done os) so
 
 -- the hearings of an event that is done, where the slot is erased
-event-heard-too : (i : ℕ) (rest lost : Drawn) (net now left now_left : Net) (e : Step) (os : List Out) {told : List Telling}
+event-heard-too : (i : ℕ) (rest lost : Drawn) (net now left now_left : Net) (e : Step) (os : List Out) {told : List ToldReply}
     {after : Net} → IsErased i rest lost net left → IsErased i rest lost now now_left → is_step_at i e ≡ false
-    → HasRoomFor rest after → AreHeard (slot_at (slot_and_node_of e)) (waits_after net e (Done os)) now told after
+    → HasRoomForMore rest after → AreHeard (slot_at (slot_and_node_of e)) (waits_after net e (Done os)) now told after
     → (waits_after net e (Done os) ≡ []) ⊎ ((i == slot_at (slot_and_node_of e)) ≡ false)
     → AreHeardToo i rest lost (slot_at (slot_and_node_of e)) (waits_after left e (Done os)) told now_left after
 event-heard-too i rest lost net now left now_left e os {told} {after} h here off room heard (inl none) =
@@ -277,28 +277,28 @@ event-heard-too i rest lost net now left now_left e os {told} {after} h here off
     subst (λ ws. AreHeardToo i rest lost (slot_at (slot_and_node_of e)) ws told now_left after)
     (sym (waits-same i rest lost net left h e (Done os) off)) (heard-too i rest lost now_left at here room heard)
 
-abbrev AreServedToo : ℕ → Drawn → Drawn → Step → Bool → List Telling → Net → Net → Type 0
+abbrev AreServedToo : ℕ → Drawn → Drawn → Step → Bool → List ToldReply → Net → Net → Type 0
 AreServedToo i rest lost e stale told left after =
-    (told_too : List Telling) × (after_too : Net) × AreToldAs told told_too × IsServed left e (IsDone stale) told_too after_too
+    (told_too : List ToldReply) × (after_too : Net) × AreToldAs told told_too × IsServed left e (IsDone stale) told_too after_too
     × IsErased i rest lost after after_too
 
 -- what a served event is, if it is done
-record IsDoneSo (net : Net) (e : Step) (stale : Bool) (told : List Telling) (after : Net) : Type 0 where
+record IsDoneSo (net : Net) (e : Step) (stale : Bool) (told : List ToldReply) (after : Net) : Type 0 where
   outs : List Out
   now : Net
-  more : List Telling
+  more : List ToldReply
   tried : IsTried net e (Done outs) now
   heard : AreHeard (slot_at (slot_and_node_of e)) (waits_after net e (Done outs)) now more after
   told_is : told ≡ told_at (slot_and_node_of e) outs ++ more
   stale_is : stale ≡ is_stale net e
 
-done-so : {net : Net} {e : Step} {ending : Ending} {told : List Telling} {after : Net} → IsServed net e ending told after
+done-so : {net : Net} {e : Step} {ending : Ending} {told : List ToldReply} {after : Net} → IsServed net e ending told after
     → (stale : Bool) → ending ≡ IsDone stale → IsDoneSo net e stale told after
 done-so (refused r tried) stale is = cc
 done-so (done {now} {told} os tried heard) stale is =
     record { outs = os; now = now; more = told; tried = tried; heard = heard; told_is = refl; stale_is = cc }
 
-done-too : (i : ℕ) (rest lost : Drawn) (net left : Net) (e : Step) (stale : Bool) (told : List Telling) (after : Net)
+done-too : (i : ℕ) (rest lost : Drawn) (net left : Net) (e : Step) (stale : Bool) (told : List ToldReply) (after : Net)
     (d : IsDoneSo net e stale told after) → (net_step left e).1 ≡ Done d.outs → is_stale left e ≡ stale
     → AreHeardToo i rest lost (slot_at (slot_and_node_of e)) (waits_after left e (Done d.outs)) d.more (net_step left e).0
     after
@@ -319,19 +319,19 @@ erased_nets_serve_alike i rest lost net left e stale told after h off served roo
     let first = stepped-to net e d.outs d.now d.tried in
     let room_then = room-before rest d.now after (heard-grows d.heard) room in
     let step = erased_nets_step_alike i rest lost net left e d.outs h off first.0
-    (subst (HasRoomFor rest) first.1 room_then) in
+    (subst (HasRoomForMore rest) first.1 room_then) in
     let here = subst (λ n. IsErased i rest lost n (net_step left e).0) (sym first.1) step.1 in
     done-too i rest lost net left e stale told after d step.0 (stale-same i rest lost net left h e off ∙ sym d.stale_is)
     (event-heard-too i rest lost net d.now left (net_step left e).0 e d.outs h here off room d.heard
     (heard-where i net e d.outs false first.0 off))
 
 -- what a served event is, if it is refused
-record IsRefusedSo (net : Net) (e : Step) (r : Refusal) (told : List Telling) (after : Net) : Type 0 where
+record IsRefusedSo (net : Net) (e : Step) (r : Refusal) (told : List ToldReply) (after : Net) : Type 0 where
   after_is : after ≡ net
   told_is : told ≡ []
   tried : IsTried net e (Refused r) net
 
-refused-so : {net : Net} {e : Step} {ending : Ending} {told : List Telling} {after : Net} → IsServed net e ending told after
+refused-so : {net : Net} {e : Step} {ending : Ending} {told : List ToldReply} {after : Net} → IsServed net e ending told after
     → (r : Refusal) → ending ≡ IsRefused r → IsRefusedSo net e r told after
 refused-so {net} {e} (refused x tried) r is =
     let why : x ≡ r = cc in
@@ -352,18 +352,18 @@ erased_nets_refuse_events_alike i rest lost net left e r told after h off kept s
     wants (Some x) is = (x, refuses x (step-refused left e x is))
 
     by : ((Refused r ≡ (net_step net e).1) × (net ≡ (net_step net e).0))
-        ⊎ ((Refused r ≡ Refused NoMemory) × (net ≡ net) × ((first_that (tests net e) ≡ None) ⊎ AreBytesRead net.nodes e))
+        ⊎ ((Refused r ≡ Refused NoMemory) × (net ≡ net) × ((first_that (tests net e) ≡ None) ⊎ IsDeliveryThatTakesMemory net.nodes e))
         → (other : Refusal) × IsServed left e (IsRefused other) [] left
     by (inl (is, so)) =
         let too = erased_nets_refuse_alike i rest lost net left e r h off kept (sym is) in
         (too.1.0, refuses too.1.0 too.1.1)
     by (inr (is, so, inl none)) = wants (first_that (tests left e)) refl
     by (inr (is, so, inr read)) =
-        (NoMemory, refused NoMemory (wanting (inr (subst (λ hs. AreBytesRead hs e) (sym h.nodes) read))))
+        (NoMemory, refused NoMemory (wanting (inr (subst (λ hs. IsDeliveryThatTakesMemory hs e) (sym h.nodes) read))))
 
 -- where memory sufficed, one that is refused is refused for this reason
 pub refused-by : (i : ℕ) (rest lost : Drawn) (net left : Net) (h : IsErased i rest lost net left) (e : Step) (r : Refusal)
-    (told : List Telling) (after : Net) → is_step_at i e ≡ false → opens_slot e ≡ false
+    (told : List ToldReply) (after : Net) → is_step_at i e ≡ false → opens_slot e ≡ false
     → IsServed net e (IsRefused r) told after → (r ≡ NoMemory → ⊥)
     → (after ≡ net) × (told ≡ [])
     × IsServed left e (IsRefused (reason_without (is_full_for (source left.roster e) e left.events left.budgets.events) r)) []
@@ -373,7 +373,7 @@ refused-by i rest lost net left h e r told after off kept served enough =
     (so.after_is, so.told_is, by (tried-cases so.tried))
   where
     by : ((Refused r ≡ (net_step net e).1) × (net ≡ (net_step net e).0))
-        ⊎ ((Refused r ≡ Refused NoMemory) × (net ≡ net) × ((first_that (tests net e) ≡ None) ⊎ AreBytesRead net.nodes e))
+        ⊎ ((Refused r ≡ Refused NoMemory) × (net ≡ net) × ((first_that (tests net e) ≡ None) ⊎ IsDeliveryThatTakesMemory net.nodes e))
         → IsServed left e
         (IsRefused (reason_without (is_full_for (source left.roster e) e left.events left.budgets.events) r)) [] left
     by (inl (is, so)) =
@@ -383,13 +383,13 @@ refused-by i rest lost net left h e r told after off kept served enough =
     by (inr (is, so, why)) = let none : r ≡ NoMemory = cc in absurd (enough none)
 
 -- where memory sufficed, the same is told
-pub told-same : {ts ss : List Telling} → AreToldAs ts ss → AllByRecursion IsEnough ts → ss ≡ ts
+pub told-same : {ts ss : List ToldReply} → AreToldAs ts ss → AllByRecursion IsEnough ts → ss ≡ ts
 told-same none_told enough = refl
 told-same (told_so t others) enough = ap (λ rest. t ∷ rest) (told-same others enough.1)
 told-same (wanting_so u r others) enough = absurd (enough.0 refl)
 
 -- no count falls
-pub served-grows : {net : Net} {e : Step} {ending : Ending} {told : List Telling} {after : Net}
+pub served-grows : {net : Net} {e : Step} {ending : Ending} {told : List ToldReply} {after : Net}
     → IsServed net e ending told after → Grows net after
 served-grows {net} (refused r tried) = grows-not net
 served-grows {net} {after = after} (done {now} os tried heard) =

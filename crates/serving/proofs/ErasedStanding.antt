@@ -7,20 +7,20 @@ use Rattle.protocol.specs.Hosts.{Config}
 use Rattle.protocol.specs.Networks.{Budgets, HostedNode, Net, Slot}
 use Rattle.protocol.specs.Rosters.{Draw, Roster, Share, drawn_on, same_share}
 use Rattle.protocol.specs.Rosters.Share.{Own, Pair}
-use Rattle.network.specs.Lodgings.{AreTallied, IsTallied, Seat, Seats, slot_of}
+use Rattle.network.specs.FiledSlots.{AreTallied, CountedInstance, CountedSlot, IsTallied, slot_of}
 use Rattle.network.specs.Standing.{IsStood, Machine, StandsFor, net_of}
 use Rattle.feed.specs.declared.answering.Drawn.{Drawn}
 use Rattle.serving.specs.Futures.{moved_budgets, moved_roster}
-use Rattle.serving.specs.Erasing.{HasRoomBy, HasRoomFor, IsErased, IsErasedBy, both, draws_but, seats_but, slots_but}
+use Rattle.serving.specs.Erasing.{HasRoomBy, HasRoomForMore, IsErased, IsErasedBy, both_amounts, counted_slots_but, draws_but, slots_but}
 use Rattle.serving.proofs.ErasedParts.{drawn-elsewhere, filters-once, filters-swap, other-way}
 
 -- ---- slots
-seats-of-slots : (i : ℕ) (ss : List Seats) → map slot_of (seats_but i ss) ≡ slots_but i (map slot_of ss)
-seats-of-slots i [] = refl
-seats-of-slots i (s ∷ ss) = by (s.number == i) (seats-of-slots i ss)
+counted-of-slots : (i : ℕ) (ss : List CountedSlot) → map slot_of (counted_slots_but i ss) ≡ slots_but i (map slot_of ss)
+counted-of-slots i [] = refl
+counted-of-slots i (s ∷ ss) = by (s.number == i) (counted-of-slots i ss)
   where
-    by : (b : Bool) → map slot_of (seats_but i ss) ≡ slots_but i (map slot_of ss)
-        → map slot_of (cond (not b) (s ∷ seats_but i ss) (seats_but i ss))
+    by : (b : Bool) → map slot_of (counted_slots_but i ss) ≡ slots_but i (map slot_of ss)
+        → map slot_of (cond (not b) (s ∷ counted_slots_but i ss) (counted_slots_but i ss))
         ≡ cond (not b) (slot_of s ∷ slots_but i (map slot_of ss)) (slots_but i (map slot_of ss))
     by true is = is
     by false is = ap (λ rest. slot_of s ∷ rest) is
@@ -77,7 +77,7 @@ drawn-merged i k s ds es on =
     (sym (drawn-there i s (merged i ds es)) ∙ ap (drawn_on i s) (merged-there i ds es) ∙ drawn-there i s ds)
 
 -- ---- counts of nodes
-tallied-same : (k : ℕ) (ds es : List Draw) (x : Seat) → ((s : Share) → drawn_on k s ds ≡ drawn_on k s es)
+tallied-same : (k : ℕ) (ds es : List Draw) (x : CountedInstance) → ((s : Share) → drawn_on k s ds ≡ drawn_on k s es)
     → IsTallied k ds x → IsTallied k es x
 tallied-same k ds es x same tallied = record {
   own = tallied.own ∙ ap length (same (Own x.instance.node.name));
@@ -85,37 +85,37 @@ tallied-same k ds es x same tallied = record {
   bytes = λ u. tallied.bytes u ∙ ap (sum_by (λ d. d.size)) (same (Pair x.instance.node.name u));
 }
 
-abbrev IsSlotTallied : List Draw → Seats → Type 0
-IsSlotTallied ds s = All (IsTallied s.number ds) s.seats
+abbrev IsSlotTallied : List Draw → CountedSlot → Type 0
+IsSlotTallied ds s = All (IsTallied s.number ds) s.instances
 
-slot-tallied : (ds es : List Draw) (s : Seats) → ((t : Share) → drawn_on s.number t ds ≡ drawn_on s.number t es)
+slot-tallied : (ds es : List Draw) (s : CountedSlot) → ((t : Share) → drawn_on s.number t ds ≡ drawn_on s.number t es)
     → IsSlotTallied ds s → IsSlotTallied es s
 slot-tallied ds es s same tallied =
-    All-weaker (IsTallied s.number ds) (IsTallied s.number es) (λ x. tallied-same s.number ds es x same) s.seats tallied
+    All-weaker (IsTallied s.number ds) (IsTallied s.number es) (λ x. tallied-same s.number ds es x same) s.instances tallied
 
-left-tallied : (i : ℕ) (ds es : List Draw) (ss : List Seats) → draws_but i ds ≡ draws_but i es → AreTallied ds ss
-    → AreTallied es (seats_but i ss)
+left-tallied : (i : ℕ) (ds es : List Draw) (ss : List CountedSlot) → draws_but i ds ≡ draws_but i es → AreTallied ds ss
+    → AreTallied es (counted_slots_but i ss)
 left-tallied i ds es [] same tallied = All-nil (IsSlotTallied es)
 left-tallied i ds es (s ∷ ss) same tallied =
     by (s.number == i) refl (All-head (IsSlotTallied ds) s ss tallied)
     (left-tallied i ds es ss same (All-tail (IsSlotTallied ds) s ss tallied))
   where
-    by : (b : Bool) → (s.number == i) ≡ b → IsSlotTallied ds s → AreTallied es (seats_but i ss)
-        → AreTallied es (cond (not b) (s ∷ seats_but i ss) (seats_but i ss))
+    by : (b : Bool) → (s.number == i) ≡ b → IsSlotTallied ds s → AreTallied es (counted_slots_but i ss)
+        → AreTallied es (cond (not b) (s ∷ counted_slots_but i ss) (counted_slots_but i ss))
     by true there one rest = rest
     by false there one rest =
-        All-cons (IsSlotTallied es) s (seats_but i ss)
+        All-cons (IsSlotTallied es) s (counted_slots_but i ss)
         (slot-tallied ds es s (λ t. drawn-by-others i s.number t ds es (other-way s.number i there) same) one) rest
 
-merged-tallied : (i : ℕ) (ds es : List Draw) (ss : List Seats) → AreTallied ds ss → AreTallied es (seats_but i ss)
+merged-tallied : (i : ℕ) (ds es : List Draw) (ss : List CountedSlot) → AreTallied ds ss → AreTallied es (counted_slots_but i ss)
     → AreTallied (merged i ds es) ss
 merged-tallied i ds es [] all left = All-nil (IsSlotTallied (merged i ds es))
 merged-tallied i ds es (s ∷ ss) all left =
     by (s.number == i) refl left (All-head (IsSlotTallied ds) s ss all)
     (merged-tallied i ds es ss (All-tail (IsSlotTallied ds) s ss all))
   where
-    by : (b : Bool) → (s.number == i) ≡ b → AreTallied es (cond (not b) (s ∷ seats_but i ss) (seats_but i ss))
-        → IsSlotTallied ds s → (AreTallied es (seats_but i ss) → AreTallied (merged i ds es) ss)
+    by : (b : Bool) → (s.number == i) ≡ b → AreTallied es (cond (not b) (s ∷ counted_slots_but i ss) (counted_slots_but i ss))
+        → IsSlotTallied ds s → (AreTallied es (counted_slots_but i ss) → AreTallied (merged i ds es) ss)
         → AreTallied (merged i ds es) (s ∷ ss)
     by true there rest one others =
         All-cons (IsSlotTallied (merged i ds es)) s ss
@@ -126,8 +126,8 @@ merged-tallied i ds es (s ∷ ss) all left =
         (slot-tallied es (merged i ds es) s
         (λ t. drawn-by-others i s.number t es (merged i ds es) (other-way s.number i there)
         (sym (merged-elsewhere i ds es)))
-        (All-head (IsSlotTallied es) s (seats_but i ss) rest))
-        (others (All-tail (IsSlotTallied es) s (seats_but i ss) rest))
+        (All-head (IsSlotTallied es) s (counted_slots_but i ss) rest))
+        (others (All-tail (IsSlotTallied es) s (counted_slots_but i ss) rest))
 
 -- ---- networks
 -- a network of which what is left is one for which the machine stands that is left
@@ -147,10 +147,10 @@ whole i rest lost m left (draws, tallied) h n stands = (
     erased = record {
       number = ap (λ x. x.number) stands.is ∙ h.number;
       nodes = ap (λ x. x.nodes) stands.is ∙ h.nodes;
-      slots = ap (λ x. x.slots) stands.is ∙ ap (map slot_of) h.slots ∙ seats-of-slots i m.slots;
+      slots = ap (λ x. x.slots) stands.is ∙ ap (map slot_of) h.slots ∙ counted-of-slots i m.slots;
       draws = sym (merged-elsewhere i draws n.draws);
-      budgets = h.budgets ∙ ap (λ x. moved_budgets (both lost rest) x.budgets) (sym stands.is);
-      roster = h.roster ∙ ap (λ x. option_map (moved_roster (both lost rest)) x.roster) (sym stands.is);
+      budgets = h.budgets ∙ ap (λ x. moved_budgets (both_amounts lost rest) x.budgets) (sym stands.is);
+      roster = h.roster ∙ ap (λ x. option_map (moved_roster (both_amounts lost rest)) x.roster) (sym stands.is);
       events = h.events ∙ ap (λ x. x.events + lost.events) (sym stands.is);
       bytes = h.bytes ∙ ap (λ x. x.bytes + lost.bytes) (sym stands.is);
       opens = h.opens ∙ ap (λ x. x.opens + lost.opens) (sym stands.is);
@@ -162,7 +162,7 @@ whole i rest lost m left (draws, tallied) h n stands = (
 abbrev pub left_of : Config → ℕ → Drawn → Machine → Machine
 left_of c i lost m = record {
   config = c;
-  slots = seats_but i m.slots;
+  slots = counted_slots_but i m.slots;
   events = m.events - lost.events;
   bytes = m.bytes - lost.bytes;
   opens = m.opens - lost.opens;
@@ -208,9 +208,9 @@ less-of a b c n is so = omega arith
 pub stands-left : (c : Config) (i : ℕ) (rest lost : Drawn) (m : Machine) (net n : Net) → StandsFor m net
     → IsErased i rest lost net n → IsOf c n → StandsFor (left_of c i lost m) n
 stands-left c i rest lost m net n stands h of = record {
-  is = same-net n c (map slot_of (seats_but i m.slots)) (m.events - lost.events) (m.bytes - lost.bytes)
+  is = same-net n c (map slot_of (counted_slots_but i m.slots)) (m.events - lost.events) (m.bytes - lost.bytes)
       (m.opens - lost.opens) of
-      (h.slots ∙ ap (λ x. slots_but i x.slots) stands.is ∙ sym (seats-of-slots i m.slots))
+      (h.slots ∙ ap (λ x. slots_but i x.slots) stands.is ∙ sym (counted-of-slots i m.slots))
       (less-of n.events lost.events m.events net.events (ap (λ x. x.events) stands.is) h.events)
       (less-of n.bytes lost.bytes m.bytes net.bytes (ap (λ x. x.bytes) stands.is) h.bytes)
       (less-of n.opens lost.opens m.opens net.opens (ap (λ x. x.opens) stands.is) h.opens);
@@ -227,8 +227,8 @@ erased-left c i rest lost m net n stands h of = record {
   number = sym of.number ∙ h.number ∙ ap (λ x. x.number) stands.is;
   nodes = sym of.nodes ∙ h.nodes ∙ ap (λ x. x.nodes) stands.is;
   slots = refl;
-  budgets = sym (ap (λ x. x.budgets) stands.is) ∙ h.budgets ∙ ap (moved_budgets (both lost rest)) of.budgets;
-  roster = sym (ap (λ x. x.roster) stands.is) ∙ h.roster ∙ ap (option_map (moved_roster (both lost rest))) of.roster;
+  budgets = sym (ap (λ x. x.budgets) stands.is) ∙ h.budgets ∙ ap (moved_budgets (both_amounts lost rest)) of.budgets;
+  roster = sym (ap (λ x. x.roster) stands.is) ∙ h.roster ∙ ap (option_map (moved_roster (both_amounts lost rest))) of.roster;
   events = more-of n.events lost.events m.events net.events (ap (λ x. x.events) stands.is) h.events;
   bytes = more-of n.bytes lost.bytes m.bytes net.bytes (ap (λ x. x.bytes) stands.is) h.bytes;
   opens = more-of n.opens lost.opens m.opens net.opens (ap (λ x. x.opens) stands.is) h.opens;
@@ -253,7 +253,7 @@ is-of m net stands = record {
   roster = ap (λ x. x.roster) stands.is;
 }
 
-pub room-of : (rest : Drawn) (m : Machine) (net : Net) → StandsFor m net → HasRoomBy rest m → HasRoomFor rest net
+pub room-of : (rest : Drawn) (m : Machine) (net : Net) → StandsFor m net → HasRoomBy rest m → HasRoomForMore rest net
 room-of rest m net stands room =
-    subst (HasRoomFor rest) (sym stands.is)
+    subst (HasRoomForMore rest) (sym stands.is)
     (record { events = room.events; bytes = room.bytes; opens = room.opens })

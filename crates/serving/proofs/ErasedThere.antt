@@ -16,7 +16,7 @@ use Rattle.protocol.proofs.Networks.Drawn.{counted-next}
 use Rattle.protocol.proofs.Networks.Effects.{at_slot, effect-keeps, next}
 use Rattle.feed.specs.declared.answering.Drawn.{Drawn}
 use Rattle.serving.specs.Futures.{moved_budgets, moved_roster}
-use Rattle.serving.specs.Erasing.{HasOpensFor, HasRoomFor, IsErased, StepsThereAreErased, both, drawn_in, draws_but, is_step_at, slots_but}
+use Rattle.serving.specs.Erasing.{HasOpensFor, HasRoomForMore, IsErased, StepsThereAreErased, both_amounts, drawn_in, draws_but, is_step_at, slots_but}
 use Rattle.serving.proofs.ErasedParts.{draws-there, filters-once, slots-act-there, slots-push-there}
 
 -- ---- counts grow
@@ -82,7 +82,7 @@ less-opens n m None less room = tt
 less-opens n m (Some r) less room = let most : m ≤ r.shares.opens = room in omega arith
 
 -- what has room afterwards has it before
-pub room-before : (rest : Drawn) (net after : Net) → Grows net after → HasRoomFor rest after → HasRoomFor rest net
+pub room-before : (rest : Drawn) (net after : Net) → Grows net after → HasRoomForMore rest after → HasRoomForMore rest net
 room-before rest net after grows room = record {
   events = let most = subst (λ b. after.events + rest.events ≤ b.events) grows.budgets room.events in
       omega (arith, grows.events);
@@ -199,7 +199,7 @@ drawn_as events bytes opens = record { events = events; bytes = bytes; opens = o
 turned : (a b c : ℕ) → a + (b + c) ≡ (a + b) + c
 turned a b c = omega arith
 
-pub both-turn : (a b c : Drawn) → both a (both b c) ≡ both (both a b) c
+pub both-turn : (a b c : Drawn) → both_amounts a (both_amounts b c) ≡ both_amounts (both_amounts a b) c
 both-turn a b c =
     ap (λ n. drawn_as n (a.bytes + (b.bytes + c.bytes)) (a.opens + (b.opens + c.opens))) (turned a.events b.events c.events)
     ∙ ap (λ n. drawn_as ((a.events + b.events) + c.events) n (a.opens + (b.opens + c.opens)))
@@ -211,7 +211,7 @@ lost-more left net after lost is less = omega arith
 
 -- what happens at the slot changes nothing of what is left
 pub erased-there : (i : ℕ) (rest lost : Drawn) (net after left : Net) → HappensAt i net after
-    → IsErased i (both (drawn_in net after) rest) lost net left → IsErased i rest (both lost (drawn_in net after)) after left
+    → IsErased i (both_amounts (drawn_in net after) rest) lost net left → IsErased i rest (both_amounts lost (drawn_in net after)) after left
 erased-there i rest lost net after left happens h = record {
   number = h.number ∙ sym happens.grows.number;
   nodes = h.nodes ∙ sym happens.grows.nodes;

@@ -15,7 +15,7 @@ use Rattle.protocol.proofs.Networks.Refusals.{applied_where_room}
 use Rattle.protocol.proofs.Networks.Room.{room-bytes, room-events}
 use Rattle.network.specs.Decoding.{step_of}
 use Rattle.network.specs.Standing.{IsStood, Machine, StandsFor, net_of}
-use Rattle.live.specs.Serving.{AreHeard, Ending, Hearing, IsServed, IsTried, Telling}
+use Rattle.live.specs.Serving.{AreHeard, Ending, Hearing, IsServed, IsTried, ToldReply}
 use Rattle.live.specs.Serving.AreHeard.{all_heard, one_heard}
 use Rattle.live.specs.Serving.IsServed.{done, refused}
 use Rattle.live.specs.Serving.IsTried.{stepped, wanting}
@@ -25,7 +25,7 @@ use Rattle.scripts.specs.Script.{Bytes}
 use Rattle.serving.specs.Hosts.{AreServed}
 use Rattle.serving.specs.Hosts.AreServed.{next_node, none_left}
 use Rattle.serving.specs.declared.all.NodeAnswer.{NodeAnswer}
-use Rattle.serving.specs.Erasing.{HasOpensFor, HasRoomBy, HasRoomFor, none_drawn}
+use Rattle.serving.specs.Erasing.{HasOpensFor, HasRoomBy, HasRoomForMore, none_drawn}
 use Rattle.serving.proofs.ErasedMachines.{served-stood}
 use Rattle.serving.proofs.ErasedStanding.{room-of}
 use Rattle.serving.proofs.ErasedThere.{less-opens}
@@ -82,8 +82,8 @@ opens-within net (Some r) (OfOpens shares) of room less =
     most
 opens-within net r (OfShare shares i s) of room less = less-opens ((net.opens + 0) + 0) (net.opens + 0) r (omega arith) less
 
-next-within : (net : Net) (e : Step) → first_that (tests net e) ≡ None → HasRoomFor none_drawn net
-    → HasRoomFor none_drawn (next net e)
+next-within : (net : Net) (e : Step) → first_that (tests net e) ≡ None → HasRoomForMore none_drawn net
+    → HasRoomForMore none_drawn (next net e)
 next-within net e passes room =
     let count = counted-next net e in
     let kept = effect-keeps net e in
@@ -101,29 +101,29 @@ next-within net e passes room =
           (opens-within net net.roster s (shares-of net.roster e) event room.opens));
     }
 
-step-within : (net : Net) (e : Step) → HasRoomFor none_drawn net → HasRoomFor none_drawn (net_step net e).0
-step-within net e room = net_step-keeps (HasRoomFor none_drawn) next-within net e room
+step-within : (net : Net) (e : Step) → HasRoomForMore none_drawn net → HasRoomForMore none_drawn (net_step net e).0
+step-within net e room = net_step-keeps (HasRoomForMore none_drawn) next-within net e room
 
 -- ---- events
-tried-within : {old : Net} {e : Step} {r : Reply} {new : Net} → HasRoomFor none_drawn old → IsTried old e r new
-    → HasRoomFor none_drawn new
+tried-within : {old : Net} {e : Step} {r : Reply} {new : Net} → HasRoomForMore none_drawn old → IsTried old e r new
+    → HasRoomForMore none_drawn new
 tried-within {old} {e} room stepped = step-within old e room
 tried-within room (wanting why) = room
 
-heard-within : {j : ℕ} {hs : List Hearing} {old : Net} {told : List Telling} {new : Net} → HasRoomFor none_drawn old
-    → AreHeard j hs old told new → HasRoomFor none_drawn new
+heard-within : {j : ℕ} {hs : List Hearing} {old : Net} {told : List ToldReply} {new : Net} → HasRoomForMore none_drawn old
+    → AreHeard j hs old told new → HasRoomForMore none_drawn new
 heard-within room all_heard = room
 heard-within room (one_heard r tried others) = heard-within (tried-within room tried) others
 
-net-within : {net : Net} {e : Step} {ending : Ending} {told : List Telling} {after : Net} → HasRoomFor none_drawn net
-    → IsServed net e ending told after → HasRoomFor none_drawn after
+net-within : {net : Net} {e : Step} {ending : Ending} {told : List ToldReply} {after : Net} → HasRoomForMore none_drawn net
+    → IsServed net e ending told after → HasRoomForMore none_drawn after
 net-within room (refused r tried) = room
 net-within room (done os tried heard) = heard-within (tried-within room tried) heard
 
 -- a machine has room where a network has it for which it stands
-room-by : (m : Machine) (net : Net) → StandsFor m net → HasRoomFor none_drawn net → HasRoomBy none_drawn m
+room-by : (m : Machine) (net : Net) → StandsFor m net → HasRoomForMore none_drawn net → HasRoomBy none_drawn m
 room-by m net stands room =
-    let here = subst (HasRoomFor none_drawn) stands.is room in
+    let here = subst (HasRoomForMore none_drawn) stands.is room in
     record { events = here.events; bytes = here.bytes; opens = here.opens }
 
 pub served-within : (m : Machine) (e : Step) (after : Machine) (s : Served) → IsStood m → IsServedBy m e after s

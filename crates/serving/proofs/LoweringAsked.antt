@@ -9,7 +9,7 @@ use Rattle.protocol.specs.Rosters.{Shares}
 use Rattle.scripts.specs.Script.{Bytes}
 use Rattle.scripts.specs.Names.{word_name}
 use Rattle.scripts.specs.Words.{word_counter}
-use Rattle.requests.specs.Asking.{IsAsked, IsAskedAs, IsForAll, IsOfScript, IsServedNet, asked_by, dropped_in, for_all_by, left_in, shown_in}
+use Rattle.requests.specs.Asking.{IsAskedAs, IsAskedOf, IsForAll, IsOfScript, IsServedNet, asked_by, dropped_in, for_all_by, left_in, shown_in}
 use Rattle.requests.specs.Forms.{form_by_star, form_by_word, form_in, is_for_all, is_word}
 use Rattle.requests.specs.Lines.{meaning_in, slot_in, verb_in, verbs}
 use Rattle.requests.specs.Requests.{AreAllowed, IsNode, IsRequest, IsRequestOf, IsRequested, IsReserved, budgets_in, shares_in}
@@ -176,7 +176,7 @@ module _ (g : ℕ) (x : Declaration) where
           inl (before, is, e ∙ ap (λ w. before ++ w ∷ []) (same-word last (codes "served") same), script-asks before h)
       step false same h = cc
 
-  pub asks-script : (fields : List Bytes) → IsAsked fields asked → IsScriptOf fields
+  pub asks-script : (fields : List Bytes) → IsAskedOf fields asked → IsScriptOf fields
   asks-script fields h = step (form_in fields) refl h
     where
       step : (f : Form) → form_in fields ≡ f → IsAskedAs f fields asked → IsScriptOf fields

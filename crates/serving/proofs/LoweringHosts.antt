@@ -5,9 +5,9 @@ use Rattle.std.specs.BTreeMap.{insert_entry, is_at}
 use Rattle.std.specs.Map.{set_value}
 use Rattle.std.proofs.Common.{◌∙◌, refl, sym, ap, subst, cond}
 use Rattle.scripts.specs.Script.{Bytes}
-use Rattle.feed.specs.Served.{Reply}
+use Rattle.feed.specs.Served.{LineReply}
 use Rattle.feed.specs.WholeLines.{given}
-use Rattle.requests.specs.Outlines.{IsRevised, Outlined, Waiting, fresh, waiting_without, with_node, with_roster}
+use Rattle.requests.specs.Outlines.{IsRevised, Outlined, Waiting, bare_outline, waiting_without, with_node, with_roster}
 use Rattle.requests.specs.Preparing.{Prepares}
 use Rattle.requests.specs.declared.request.Declaration.{Declaration}
 use Rattle.requests.specs.declared.request.Declaration.TheVariants as declaration
@@ -38,12 +38,12 @@ prepared-only : (g : ℕ) (x : Declaration) (o : Option Outlined) (new : Waiting
     → (after : Outlined) × (new ≡ only g (Some after))
 prepared-only g (declaration.Net b) o new (waits, is) =
     let none : o ≡ None = sym (found-only g o) ∙ waits in
-    (fresh b, is ∙ ap (λ x. insert_entry nat_cmp (only g x) g (fresh b)) none)
+    (bare_outline b, is ∙ ap (λ x. insert_entry nat_cmp (only g x) g (bare_outline b)) none)
 prepared-only g (declaration.Node u q) o new revised = revised-only g (λ d. with_node d u q) o new revised
 prepared-only g (declaration.Roster r) o new revised =
     revised-only g (λ d. with_roster d r.names.items r.shares) o new revised
 
-line-only : (longest g n : ℕ) (b : Bool) (o : Option Outlined) (old new : Live) (line : Bytes) (a : Reply) → HasOnly g b o old
+line-only : (longest g n : ℕ) (b : Bool) (o : Option Outlined) (old new : Live) (line : Bytes) (a : LineReply) → HasOnly g b o old
     → Serves old n (given longest line) a new → a.done ≡ declared_of g → (after : Outlined) × HasOnly g b (Some after) new
 line-only longest g n b o old new line a has serves some =
     let was = declared-by longest g n old new line a serves some in

@@ -8,7 +8,7 @@ use Rattle.scripts.specs.Script.{AreFields, Bytes}
 use Rattle.scripts.specs.Words.{word_counter, word_number}
 use Rattle.feed.specs.Lasting.{lowered, lowered_word, lowered_words}
 use Rattle.feed.specs.declared.answering.Drawn.{Drawn}
-use Rattle.requests.specs.Asking.{IsAsked}
+use Rattle.requests.specs.Asking.{IsAskedOf}
 use Rattle.requests.specs.Forms.{form_in}
 use Rattle.requests.specs.Requests.{AreAllowed, IsRequestOf, budgets_in, budgets_of, number_behind}
 use Rattle.requests.specs.declared.ask.Ask.TheVariants as ask
@@ -112,7 +112,7 @@ no-other-form : {g : ℕ} {b : Budgets} (fields : List Bytes) → (form_in field
 no-other-form {g} {b} fields other parts =
     other (ap form_in (its-fields g (declaration.Net b) parts (codes "net") (its-word g (declaration.Net b) parts)))
 
-net-spelled : (g : ℕ) (b : Budgets) (fields : List Bytes) → IsAsked fields (Some (g, ask.Declare (declaration.Net b)))
+net-spelled : (g : ℕ) (b : Budgets) (fields : List Bytes) → IsAskedOf fields (Some (g, ask.Declare (declaration.Net b)))
     → SpellsNet g b fields
 net-spelled g b fields asked = step (asks-script g (declaration.Net b) fields asked)
   where
@@ -139,7 +139,7 @@ net-spelled g b fields asked = step (asks-script g (declaration.Net b) fields as
 net-asked : (g : ℕ) (b : Budgets) (number events bytes slots : Bytes) → word_counter number ≡ Some g
     → word_number (2 ^ 64) events ≡ Some b.events → word_number (2 ^ 64) bytes ≡ Some b.bytes
     → word_number (2 ^ 64) slots ≡ Some b.slots → AreBudgets b.events b.bytes b.slots
-    → IsAsked (net-fields number (budget-fields events bytes slots)) (Some (g, ask.Declare (declaration.Net b)))
+    → IsAskedOf (net-fields number (budget-fields events bytes slots)) (Some (g, ask.Declare (declaration.Net b)))
 net-asked g b number events bytes slots is e y s allowed =
     let asks : AreAllowed (budgets_in (budget-fields events bytes slots)) (request.Declare (declaration.Net b)) =
     subst (λ o. AreAllowed o (request.Declare (declaration.Net b))) (sym (budgets-read events bytes slots b e y s))

@@ -8,7 +8,7 @@ use Rattle.scripts.specs.Script.{AreFields, Bytes}
 use Rattle.scripts.specs.Words.{word_counter, word_number}
 use Rattle.feed.specs.Lasting.{lowered, lowered_word, lowered_words}
 use Rattle.feed.specs.declared.answering.Drawn.{Drawn}
-use Rattle.requests.specs.Asking.{IsAsked}
+use Rattle.requests.specs.Asking.{IsAskedOf}
 use Rattle.requests.specs.Forms.{form_in}
 use Rattle.requests.specs.Requests.{IsRequestOf, IsReserved, number_behind, only_names, shares_in}
 use Rattle.requests.specs.declared.ask.Ask.TheVariants as ask
@@ -80,7 +80,7 @@ shares-read own pair bytes opens more s o p b n = rw (o, p, b, n) refl
 -- ---- lines of rosters and nodes
 -- a line that declares anything but a network is one of scripts
 script-parts : (g : ℕ) (x : Declaration) (fields : List Bytes)
-    → ((word : Bytes) → VerbWord (kind_of x) word → word ≡ codes "net" → ⊥) → IsAsked fields (Some (g, ask.Declare x))
+    → ((word : Bytes) → VerbWord (kind_of x) word → word ≡ codes "net" → ⊥) → IsAskedOf fields (Some (g, ask.Declare x))
     → HasParts g x fields
 script-parts g x fields other asked = step (asks-script g x fields asked)
   where
@@ -141,7 +141,7 @@ roster-by-parts g r fields parts =
         }
 
 roster-spelled : (g : ℕ) (r : Reservation) (fields : List Bytes)
-    → IsAsked fields (Some (g, ask.Declare (declaration.Roster r))) → SpellsRoster g r fields
+    → IsAskedOf fields (Some (g, ask.Declare (declaration.Roster r))) → SpellsRoster g r fields
 roster-spelled g r fields asked =
     roster-by-parts g r fields
     (script-parts g (declaration.Roster r) fields (λ word is net. let same = sym is ∙ net in cc) asked)
@@ -150,7 +150,7 @@ roster-asked : (g : ℕ) (r : Reservation) (number own pair bytes opens : Bytes)
     → word_counter number ≡ Some g → word_number (2 ^ 64) own ≡ Some r.shares.own
     → word_number (2 ^ 64) pair ≡ Some r.shares.pair → word_number (2 ^ 64) bytes ≡ Some r.shares.bytes
     → word_number (2 ^ 64) opens ≡ Some r.shares.opens → only_names more ≡ Some r.names.items
-    → IsAsked (roster-fields number (share-fields own pair bytes opens more)) (Some (g, ask.Declare (declaration.Roster r)))
+    → IsAskedOf (roster-fields number (share-fields own pair bytes opens more)) (Some (g, ask.Declare (declaration.Roster r)))
 roster-asked g r number own pair bytes opens more is o p b n names =
     let rest : List Bytes = share-fields own pair bytes opens more in
     let asks : IsReserved (shares_in rest) (request.Declare (declaration.Roster r)) =

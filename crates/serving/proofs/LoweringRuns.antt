@@ -18,22 +18,22 @@ use Rattle.configuration.specs.declared.error.ConfigError.TheVariants.{RosterToo
 use Rattle.network.specs.Standing.{Machine}
 use Rattle.scripts.specs.Script.{Bytes, IsSkipped, is_no_record}
 use Rattle.feed.specs.Lasting.{lowered}
-use Rattle.feed.specs.Served.{Reply, Serves as ServesAll, journal_line}
-use Rattle.feed.specs.Served.Serves.{next, none}
+use Rattle.feed.specs.Served.{LineReply, ServesAll, journal_line}
+use Rattle.feed.specs.Served.ServesAll.{next, none}
 use Rattle.feed.specs.WholeLines.{given}
 use Rattle.feed.specs.declared.answering.Deed.{Deed}
 use Rattle.feed.specs.declared.answering.Deed.TheVariants as deed
 use Rattle.feed.specs.declared.answering.Done.{Done}
 use Rattle.feed.specs.declared.answering.Drawn.{Drawn}
-use Rattle.requests.specs.Asking.{IsAsked}
-use Rattle.requests.specs.Outlines.{IsRevised, Outlined, Waiting, fresh, waiting_at, waiting_set, with_node, with_roster}
+use Rattle.requests.specs.Asking.{IsAskedOf}
+use Rattle.requests.specs.Outlines.{IsRevised, Outlined, Waiting, bare_outline, waiting_at, waiting_set, with_node, with_roster}
 use Rattle.requests.specs.Preparing.{Prepares}
 use Rattle.requests.specs.Taking.{is_roster, takes_node, takes_roster}
 use Rattle.requests.specs.declared.ask.Ask.{Ask}
 use Rattle.requests.specs.declared.ask.Ask.TheVariants as ask
 use Rattle.requests.specs.declared.request.Declaration.{Declaration}
 use Rattle.requests.specs.declared.request.Declaration.TheVariants as declaration
-use Rattle.serving.specs.Hosts.{AreServedAt, IsAnswer, IsAnsweredOnceBegun, IsDeclared, IsServedAt, Live, Serves, deed_at, deed_by, deed_of, deed_of_all, drawn, live_at, one_line, slot_of_answers, takes}
+use Rattle.serving.specs.Hosts.{AreServedAt, IsAnsweredOnceBegun, IsAskAnswered, IsDeclared, IsServedAt, Live, Serves, deed_at, deed_by, deed_of, deed_of_all, drawn, live_at, one_line, slot_of_answers, takes_declaration}
 use Rattle.serving.specs.declared.block.Closing.TheVariants as closing
 use Rattle.serving.specs.Lowering.{AllDeclare, AreDeclared, AsksToDeclare, DeclarationsAreServed, LoweredDeclarationsDeclareLess, RunsDeclare, declared_of, less_declared, less_live, less_outline, less_reserved, less_shares, less_waiting, taken_block}
 use Rattle.serving.specs.Lowering.AreDeclared.{next_line, none_left}
@@ -115,9 +115,9 @@ tests_of twice long large = (twice, RosterTwice) ∷ (long, RosterTooLong) ∷ (
 
 roster-less : (d : Drawn) (names : List ℕ) (s : Shares) → is_roster names s ≡ true
     → is_roster names (less_shares d s) ≡ true
-roster-less d names s takes =
+roster-less d names s takes_declaration =
     step (not (all_differ names)) (nat_lt 1024 (length names)) (is_too_large s) (is_too_large (less_shares d s))
-    (less-fits d s) takes
+    (less-fits d s) takes_declaration
   where
     step : (twice long large after : Bool) → (large ≡ false → after ≡ false)
         → not (is_some (first_fault (tests_of twice long large))) ≡ true
@@ -151,8 +151,8 @@ roster-taken d (Some x) names s is =
 abbrev runs-and-fits : Live → ℕ → ℕ → Bool
 runs-and-fits l g n = not (is_some (live_at l g)) && nat_lt (n + length l.running) 4096
 
-takes-less : (d : Drawn) (l : Live) (g : ℕ) (x : Declaration) → takes l g x ≡ true
-    → takes (less_live d l) g (less_declared d x) ≡ true
+takes-less : (d : Drawn) (l : Live) (g : ℕ) (x : Declaration) → takes_declaration l g x ≡ true
+    → takes_declaration (less_live d l) g (less_declared d x) ≡ true
 takes-less d l g (declaration.Net b) is =
     ap (λ o. not (is_some o) && runs-and-fits l g (length (less_waiting d l.waiting))) (waits-less d l.waiting g)
     ∙ ap (λ b. not b && runs-and-fits l g (length (less_waiting d l.waiting))) (waits-alike d (waiting_at l.waiting g))
@@ -177,7 +177,7 @@ prepares-less : (d : Drawn) (g : ℕ) (x : Declaration) (old new : Waiting) → 
     → Prepares g (less_declared d x) (less_waiting d old) (less_waiting d new)
 prepares-less d g (declaration.Net b) old new (waits, is) = (
   waits-less d old g ∙ ap (option_map (less_outline d)) waits,
-  ap (less_waiting d) is ∙ sym (each-inserted (less_outline d) old g (fresh b)),
+  ap (less_waiting d) is ∙ sym (each-inserted (less_outline d) old g (bare_outline b)),
 )
 prepares-less d g (declaration.Node u q) old new revised =
     revised-less d g (λ o. with_node o u q) (λ o. with_node o u q) old new (λ o. refl) revised
@@ -192,19 +192,19 @@ declared-less d g x old new (taken, prepares, running, bytes) =
 
 -- ---- what a line that declared something asked for
 -- it was this declaration of the network, and it was taken
-pub record WasDeclared (g n : ℕ) (asked : Option (ℕ × Ask)) (old new : Live) (a : Reply) : Type 0 where
+pub record WasDeclared (g n : ℕ) (asked : Option (ℕ × Ask)) (old new : Live) (a : LineReply) : Type 0 where
   pub what : Declaration
   pub asks : asked ≡ Some (g, ask.Declare what)
   pub declared : IsDeclared g what old true new
   pub is : a ≡ one_line n closing.Taken (declared_of g)
 
 -- the same of a line, whatever it asked for
-pub record WasOfLine (g n : ℕ) (old new : Live) (a : Reply) : Type 0 where
+pub record WasOfLine (g n : ℕ) (old new : Live) (a : LineReply) : Type 0 where
   pub what : Declaration
   pub declared : IsDeclared g what old true new
   pub is : a ≡ one_line n closing.Taken (declared_of g)
 
-nothing-done : {X : Type 0} (g : ℕ) (a : Reply) → a.done ≡ None → a.done ≡ declared_of g → X
+nothing-done : {X : Type 0} (g : ℕ) (a : LineReply) → a.done ≡ None → a.done ≡ declared_of g → X
 nothing-done g a nothing some = let same : ◌≡◌ {A = Option Done} None (declared_of g) = sym nothing ∙ some in cc
 
 done-of : (g h : ℕ) (b : Deed) → ◌≡◌ {A = Option Done} (Some (record { network = h; deed = b })) (declared_of g)
@@ -226,28 +226,28 @@ not-by-all : (o : Option ℕ) (d : Drawn) → deed_of_all o d ≡ deed.Declared 
 not-by-all None d is = cc
 not-by-all (Some i) d is = cc
 
-not-served : (runs : Option Machine) (g n h : ℕ) (e : Event) (old new : Live) (a : Reply)
+not-served : (runs : Option Machine) (g n h : ℕ) (e : Event) (old new : Live) (a : LineReply)
     → IsServedAt runs n h e old a new → a.done ≡ declared_of g → ⊥
 not-served None g n h e old new a (is, same) some = nothing-done g a (ap (λ x. x.done) is) some
 not-served (Some m) g n h e old new a (after, s, served, now, is) some =
     not-by-serving s.refused e s.slot (drawn m after)
     (done-of g h (deed_of e s (drawn m after)) (sym (ap (λ x. x.done) is) ∙ some)).1
 
-not-served-all : (runs : Option Machine) (g n h : ℕ) (bytes : Bytes) (old new : Live) (a : Reply)
+not-served-all : (runs : Option Machine) (g n h : ℕ) (bytes : Bytes) (old new : Live) (a : LineReply)
     → AreServedAt runs n h bytes old a new → a.done ≡ declared_of g → ⊥
 not-served-all None g n h bytes old new a (is, same) some = nothing-done g a (ap (λ x. x.done) is) some
 not-served-all (Some m) g n h bytes old new a (after, answers, served, now, is) some =
     not-by-all (slot_of_answers answers) (drawn m after)
     (done-of g h (deed_of_all (slot_of_answers answers) (drawn m after)) (sym (ap (λ x. x.done) is) ∙ some)).1
 
-not-once-begun : (g n h : ℕ) (answers : Live → Reply → Live → Type 0)
-    → ((now new : Live) (a : Reply) → answers now a new → a.done ≡ declared_of g → ⊥) → (old new : Live) (a : Reply)
+not-once-begun : (g n h : ℕ) (answers : Live → LineReply → Live → Type 0)
+    → ((now new : Live) (a : LineReply) → answers now a new → a.done ≡ declared_of g → ⊥) → (old new : Live) (a : LineReply)
     → IsAnsweredOnceBegun n h answers old a new → a.done ≡ declared_of g → ⊥
 not-once-begun g n h answers never old new a (true, now, begun, answered) some = never now new a answered some
 not-once-begun g n h answers never old new a (false, now, begun, bad) some =
     nothing-done g a (ap (λ x. x.done) bad.0) some
 
-pub was-declared : (g n h : ℕ) (asked : Ask) (old new : Live) (a : Reply) → IsAnswer n h asked old a new
+pub was-declared : (g n h : ℕ) (asked : Ask) (old new : Live) (a : LineReply) → IsAskAnswered n h asked old a new
     → a.done ≡ declared_of g → WasDeclared g n (Some (h, asked)) old new a
 was-declared g n h (ask.Declare x) old new a (true, declared, is) some =
     let same : h ≡ g = (done-of g h deed.Declared (sym (ap (λ r. r.done) is) ∙ some)).0 in record {
@@ -303,7 +303,7 @@ abbrev IsServedWithLess : Drawn → ℕ → ℕ → Live → Bytes → Live → 
 IsServedWithLess d g k old line new =
     Serves (less_live d old) k (Some (lowered d line)) (one_line k closing.Taken (declared_of g)) (less_live d new)
 
-asks-less : (d : Drawn) (g n k : ℕ) (old new : Live) (line : Bytes) (a : Reply) → Serves old n (Some line) a new
+asks-less : (d : Drawn) (g n k : ℕ) (old new : Live) (line : Bytes) (a : LineReply) → Serves old n (Some line) a new
     → a.done ≡ declared_of g → IsServedWithLess d g k old line new
 asks-less d g n k old new line a (inl skipped) some = nothing-done g a (ap (λ r. r.done) skipped.1) some
 asks-less d g n k old new line a (inr (runs, inl bad)) some = nothing-done g a (ap (λ r. r.done) bad.1.0) some
@@ -311,7 +311,7 @@ asks-less d g n k old new line a (inr (runs, inr (fields, are, (None, asked, bad
     nothing-done g a (ap (λ r. r.done) bad.0) some
 asks-less d g n k old new line a (inr (runs, inr (fields, are, (Some (h, what), asked, answer)))) some =
     let was = was-declared g n h what old new a answer some in
-    let asks : IsAsked fields (Some (g, ask.Declare was.what)) = subst (IsAsked fields) was.asks asked in
+    let asks : IsAskedOf fields (Some (g, ask.Declare was.what)) = subst (IsAskedOf fields) was.asks asked in
     let less = lowered_lines_declare_less d line g was.what (fields, are, asks) in
     inr (
       declares-something (lowered d line) g (less_declared d was.what) less,
@@ -326,7 +326,7 @@ asks-less d g n k old new line a (inr (runs, inr (fields, are, (Some (h, what), 
       ),
     )
 
-given-less : (longest : ℕ) (d : Drawn) (g n k : ℕ) (old new : Live) (line : Bytes) (a : Reply)
+given-less : (longest : ℕ) (d : Drawn) (g n k : ℕ) (old new : Live) (line : Bytes) (a : LineReply)
     → Serves old n (given longest line) a new → a.done ≡ declared_of g
     → Serves (less_live d old) k (given longest (lowered d line)) (one_line k closing.Taken (declared_of g)) (less_live d new)
 given-less longest d g n k old new line a serves some =
@@ -343,7 +343,7 @@ given-less longest d g n k old new line a serves some =
         (sym (fits is)) (asks-less d g n k old new line a serves some)
 
 -- what a line declared
-pub declared-by : (longest g n : ℕ) (old new : Live) (line : Bytes) (a : Reply) → Serves old n (given longest line) a new
+pub declared-by : (longest g n : ℕ) (old new : Live) (line : Bytes) (a : LineReply) → Serves old n (given longest line) a new
     → a.done ≡ declared_of g → WasOfLine g n old new a
 declared-by longest g n old new line a serves some = step (nat_lt longest (length line)) serves
   where

@@ -7,14 +7,14 @@ use Rattle.std.proofs.Common.{◌∙◌, refl, sym, ap, subst, inl, inr, arith, 
 use Rattle.std.proofs.lemmas.Bool.Decides.{Decides-eqb}
 use Rattle.protocol.specs.Sets.{among}
 use Rattle.scripts.specs.Script.{Bytes}
-use Rattle.feed.specs.Served.{Reply, Serves as ServesAll, journal_line}
-use Rattle.feed.specs.Served.Serves.{next, none}
+use Rattle.feed.specs.Served.{LineReply, ServesAll, journal_line}
+use Rattle.feed.specs.Served.ServesAll.{next, none}
 use Rattle.feed.specs.WholeLines.{given}
 use Rattle.requests.specs.Outlines.{waiting_at}
 use Rattle.serving.specs.Apart.{AreFrom, IsOrdered, OthersStay, alone}
 use Rattle.serving.specs.Futures.{AreAlike, behind_number}
 use Rattle.serving.specs.Hosts.{Live, Serves, live_at, new_live}
-use Rattle.serving.specs.Merging.{AreOf, HasRoomFor, LinesMayBeMerged, RunsAlone, all_lines, lines_for}
+use Rattle.serving.specs.Merging.{AreLinesOf, HasRoomToDeclare, LinesMayBeMerged, RunsAlone, all_lines, lines_for}
 use Rattle.serving.specs.Merging.RunsAlone.{next_line, none_left}
 use Rattle.serving.proofs.Alone.{at-itself, found-alone, none-below, skipped}
 use Rattle.serving.proofs.ApartLines.{hosts_stay_ordered, lines_are_answered_where_room_is}
@@ -116,7 +116,7 @@ AreDeclaredAmong names l =
     (g : ℕ) → ((waiting_at l.waiting g ≡ None) × (live_at l g ≡ None)) ⊎ (among names g ≡ true)
 
 has-room : (names : List ℕ) (g : ℕ) (l : Live) → IsOrdered l → AreDeclaredAmong names l → length names ≤ 4096
-    → among names g ≡ true → HasRoomFor g l
+    → among names g ≡ true → HasRoomToDeclare g l
 has-room names g l ordered declared few its waits runs =
     let one = fitted 0 l.waiting names ordered.waiting (λ h. waiting h (declared h)) in
     let two =
@@ -161,17 +161,17 @@ ended none_left = refl
 -- the first line of a network, which is answered alone, is answered next to others, with any number
 abbrev IsPlaced : ℕ → ℕ → ℕ → Live → Bytes → List Bytes → Live → Type 0
 IsPlaced longest g n l line lines new =
-    (a : Reply) × (t : Live) × Serves l n (given longest line) a t × (journal_line (given longest line) a ≡ line)
+    (a : LineReply) × (t : Live) × Serves l n (given longest line) a t × (journal_line (given longest line) a ≡ line)
     × RunsAlone longest g (alone g t) lines new × OthersStay g l t
 
 placed : (longest g n : ℕ) (l : Live) (line : Bytes) (lines : List Bytes) (new : Live) → IsOrdered l → AreAlike l l
-    → HasRoomFor g l → RunsAlone longest g (alone g l) (line ∷ lines) new → IsPlaced longest g n l line lines new
+    → HasRoomToDeclare g l → RunsAlone longest g (alone g l) (line ∷ lines) new → IsPlaced longest g n l line lines new
 placed longest g n l line lines new ordered alike room (next_line {now} number a d serves some is rest) =
     let by = numbers_stand_in_front (alone g l) now number (given longest line) a (alone-alike g l alike) serves in
-    let b : Reply = record { text = behind_number n by.0; done = a.done } in
+    let b : LineReply = record { text = behind_number n by.0; done = a.done } in
     let there =
     lines_are_answered_where_room_is l now n (given longest line) b d ordered
-    (subst (λ h. HasRoomFor h l) (sym is) room)
+    (subst (λ h. HasRoomToDeclare h l) (sym is) room)
     (subst (λ h. Serves (alone h l) n (given longest line) b now) (sym is) (by.2 n)) some in (
       b,
       there.0,
@@ -206,7 +206,7 @@ its-run longest l e es own runs =
     ((Decides-eqb e.0 e.0).1 refl) (runs e.0)
 
 merged : (longest n : ℕ) (l : Live) (lines : List (ℕ × Bytes)) (names : List ℕ) (own : ℕ → Live) → IsOrdered l
-    → AreAlike l l → AreDeclaredAmong names l → AreOf names lines → length names ≤ 4096 → RunYet longest l lines own
+    → AreAlike l l → AreDeclaredAmong names l → AreLinesOf names lines → length names ≤ 4096 → RunYet longest l lines own
     → (text : Bytes) × (t : Live) × ServesAll Serves longest l n (all_lines lines) (all_lines lines) text t
     × ((g : ℕ) → alone g t ≡ own g)
 merged longest n l [] names own ordered alike declared of few runs = ([], l, none, λ g. ended (runs g))

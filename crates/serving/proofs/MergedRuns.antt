@@ -2,10 +2,10 @@
 use Rattle.std.specs.Prelude.{◌≡◌, ◌+◌, ◌++◌, ◌∷◌, [], ℕ, Bool, true, false, List, if◌then◌else◌}
 use Rattle.std.proofs.Common.{refl, subst}
 use Rattle.scripts.specs.Script.{Bytes}
-use Rattle.feed.specs.Served.{Reply, Serves as ServesAll}
-use Rattle.feed.specs.Served.Serves.{next, none}
+use Rattle.feed.specs.Served.{LineReply, ServesAll}
+use Rattle.feed.specs.Served.ServesAll.{next, none}
 use Rattle.feed.specs.WholeLines.{given}
-use Rattle.serving.specs.Apart.{IsOrdered, alone, is_of, lines_of, own_of}
+use Rattle.serving.specs.Apart.{IsOrdered, alone, is_done_to, texts_of_lines, lines_of_network}
 use Rattle.serving.specs.Futures.{AreAlike, behind_number}
 use Rattle.serving.specs.Hosts.{Live, Serves}
 use Rattle.serving.specs.Merging.{LinesAloneAreServed, LinesAloneInTurn, OwnLinesRunAlone, RunsAlone}
@@ -19,7 +19,7 @@ served-alone : {longest g : ℕ} {l new : Live} {lines : List Bytes} → RunsAlo
 served-alone none_left alike n = ([], none)
 served-alone {longest} (next_line {l} {now} {new} {line} {lines} number a d serves some is others) alike n =
     let by = numbers_stand_in_front l now number (given longest line) a alike serves in
-    let b : Reply = record { text = behind_number n by.0; done = a.done } in
+    let b : LineReply = record { text = behind_number n by.0; done = a.done } in
     let rest = served-alone others (alike-after l now number (given longest line) a alike serves) (n + 1) in (
       behind_number n by.0 ++ rest.0,
       subst
@@ -41,21 +41,21 @@ lines_alone_in_turn longest g l now new lines more one other = alone-in-turn one
 
 own-alone : (longest g : ℕ) {l t : Live} {n : ℕ} {lines journal : List Bytes} {text : Bytes}
     (run : ServesAll Serves longest l n lines journal text t) → IsOrdered l
-    → RunsAlone longest g (alone g l) (lines_of (own_of g run)) (alone g t)
+    → RunsAlone longest g (alone g l) (texts_of_lines (lines_of_network g run)) (alone g t)
 own-alone longest g none ordered = none_left
 own-alone longest g (next {s} {t = now} {u} {n} {line} a serves others) ordered =
-    by (is_of g a.done) refl
+    by (is_done_to g a.done) refl
     (own-alone longest g others (hosts_stay_ordered s now n (given longest line) a ordered serves))
   where
-    by : (is : Bool) → is_of g a.done ≡ is → RunsAlone longest g (alone g now) (lines_of (own_of g others)) (alone g u)
+    by : (is : Bool) → is_done_to g a.done ≡ is → RunsAlone longest g (alone g now) (texts_of_lines (lines_of_network g others)) (alone g u)
         → RunsAlone longest g (alone g s)
-        (lines_of (if is then record { number = n; line = line; reply = a } ∷ own_of g others else own_of g others))
+        (texts_of_lines (if is then record { number = n; line = line; reply = a } ∷ lines_of_network g others else lines_of_network g others))
         (alone g u)
     by true is rest =
         let its = is-its g a.done is in
         next_line n a its.0 (is-own g s now n (given longest line) a its.0 ordered serves its.1 its.2) its.1 its.2 rest
     by false is rest =
-        subst (λ l. RunsAlone longest g l (lines_of (own_of g others)) (alone g u))
+        subst (λ l. RunsAlone longest g l (texts_of_lines (lines_of_network g others)) (alone g u))
         (is-another g s now n (given longest line) a ordered serves is) rest
 
 pub own_lines_run_alone : OwnLinesRunAlone

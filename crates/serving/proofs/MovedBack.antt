@@ -4,10 +4,10 @@ use Rattle.std.proofs.Common.{◌∙◌, refl, sym, ap, subst, arith, inl, inr}
 use Rattle.protocol.specs.Networks.{Budgets, Net, Reply, Step, first_that, net_step}
 use Rattle.protocol.specs.Networks.Reply.{Done, Refused}
 use Rattle.protocol.specs.Rosters.{Roster}
-use Rattle.network.specs.Lodgings.{AreTallied, Seats}
+use Rattle.network.specs.FiledSlots.{AreTallied, CountedSlot}
 use Rattle.network.specs.Marks.{slot_and_node_of}
 use Rattle.network.specs.Standing.{Machine, StandsFor, net_of}
-use Rattle.live.specs.Serving.{AreHeard, Ending, Hearing, IsServed, IsTried, Telling, slot_at, step_of_hearing, told_at, waits_after}
+use Rattle.live.specs.Serving.{AreHeard, Ending, Hearing, IsServed, IsTried, ToldReply, slot_at, step_of_hearing, told_at, waits_after}
 use Rattle.live.specs.Serving.AreHeard.{all_heard, one_heard}
 use Rattle.live.specs.Serving.Ending.{IsDone}
 use Rattle.live.specs.Serving.IsServed.{done, refused}
@@ -69,7 +69,7 @@ tried-back d old e stepped =
 tried-back d old e (wanting (inl none)) = (old, refl, wanting (inl (sym (ap first_that (tests-move d old e)) ∙ none)))
 tried-back d old e (wanting (inr read)) = (old, refl, wanting (inr read))
 
-heard-back : (d : Drawn) {i : ℕ} {hs : List Hearing} {big : Net} {told : List Telling} {new : Net}
+heard-back : (d : Drawn) {i : ℕ} {hs : List Hearing} {big : Net} {told : List ToldReply} {new : Net}
     → AreHeard i hs big told new → (old : Net) → big ≡ moved_net d old
     → (now : Net) × (new ≡ moved_net d now) × AreHeard i hs old told now
 heard-back d all_heard old is = (old, is, all_heard)
@@ -80,7 +80,7 @@ heard-back d {i} (one_heard {h} {hs} {old = big} {now = bigger} {new} {told} r t
     let waits = ap (λ n. waits_after n e r) is ∙ waits-move d old e r in
     (rest.0, rest.1, one_heard r here.2 (subst (λ ws. AreHeard i (hs ++ ws) here.0 told rest.0) waits rest.2))
 
-served-back : (d : Drawn) (old : Net) (e : Step) {ending : Ending} {told : List Telling} {new : Net}
+served-back : (d : Drawn) (old : Net) (e : Step) {ending : Ending} {told : List ToldReply} {new : Net}
     → IsServed (moved_net d old) e ending told new
     → (now : Net) × (new ≡ moved_net d now) × IsServed old e ending told now
 served-back d old e (refused r tried) =
@@ -99,7 +99,7 @@ served-back d old e (done {now} {new} {told} os tried heard) =
 
 -- ---- machines
 -- the machine with these slots that stands for a network
-abbrev machine_from : Net → List Seats → Machine
+abbrev machine_from : Net → List CountedSlot → Machine
 machine_from net slots = record {
   config = record { number = net.number; nodes = net.nodes; budgets = net.budgets; roster = net.roster };
   slots = slots;

@@ -9,7 +9,7 @@ use Rattle.protocol.specs.Networks.Step.{BallotTimerFires, Closes, Delivers, Hea
 use Rattle.configuration.specs.Configs.{names_of}
 use Rattle.network.specs.Marks.{emitted_before, marks_in, numbers_by_kind, slot_and_node_of}
 use Rattle.network.specs.Standing.{Machine, StandsFor, net_of}
-use Rattle.live.specs.Serving.{AreHeard, Ending, Hearing, IsServed, IsTried, Telling, all_hearings, is_stale, named, slot_at, step_of_hearing, told_at, waits_after}
+use Rattle.live.specs.Serving.{AreHeard, Ending, Hearing, IsServed, IsTried, ToldReply, all_hearings, is_stale, named, slot_at, step_of_hearing, told_at, waits_after}
 use Rattle.live.specs.Serving.AreHeard.{all_heard, one_heard}
 use Rattle.live.specs.Serving.Ending.{IsDone}
 use Rattle.live.specs.Serving.IsServed.{done, refused}
@@ -48,7 +48,7 @@ waits-move d net e (Done os) =
     ap (λ marks. all_hearings (names_of net.nodes) (named (emissions os) marks)) (marks-move d net e)
 waits-move d net e (Refused r) = refl
 
-heard-moves : (d : Drawn) {i : ℕ} {hs : List Hearing} {old new : Net} {told : List Telling}
+heard-moves : (d : Drawn) {i : ℕ} {hs : List Hearing} {old new : Net} {told : List ToldReply}
     → AreHeard i hs old told new → AreHeard i hs (moved_net d old) told (moved_net d new)
 heard-moves d all_heard = all_heard
 heard-moves d {i} {told = told} (one_heard {h} {hs} {old} {now} {new} {told = more} r tried others) =
@@ -67,7 +67,7 @@ stale-moves d net (NominationTimerFires i u r) = refl
 stale-moves d net (BallotTimerFires i u n) = refl
 stale-moves d net (Reslices i u q) = refl
 
-pub served-moves : (d : Drawn) {old : Net} (e : Step) {ending : Ending} {told : List Telling} {new : Net}
+pub served-moves : (d : Drawn) {old : Net} (e : Step) {ending : Ending} {told : List ToldReply} {new : Net}
     → IsServed old e ending told new → IsServed (moved_net d old) e ending told (moved_net d new)
 served-moves d e (refused r tried) = refused r (tried-moves d e tried)
 served-moves d {old} e (done {now} {new} {told} os tried heard) =

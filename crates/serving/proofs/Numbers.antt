@@ -15,8 +15,8 @@ use Rattle.protocol.specs.Rows.{row}
 use Rattle.network.specs.Standing.{IsStood, Machine, net_of, node_at}
 use Rattle.scripts.specs.Script.{Bytes}
 use Rattle.scripts.specs.Names.{text_of_name}
-use Rattle.feed.specs.Served.{Reply, Serves as ServesAll}
-use Rattle.feed.specs.Served.Serves.{next, none}
+use Rattle.feed.specs.Served.{LineReply, ServesAll}
+use Rattle.feed.specs.Served.ServesAll.{next, none}
 use Rattle.feed.specs.WholeLines.{given}
 use Rattle.feed.specs.declared.answering.Deed.TheVariants as deed
 use Rattle.feed.specs.declared.answering.Done.{Done}
@@ -24,14 +24,14 @@ use Rattle.requests.specs.Outlines.{waiting_at}
 use Rattle.requests.specs.declared.ask.Ask.{Ask}
 use Rattle.requests.specs.declared.ask.Ask.TheVariants as ask
 use Rattle.questions.specs.Left.{left_line}
-use Rattle.questions.specs.Shown.{behind_space, front_of, known_lines, line_of, lines_of, row_line, row_lines, rows_of_sender, silent_line, spaced_name, state_line, text_of_row, value_lines, values_line}
+use Rattle.questions.specs.Shown.{front_of, known_lines, line_of, node_lines, row_line, row_lines, rows_of_sender, silent_line, spaced_name, state_line, text_of_shown_row, value_behind_space, value_lines, values_line}
 use Rattle.questions.specs.State.{text_of_state}
 use Rattle.questions.specs.declared.left.Left.{Left}
-use Rattle.live.specs.Serving.{Ending, Telling}
+use Rattle.live.specs.Serving.{Ending, ToldReply}
 use Rattle.live.specs.Telling.{ending_of, tellings_of}
 use Rattle.serving.specs.Blocks.{block_of, closing_line, closing_of, line_of_telling, text_of_closing, text_of_reply}
 use Rattle.serving.specs.Futures.{AreAlike, AreAllAlike, FuturesAreAlikeButForNumbers, IsAlike, NumbersStandInFront, behind_number, behind_numbers}
-use Rattle.serving.specs.Hosts.{AreAllAnswered, IsAnswer, IsAnswerTo, IsAnsweredOnceBegun, IsAnsweredThen, IsBadLine, IsEventAnswered, IsLeftText, IsNodeText, IsShown, IsShownOf, Live, Serves, block_of_answers, closing_of_answers, closing_of_declaration, closing_of_drop, deed_of, deed_of_all, done_if, drawn, left_at, lines_of_answer, lines_of_answers, lines_of_node, live_at, not_shown, not_there, slot_of_answers}
+use Rattle.serving.specs.Hosts.{AreAllAnswered, IsAnswerTo, IsAnsweredOnceBegun, IsAnsweredThen, IsAskAnswered, IsBadLine, IsEventAnswered, IsLeftText, IsNodeText, IsShown, IsShownOf, Live, Serves, block_of_answers, closing_of_answers, closing_of_declaration, closing_of_drop, deed_of, deed_of_all, done_if, drawn, left_at, lines_of_answer, lines_of_answers, lines_of_node, live_at, not_shown, not_there, slot_of_answers}
 use Rattle.serving.specs.declared.all.NodeAnswer.{NodeAnswer}
 use Rattle.serving.specs.declared.block.Closing.{Closing}
 use Rattle.serving.specs.declared.block.Closing.TheVariants as closing
@@ -76,11 +76,11 @@ all-numbered f each (x ∷ xs) =
 closing-numbered : (c : Closing) → IsNumbered (λ k. closing_line k c)
 closing-numbered c = one-numbered (text_of_closing c ++ 10 ∷ [])
 
-telling-numbered : (bytes : Bool) (g i : ℕ) (t : Telling) → IsNumbered (λ k. line_of_telling bytes k g i t)
+telling-numbered : (bytes : Bool) (g i : ℕ) (t : ToldReply) → IsNumbered (λ k. line_of_telling bytes k g i t)
 telling-numbered bytes g i t =
     line-numbered (decimal g ++ 32 ∷ (decimal i ++ 32 ∷ text_of_name t.node)) (text_of_reply bytes t.reply ++ 10 ∷ [])
 
-block-numbered : (bytes : Bool) (g i : ℕ) (told : List Telling) (ending : Ending)
+block-numbered : (bytes : Bool) (g i : ℕ) (told : List ToldReply) (ending : Ending)
     → IsNumbered (λ k. block_of bytes k g i told ending)
 block-numbered bytes g i told ending =
     both-numbered (λ k. flat_map (line_of_telling bytes k g i) told) (λ k. closing_line k (closing_of ending))
@@ -117,11 +117,11 @@ line-of-numbered g i u words = line-numbered (rest-of-front g i u) (words ++ 10 
 values-line-numbered : (g i u : ℕ) (word : Bytes) (vs : List Bytes)
     → IsNumbered (λ k. values_line (front_of k g i u) word vs)
 unfolding values_line
-values-line-numbered g i u word vs = line-of-numbered g i u (word ++ flat_map behind_space vs)
+values-line-numbered g i u word vs = line-of-numbered g i u (word ++ flat_map value_behind_space vs)
 
 row-line-numbered : (g i u : ℕ) (o : Option Sent) → IsNumbered (λ k. row_line (front_of k g i u) o)
 row-line-numbered g i u None = none-numbered
-row-line-numbered g i u (Some e) = line-of-numbered g i u (text_of_row e)
+row-line-numbered g i u (Some e) = line-of-numbered g i u (text_of_shown_row e)
 
 sender-numbered : (g i u : ℕ) (table : List Sent) (w : ℕ)
     → IsNumbered (λ k. rows_of_sender (front_of k g i u) table w)
@@ -130,7 +130,7 @@ sender-numbered g i u table w =
     (λ k. row_line (front_of k g i u) (row table w Kind.Ballot))
     (row-line-numbered g i u (row table w Nomination)) (row-line-numbered g i u (row table w Kind.Ballot))
 
-shown-numbered : (g i : ℕ) (n : Node) (us : List ℕ) → IsNumbered (λ k. lines_of (front_of k g i n.name) n us)
+shown-numbered : (g i : ℕ) (n : Node) (us : List ℕ) → IsNumbered (λ k. node_lines (front_of k g i n.name) n us)
 shown-numbered g i n us =
     both-numbered (λ k. known_lines (front_of k g i n.name) n) (λ k. silent_line (front_of k g i n.name) us)
     (both-numbered (λ k. state_line (front_of k g i n.name) n)
@@ -158,16 +158,16 @@ is-by-number : (f : ℕ → Bytes) → IsNumbered f → (n : ℕ) (text : Bytes)
 is-by-number f numbered n text is = (numbered.0, is ∙ numbered.1 n, λ k. sym (numbered.1 k))
 
 -- the same of a whole reply
-abbrev AnswersByNumber : (ℕ → Live → Reply → Live → Type 0) → Type 0
+abbrev AnswersByNumber : (ℕ → Live → LineReply → Live → Type 0) → Type 0
 AnswersByNumber answers =
-    (n : ℕ) (old new : Live) (a : Reply) → AreAllAlike old.running old.running → answers n old a new
+    (n : ℕ) (old new : Live) (a : LineReply) → AreAllAlike old.running old.running → answers n old a new
     → HoldsByNumber (λ k t. answers k old (record { text = t; done = a.done }) new) n a.text
 
 -- the reply with this text that did this
-abbrev reply_with : Bytes → Option Done → Reply
+abbrev reply_with : Bytes → Option Done → LineReply
 reply_with text did = record { text = text; done = did }
 
-reply-by-number : (f : ℕ → Bytes) → IsNumbered f → (n : ℕ) (a : Reply) (did : Option Done)
+reply-by-number : (f : ℕ → Bytes) → IsNumbered f → (n : ℕ) (a : LineReply) (did : Option Done)
     → a ≡ reply_with (f n) did → HoldsByNumber (λ k t. reply_with t a.done ≡ reply_with (f k) did) n a.text
 reply-by-number f numbered n a did is = (
   numbered.0,
@@ -204,12 +204,12 @@ all-by-number g bytes n old new a stands (Some m, at, (after, answers, serves, i
     (Some (record { network = g; deed = deed_of_all (slot_of_answers answers) (drawn m after) })) says in
     (by.0, by.1, λ k. (Some m, at, (after, answers, serves, is, by.2 k)))
 
-then-by-number : (is : Bool) (answers : ℕ → Live → Reply → Live → Type 0) → AnswersByNumber answers
+then-by-number : (is : Bool) (answers : ℕ → Live → LineReply → Live → Type 0) → AnswersByNumber answers
     → AnswersByNumber (λ n. IsAnsweredThen is n (answers n))
 then-by-number true answers law n old new a stands answered = law n old new a stands answered
 then-by-number false answers law n old new a stands answered = bad-by-number n old new a stands answered
 
-once-begun-by-number : (g : ℕ) (answers : ℕ → Live → Reply → Live → Type 0) → AnswersByNumber answers
+once-begun-by-number : (g : ℕ) (answers : ℕ → Live → LineReply → Live → Type 0) → AnswersByNumber answers
     → AnswersByNumber (λ n. IsAnsweredOnceBegun n g (answers n))
 once-begun-by-number g answers law n old new a stands (is, now, begins, answered) =
     let begin = begun-network-alike g is old now old.running stands begins in
@@ -232,11 +232,11 @@ node-by-number n g i why None text is =
     is-by-number (λ k. closing_line k (closing.Refused why)) (closing-numbered (closing.Refused why)) n text is
 node-by-number n g i why (Some u) text (lines, (us, silent, are), is) =
     let by =
-    is-by-number (λ k. lines_of (front_of k g i u.name) u us ++ closing_line k closing.Taken)
-    (both-numbered (λ k. lines_of (front_of k g i u.name) u us) (λ k. closing_line k closing.Taken)
+    is-by-number (λ k. node_lines (front_of k g i u.name) u us ++ closing_line k closing.Taken)
+    (both-numbered (λ k. node_lines (front_of k g i u.name) u us) (λ k. closing_line k closing.Taken)
     (shown-numbered g i u us) (closing-numbered closing.Taken)) n text
     (is ∙ ap (λ t. t ++ closing_line n closing.Taken) are) in
-    (by.0, by.1, λ k. (lines_of (front_of k g i u.name) u us, (us, silent, refl), by.2 k))
+    (by.0, by.1, λ k. (node_lines (front_of k g i u.name) u us, (us, silent, refl), by.2 k))
 
 shown-by-number : (n g i u : ℕ) (m : Machine) (text : Bytes) → IsStood m → IsShownOf n g i u m text
     → HoldsByNumber (λ k t. IsShownOf k g i u m t) n text
@@ -264,7 +264,7 @@ shows-by-number n g i u l text stands (Some m, at, shown) =
     let by = shown-by-number n g i u m text (stood m other.0 other.2) shown in
     (by.0, by.1, λ k. (Some m, at, by.2 k))
 
-answer-by-number : (g : ℕ) (asked : Ask) → AnswersByNumber (λ n. IsAnswer n g asked)
+answer-by-number : (g : ℕ) (asked : Ask) → AnswersByNumber (λ n. IsAskAnswered n g asked)
 answer-by-number g (ask.Declare d) n old new a stands (taken, declares, is) =
     let c : Closing = closing_of_declaration taken in
     let by = reply-by-number (λ k. closing_line k c) (closing-numbered c) n a (done_if taken g deed.Declared) is in

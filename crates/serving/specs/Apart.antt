@@ -1,13 +1,13 @@
 -- Networks are apart: what a host answers to the lines of one, and what becomes of it, does not depend on the others.
 use Rattle.std.specs.Prelude.{◌≡◌, ◌≢◌, ◌⊎◌, ◌+◌, ◌≤◌, ◌<◌, ◌==◌, ℕ, Bool, false, List, [], ◌∷◌, map, length, Option, Some, None, if◌then◌else◌}
 use Rattle.scripts.specs.Script.{Bytes}
-use Rattle.feed.specs.Served.{Reply, Serves as ServesAll}
-use Rattle.feed.specs.Served.Serves.{next, none}
+use Rattle.feed.specs.Served.{LineReply, ServesAll}
+use Rattle.feed.specs.Served.ServesAll.{next, none}
 use Rattle.feed.specs.declared.answering.Done.{Done}
 use Rattle.requests.specs.Outlines.{waiting_at}
 use Rattle.requests.specs.declared.ask.Ask.{Ask}
 use Rattle.serving.specs.Futures.{AreAlike, behind_number, behind_numbers}
-use Rattle.serving.specs.Hosts.{IsAnswer, Live, Serves, live_at, new_live}
+use Rattle.serving.specs.Hosts.{IsAskAnswered, Live, Serves, live_at, new_live}
 use Rattle.requests.specs.declared.ask.Ask.TheVariants as ask
 use Rattle.requests.specs.declared.request.Declaration.TheVariants as declaration
 
@@ -40,7 +40,7 @@ pub record IsOrdered (l : Live) : Type 0 where
 -- the networks of a host stay ascending by number with each line, those that wait and those that run
 abbrev pub HostsStayOrdered : Type 0
 HostsStayOrdered =
-    (l t : Live) (n : ℕ) (line : Option Bytes) (a : Reply) → IsOrdered l → Serves l n line a t → IsOrdered t
+    (l t : Live) (n : ℕ) (line : Option Bytes) (a : LineReply) → IsOrdered l → Serves l n line a t → IsOrdered t
 
 -- the networks of a host that lines lead to are ascending by number
 abbrev pub ReachedHostsAreOrdered : Type 0
@@ -50,97 +50,97 @@ ReachedHostsAreOrdered =
 
 -- ---- one line
 -- a line that did nothing to a network changes nothing
-abbrev pub OtherLinesChangeNothing : Type 0
-OtherLinesChangeNothing =
-    (l t : Live) (n : ℕ) (line : Option Bytes) (a : Reply) → Serves l n line a t → a.done ≡ None → t ≡ l
+abbrev pub IdleLinesChangeNothing : Type 0
+IdleLinesChangeNothing =
+    (l t : Live) (n : ℕ) (line : Option Bytes) (a : LineReply) → Serves l n line a t → a.done ≡ None → t ≡ l
 
 -- What a line is answered that did something to a network, it is answered by the host that has this network alone, and so
 -- it leaves it; and it leaves all others as they were.
 abbrev pub LinesAreLocal : Type 0
 LinesAreLocal =
-    (l t : Live) (n : ℕ) (line : Option Bytes) (a : Reply) (d : Done) → IsOrdered l → Serves l n line a t
+    (l t : Live) (n : ℕ) (line : Option Bytes) (a : LineReply) (d : Done) → IsOrdered l → Serves l n line a t
     → a.done ≡ Some d
     → Serves (alone d.network l) n line a (alone d.network t) × OthersStay d.network l t
 
 -- fewer networks are declared than may be
-abbrev pub HasRoom : Live → Type 0
-HasRoom l = length l.waiting + length l.running < 4096
+abbrev pub HasRoomForNetwork : Live → Type 0
+HasRoomForNetwork l = length l.waiting + length l.running < 4096
 
 -- What a line is answered, and what it does, where there is one network alone, it is answered and does next to others, where
 -- there is room for the network that it may declare.
 abbrev pub LinesAreAnsweredNextToOthers : Type 0
 LinesAreAnsweredNextToOthers =
-    (l own : Live) (n : ℕ) (line : Option Bytes) (a : Reply) (d : Done) → IsOrdered l → HasRoom l
+    (l own : Live) (n : ℕ) (line : Option Bytes) (a : LineReply) (d : Done) → IsOrdered l → HasRoomForNetwork l
     → Serves (alone d.network l) n line a own → a.done ≡ Some d
     → (t : Live) × Serves l n line a t × (alone d.network t ≡ own) × OthersStay d.network l t
 
 -- there is room for a network, if the line declares one
 abbrev pub HasRoomToAnswer : Ask → Live → Type 0
-HasRoomToAnswer (ask.Declare (declaration.Net budgets)) l = HasRoom l
+HasRoomToAnswer (ask.Declare (declaration.Net budgets)) l = HasRoomForNetwork l
 HasRoomToAnswer _ l = Unit {0}
 
 -- What a line may ask of a network, questions too, is answered as if there were no other, if there is room for one that
 -- may be declared.
 abbrev pub AnswersAreLocal : Type 0
 AnswersAreLocal =
-    (l t : Live) (n g : ℕ) (asked : Ask) (a : Reply) → IsOrdered l → HasRoomToAnswer asked l → IsAnswer n g asked l a t
-    → IsAnswer n g asked (alone g l) a (alone g t) × OthersStay g l t
+    (l t : Live) (n g : ℕ) (asked : Ask) (a : LineReply) → IsOrdered l → HasRoomToAnswer asked l → IsAskAnswered n g asked l a t
+    → IsAskAnswered n g asked (alone g l) a (alone g t) × OthersStay g l t
 
 -- what it is answered where there is no other network, it may be answered next to others
 abbrev pub AnswersAreGivenNextToOthers : Type 0
 AnswersAreGivenNextToOthers =
-    (l own : Live) (n g : ℕ) (asked : Ask) (a : Reply) → IsOrdered l → HasRoomToAnswer asked l
-    → IsAnswer n g asked (alone g l) a own
-    → (t : Live) × IsAnswer n g asked l a t × (alone g t ≡ own) × OthersStay g l t
+    (l own : Live) (n g : ℕ) (asked : Ask) (a : LineReply) → IsOrdered l → HasRoomToAnswer asked l
+    → IsAskAnswered n g asked (alone g l) a own
+    → (t : Live) × IsAskAnswered n g asked l a t × (alone g t ≡ own) × OthersStay g l t
 
 -- Of two hosts in which a network is alike, whatever their others are, what the one answers to a line that did something to
 -- it the other answers, but for the number of the line, and it is alike after it.
 abbrev pub AlikeNetworksAreAnsweredAlike : Type 0
 AlikeNetworksAreAnsweredAlike =
-    (l other t : Live) (n : ℕ) (line : Option Bytes) (a : Reply) (d : Done) → IsOrdered l → IsOrdered other
-    → HasRoom other → AreAlike (alone d.network l) (alone d.network other) → Serves l n line a t → a.done ≡ Some d
+    (l other t : Live) (n : ℕ) (line : Option Bytes) (a : LineReply) (d : Done) → IsOrdered l → IsOrdered other
+    → HasRoomForNetwork other → AreAlike (alone d.network l) (alone d.network other) → Serves l n line a t → a.done ≡ Some d
     → (rests : List Bytes) × (a.text ≡ behind_number n rests)
     × ((k : ℕ) → (new : Live) × Serves other k line (record { text = behind_number k rests; done = a.done }) new
     × AreAlike (alone d.network t) (alone d.network new) × OthersStay d.network other new)
 
 -- ---- many lines
 -- a line that did something to a network, with its number and its answer
-pub record Own : Type 0 where
+pub record NetworkLine : Type 0 where
   pub number : ℕ
   pub line : Bytes
-  pub reply : Reply
+  pub reply : LineReply
 
 -- this was done to the network of a number
-abbrev pub is_of : ℕ → Option Done → Bool
-is_of g None = false
-is_of g (Some d) = d.network == g
+abbrev pub is_done_to : ℕ → Option Done → Bool
+is_done_to g None = false
+is_done_to g (Some d) = d.network == g
 
 -- the lines of a run that did something to the network of a number
-abbrev pub own_of : {longest n : ℕ} {s t : Live} {lines journal : List Bytes} {text : Bytes} → ℕ
-    → ServesAll Serves longest s n lines journal text t → List Own
-own_of g none = []
-own_of g (next {n} {line} a serves others) =
-    if is_of g a.done then record { number = n; line = line; reply = a } ∷ own_of g others else own_of g others
+abbrev pub lines_of_network : {longest n : ℕ} {s t : Live} {lines journal : List Bytes} {text : Bytes} → ℕ
+    → ServesAll Serves longest s n lines journal text t → List NetworkLine
+lines_of_network g none = []
+lines_of_network g (next {n} {line} a serves others) =
+    if is_done_to g a.done then record { number = n; line = line; reply = a } ∷ lines_of_network g others else lines_of_network g others
 
-abbrev pub lines_of : List Own → List Bytes
-lines_of owns = map (λ o. o.line) owns
+abbrev pub texts_of_lines : List NetworkLine → List Bytes
+texts_of_lines owns = map (λ o. o.line) owns
 
 -- the answer of each of these lines is its number in front of these, the one block behind the other
-abbrev pub AreTheirBlocks : List Own → List (List Bytes) → Type 0
+abbrev pub AreTheirBlocks : List NetworkLine → List (List Bytes) → Type 0
 AreTheirBlocks [] [] = Unit {0}
 AreTheirBlocks [] (block ∷ blocks) = ⊥
 AreTheirBlocks (o ∷ owns) [] = ⊥
 AreTheirBlocks (o ∷ owns) (block ∷ blocks) = (o.reply.text ≡ behind_number o.number block) × AreTheirBlocks owns blocks
 
 -- these are the same line, which did the same and is answered alike but for its number
-pub record AreSameButForNumbers (o p : Own) : Type 0 where
+pub record AreSameButForNumbers (o p : NetworkLine) : Type 0 where
   pub line : p.line ≡ o.line
   pub done : p.reply.done ≡ o.reply.done
   pub rests : List Bytes
   pub one_text : o.reply.text ≡ behind_number o.number rests
   pub other_text : p.reply.text ≡ behind_number p.number rests
 
-abbrev pub AreAllSameButForNumbers : List Own → List Own → Type 0
+abbrev pub AreAllSameButForNumbers : List NetworkLine → List NetworkLine → Type 0
 AreAllSameButForNumbers [] [] = Unit {0}
 AreAllSameButForNumbers [] (p ∷ ps) = ⊥
 AreAllSameButForNumbers (o ∷ os) [] = ⊥
@@ -153,29 +153,29 @@ abbrev pub NetworksGoOnByTheirOwnLines : Type 0
 NetworksGoOnByTheirOwnLines =
     (longest : ℕ) (l : Live) (n : ℕ) (lines journal : List Bytes) (text : Bytes) (t : Live)
     (run : ServesAll Serves longest l n lines journal text t) (g : ℕ) → IsOrdered l → AreAlike l l
-    → (blocks : List (List Bytes)) × AreTheirBlocks (own_of g run) blocks
+    → (blocks : List (List Bytes)) × AreTheirBlocks (lines_of_network g run) blocks
     × ((k : ℕ)
-    → (again : ServesAll Serves longest (alone g l) k (lines_of (own_of g run)) (lines_of (own_of g run))
+    → (again : ServesAll Serves longest (alone g l) k (texts_of_lines (lines_of_network g run)) (texts_of_lines (lines_of_network g run))
     (behind_numbers k blocks) (alone g t))
-    × AreAllSameButForNumbers (own_of g run) (own_of g again))
+    × AreAllSameButForNumbers (lines_of_network g run) (lines_of_network g again))
 
 -- what becomes of a network among others, from a host without networks on, becomes of it by its own lines alone
 abbrev pub NetworksFollowTheirOwnLines : Type 0
 NetworksFollowTheirOwnLines =
     (longest : ℕ) (bytes : Bool) (n : ℕ) (lines journal : List Bytes) (text : Bytes) (t : Live)
     (run : ServesAll Serves longest (new_live bytes) n lines journal text t) (g : ℕ)
-    → (blocks : List (List Bytes)) × AreTheirBlocks (own_of g run) blocks
+    → (blocks : List (List Bytes)) × AreTheirBlocks (lines_of_network g run) blocks
     × ((k : ℕ)
-    → (again : ServesAll Serves longest (new_live bytes) k (lines_of (own_of g run)) (lines_of (own_of g run))
+    → (again : ServesAll Serves longest (new_live bytes) k (texts_of_lines (lines_of_network g run)) (texts_of_lines (lines_of_network g run))
     (behind_numbers k blocks) (alone g t))
-    × AreAllSameButForNumbers (own_of g run) (own_of g again))
+    × AreAllSameButForNumbers (lines_of_network g run) (lines_of_network g again))
 
 -- ---- many networks
--- it would have room with one network more
+-- the host has room for one network, and for one more beside
 abbrev pub HasRoomToSpare : Live → Type 0
 HasRoomToSpare l = length l.waiting + length l.running + 1 < 4096
 
--- it would have it before each line of a run
+-- the host has that room before each line of a run
 abbrev pub KeepsRoom : {longest n : ℕ} {s t : Live} {lines journal : List Bytes} {text : Bytes}
     → ServesAll Serves longest s n lines journal text t → Type 0
 KeepsRoom none = Unit {0}
@@ -190,10 +190,10 @@ NetworksAreApart =
     (run : ServesAll Serves longest (new_live bytes) n lines journal text t)
     (m : ℕ) (other_lines other_journal : List Bytes) (other_text : Bytes) (u : Live)
     (other : ServesAll Serves longest (new_live bytes) m other_lines other_journal other_text u)
-    → KeepsRoom other → lines_of (own_of g run) ≡ lines_of (own_of g other)
+    → KeepsRoom other → texts_of_lines (lines_of_network g run) ≡ texts_of_lines (lines_of_network g other)
     → (told : Bytes) × (new : Live) × (again : ServesAll Serves longest (new_live bytes) m other_journal other_journal told new)
-    × (alone g new ≡ alone g t) × OthersStay g u new × AreAllSameButForNumbers (own_of g run) (own_of g again)
-    × ((h : ℕ) → h ≢ g → own_of h again ≡ own_of h other)
+    × (alone g new ≡ alone g t) × OthersStay g u new × AreAllSameButForNumbers (lines_of_network g run) (lines_of_network g again)
+    × ((h : ℕ) → h ≢ g → lines_of_network h again ≡ lines_of_network h other)
 
 -- this number is none of these
 abbrev pub IsNoneOf : ℕ → List ℕ → Type 0
@@ -209,10 +209,10 @@ OrderAmongNetworksDoesNotCount =
     (run : ServesAll Serves longest (new_live bytes) n lines journal text t)
     (m : ℕ) (other_lines other_journal : List Bytes) (other_text : Bytes) (u : Live)
     (other : ServesAll Serves longest (new_live bytes) m other_lines other_journal other_text u)
-    (gs : List ℕ) → length gs < 4096 → ((h : ℕ) → IsNoneOf h gs → own_of h other ≡ [])
-    → ((g : ℕ) → lines_of (own_of g run) ≡ lines_of (own_of g other))
+    (gs : List ℕ) → length gs < 4096 → ((h : ℕ) → IsNoneOf h gs → lines_of_network h other ≡ [])
+    → ((g : ℕ) → texts_of_lines (lines_of_network g run) ≡ texts_of_lines (lines_of_network g other))
     → (told : Bytes) × (again : ServesAll Serves longest (new_live bytes) m other_journal other_journal told t)
-    × ((g : ℕ) → AreAllSameButForNumbers (own_of g run) (own_of g again))
+    × ((g : ℕ) → AreAllSameButForNumbers (lines_of_network g run) (lines_of_network g again))
 
 -- ---- hosts by their networks
 -- hosts are alike whose networks are alike, each one alone

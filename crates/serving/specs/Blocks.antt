@@ -6,21 +6,18 @@ use Rattle.protocol.specs.Networks.{Reply}
 use Rattle.protocol.specs.Networks.Reply.{Done, Refused}
 use Rattle.scripts.specs.Script.{Bytes}
 use Rattle.scripts.specs.Names.{text_of_name}
+use Rattle.scripts.specs.Words.{space_between}
 use Rattle.codec.specs.Spelling.{spelling}
 use Rattle.hex.specs.Hex.{encode_lower}
 use Rattle.types.specs.declared.event.Out.{Out}
 use Rattle.types.specs.declared.event.Out.TheVariants.{Emit}
 use Rattle.types.specs.declared.event.Refusal.TheVariants.{NoMemory}
 use Rattle.requests.specs.Replies.{refusal_text, text_of_out}
-use Rattle.live.specs.Serving.{Ending, Telling}
+use Rattle.live.specs.Serving.{Ending, ToldReply}
 use Rattle.live.specs.Serving.Ending.{IsDone, IsRefused}
 use Rattle.serving.specs.declared.block.Closing.{Closing}
 use Rattle.serving.specs.declared.block.Closing.TheVariants.{Bad, Stale, Taken}
 use Rattle.serving.specs.declared.block.Closing.TheVariants as closing
-
--- two words with a space (32) between
-abbrev pub space_between : Bytes → Bytes → Bytes
-space_between one other = one ++ 32 ∷ other
 
 -- what is given out, in words or, if that is asked, with an envelope as its bytes in lower-case hexadecimal
 abbrev pub text_of_out_as : Bool → Out → Bytes
@@ -42,7 +39,7 @@ abbrev pub front_of_line : ℕ → ℕ → ℕ → ℕ → Bytes
 front_of_line n g i u = space_between (decimal n) (space_between (decimal g) (space_between (decimal i) (text_of_name u)))
 
 -- a line on a step of a node, with a line feed (10)
-abbrev pub line_of_telling : Bool → ℕ → ℕ → ℕ → Telling → Bytes
+abbrev pub line_of_telling : Bool → ℕ → ℕ → ℕ → ToldReply → Bytes
 line_of_telling bytes n g i t = front_of_line n g i t.node ++ (text_of_reply bytes t.reply ++ 10 ∷ [])
 
 -- how the answer to a line ends
@@ -66,7 +63,7 @@ closing_of (IsRefused r) = closing.Refused r
 closing_of (IsDone stale) = closing_of_done stale
 
 -- the block of an event of a network
-abbrev pub block_of : Bool → ℕ → ℕ → ℕ → List Telling → Ending → Bytes
+abbrev pub block_of : Bool → ℕ → ℕ → ℕ → List ToldReply → Ending → Bytes
 block_of bytes n g i told ending = flat_map (line_of_telling bytes n g i) told ++ closing_line n (closing_of ending)
 
 -- ---- want of memory

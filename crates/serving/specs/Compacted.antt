@@ -11,25 +11,25 @@ use Rattle.live.specs.declared.served.Served.{Served}
 use Rattle.scripts.specs.Script.{Bytes, lines_with_feeds}
 use Rattle.feed.specs.Acts.{lines_run}
 use Rattle.feed.specs.Compacting.{HasCompacted}
-use Rattle.feed.specs.Lasting.{Declaration, Lines, NetworkLines, SlotLines, Watched, Watching, both_drawn, compacted, lost_at, lowered, network_after, new_network, nothing_drawn, unwatched, value_at}
-use Rattle.feed.specs.Served.{Reply, Serves as ServesAll}
+use Rattle.feed.specs.Lasting.{Declaration, Lines, NetworkLines, SlotLines, Watched, Watching, both_drawn, compacted, entry_at, lost_at, lowered, network_after, new_network, nothing_drawn, unwatched}
+use Rattle.feed.specs.Served.{LineReply, ServesAll}
 use Rattle.feed.specs.WholeLines.{given}
 use Rattle.feed.specs.declared.answering.Deed.{Deed}
 use Rattle.feed.specs.declared.answering.Deed.TheVariants as deed
 use Rattle.feed.specs.declared.answering.Done.{Done}
 use Rattle.feed.specs.declared.answering.Drawn.{Drawn}
-use Rattle.requests.specs.Asking.{IsAsked}
+use Rattle.requests.specs.Asking.{IsAskedOf}
 use Rattle.requests.specs.Outlines.{IsConfigOf, Outlined, waiting_at}
 use Rattle.requests.specs.declared.ask.Ask.{Ask}
 use Rattle.requests.specs.declared.ask.Ask.TheVariants as ask
 use Rattle.requests.specs.declared.request.Declaration.{Declaration as DeclarationOf}
 use Rattle.requests.specs.declared.request.Declaration.TheVariants as declaration
 use Rattle.serving.specs.Apart.{AreFrom, IsOrdered, alone}
-use Rattle.serving.specs.Erasing.{AreRun, IsLineKept, Line, is_line_at}
+use Rattle.serving.specs.Erasing.{AreServedInTurn, IsLineErasable, Line, is_line_at}
 use Rattle.serving.specs.Erasing.Line.{OfBytes, OfEvent}
 use Rattle.serving.specs.Futures.{AreAlike, IsAlike, moved_config}
-use Rattle.serving.specs.Hosts.{IsAnswer, Live, Remembers, Serves, begun, deed_of, deed_of_all, live_at, new_live, slot_of_answers}
-use Rattle.serving.specs.Lowering.{less_outline}
+use Rattle.serving.specs.Hosts.{IsAskAnswered, Live, Remembers, Serves, begun, deed_of, deed_of_all, live_at, new_live, slot_of_answers}
+use Rattle.serving.specs.Lowering.{less_outline, waits_alone, runs_alone}
 use Rattle.serving.specs.Merging.{AreBothAlike, RunsAlone}
 use Rattle.serving.specs.declared.all.NodeAnswer.{NodeAnswer}
 
@@ -55,28 +55,21 @@ CompactedFilesLeadToAlikeHosts =
     × (short : List Bytes) × (told : Bytes) × (u : Live) × Appends old new (lines_with_feeds short)
     × ServesAll Serves longest (new_live bytes) 1 short short told u × AreAlike l u
 
--- ---- lines that act on a network
+-- ---- lines and their deeds
 -- a line, and what it does to its network
-pub record Act : Type 0 where
+pub record LineDeed : Type 0 where
   pub line : Bytes
   pub deed : Deed
 
-abbrev pub done_by : ℕ → Deed → Done
-done_by g d = record { network = g; deed = d }
+abbrev pub done_as : ℕ → Deed → Done
+done_as g d = record { network = g; deed = d }
 
 -- Lines are answered one after the other, each with some number, and each of them does this to the network of a number.
-pub data DoAll (longest g : ℕ) : Live → List Act → Live → Type 0 where
-  no_act : {l : Live} → DoAll longest g l [] l
-  one_act : {l now new : Live} {acts : List Act} (n : ℕ) (text : Bytes) (act : Act)
-      → Serves l n (given longest act.line) (record { text = text; done = Some (done_by g act.deed) }) now
-      → DoAll longest g now acts new → DoAll longest g l (act ∷ acts) new
-
--- a host with one network, which waits, or which runs
-abbrev pub one_waits : Bool → ℕ → Outlined → Live
-one_waits bytes g d = record { bytes = bytes; waiting = (g, d) ∷ []; running = [] }
-
-abbrev pub one_runs : Bool → ℕ → Machine → Live
-one_runs bytes g m = record { bytes = bytes; waiting = []; running = (g, m) ∷ [] }
+pub data DoAll (longest g : ℕ) : Live → List LineDeed → Live → Type 0 where
+  no_deed : {l : Live} → DoAll longest g l [] l
+  one_deed : {l now new : Live} {deeds : List LineDeed} (n : ℕ) (text : Bytes) (first : LineDeed)
+      → Serves l n (given longest first.line) (record { text = text; done = Some (done_as g first.deed) }) now
+      → DoAll longest g now deeds new → DoAll longest g l (first ∷ deeds) new
 
 -- ---- lines that last
 -- a line that was applied: its number and that of its network, and its slot and what it drew
@@ -90,32 +83,34 @@ pub record AppliedLine : Type 0 where
 abbrev pub pair_of : AppliedLine → ℕ × Bytes
 pair_of e = (e.number, e.text)
 
-abbrev pub act_of : AppliedLine → Act
-act_of e = record { line = e.text; deed = deed.Applied e.slot e.drawn }
+abbrev pub line_deed_of : AppliedLine → LineDeed
+line_deed_of e = record { line = e.text; deed = deed.Applied e.slot e.drawn }
 
-abbrev pub declaring : Bytes → Act
+abbrev pub declaring : Bytes → LineDeed
 declaring text = record { line = text; deed = deed.Declared }
 
--- those of a network, of a slot of one, and all others
+-- it is one of a network, or of a slot
 abbrev pub is_of_network : ℕ → AppliedLine → Bool
 is_of_network g e = e.network == g
 
 abbrev pub is_at_slot : ℕ → AppliedLine → Bool
 is_at_slot i e = e.slot == i
 
+-- the lines of a network, and all others
 abbrev pub of_network : ℕ → List AppliedLine → List AppliedLine
 of_network g es = filter (is_of_network g) es
 
 abbrev pub but_of_network : ℕ → List AppliedLine → List AppliedLine
 but_of_network g es = filter (λ e. not (is_of_network g e)) es
 
-abbrev pub at_slot : ℕ → List AppliedLine → List AppliedLine
-at_slot i es = filter (is_at_slot i) es
+-- the lines of a slot, and all others
+abbrev pub lines_at_slot : ℕ → List AppliedLine → List AppliedLine
+lines_at_slot i es = filter (is_at_slot i) es
 
 abbrev pub but_at_slot : ℕ → List AppliedLine → List AppliedLine
 but_at_slot i es = filter (λ e. not (is_at_slot i e)) es
 
--- of those of all networks without those at a slot of one
+-- the lines of all networks, without those at a slot of one
 abbrev pub but_there : ℕ → ℕ → List AppliedLine → List AppliedLine
 but_there g i es = filter (λ e. not (is_of_network g e && is_at_slot i e)) es
 
@@ -145,15 +140,15 @@ slot_lines es = noted_behind None es
 
 -- ---- lines that were applied, with memory
 -- the line asks for this of the network of a number: whoever answers this answers the line
-abbrev pub AsksOf : ℕ → ℕ → Bytes → Ask → Type 0
-AsksOf longest g line asked =
-    (n : ℕ) (old new : Live) (a : Reply) → IsAnswer n g asked old a new → Serves old n (given longest line) a new
+abbrev pub LineAsks : ℕ → ℕ → Bytes → Ask → Type 0
+LineAsks longest g line asked =
+    (n : ℕ) (old new : Live) (a : LineReply) → IsAskAnswered n g asked old a new → Serves old n (given longest line) a new
 
 -- A line that was applied asks for what a network serves, an event or bytes for each node, and it did what came of that.
 pub data IsAskedBy (longest g : ℕ) (e : AppliedLine) : Line → Type 0 where
-  asks_event : (x : Event) (s : Served) (d : Drawn) → AsksOf longest g e.text (ask.Serve x)
+  asks_event : (x : Event) (s : Served) (d : Drawn) → LineAsks longest g e.text (ask.Serve x)
       → deed_of x s d ≡ deed.Applied e.slot e.drawn → IsAskedBy longest g e (OfEvent (step_of x) s d)
-  asks_for_all : (bytes : Bytes) (answers : List NodeAnswer) (d : Drawn) → AsksOf longest g e.text (ask.ForAll bytes)
+  asks_for_all : (bytes : Bytes) (answers : List NodeAnswer) (d : Drawn) → LineAsks longest g e.text (ask.ForAll bytes)
       → deed_of_all (slot_of_answers answers) d ≡ deed.Applied e.slot e.drawn
       → IsAskedBy longest g e (OfBytes bytes answers d)
 
@@ -161,7 +156,7 @@ pub data IsAskedBy (longest g : ℕ) (e : AppliedLine) : Line → Type 0 where
 pub record IsServedFor (longest g : ℕ) (e : AppliedLine) (l : Line) : Type 0 where
   pub asked : IsAskedBy longest g e l
   pub at : (i : ℕ) → is_line_at i l ≡ is_at_slot i e
-  pub kept : IsLineKept l
+  pub kept : IsLineErasable l
 
 -- each of them
 pub data AreServedFor (longest g : ℕ) : List AppliedLine → List Line → Type 0 where
@@ -173,7 +168,7 @@ pub data AreServedFor (longest g : ℕ) : List AppliedLine → List Line → Typ
 pub record AreApplied (longest g : ℕ) (m : Machine) (es : List AppliedLine) (after : Machine) : Type 0 where
   pub lines : List Line
   pub served : AreServedFor longest g es lines
-  pub run : AreRun m lines after
+  pub run : AreServedInTurn m lines after
 
 -- what these lines drew, and so much more
 abbrev pub all_drawn : List AppliedLine → Drawn → Drawn
@@ -210,11 +205,11 @@ applied_behind n text g deed.Dropped es = but_of_network g es
 pub record AreNumbered (net : NetworkLines) (ds : List (ℕ × Declaration)) (es : List AppliedLine) : Type 0 where
   pub declared : net.declared ≡ map declared_number ds
   pub ascend : AreFrom 0 net.slots
-  pub slots : (i : ℕ) → value_at net.slots i ≡ slot_lines (at_slot i es)
+  pub slots : (i : ℕ) → entry_at net.slots i ≡ slot_lines (lines_at_slot i es)
 
-abbrev pub AreNoted : Option NetworkLines → List (ℕ × Declaration) → List AppliedLine → Type 0
-AreNoted None ds es = (ds ≡ []) × (es ≡ [])
-AreNoted (Some net) ds es = AreNumbered net ds es
+abbrev pub AreLinesNoted : Option NetworkLines → List (ℕ × Declaration) → List AppliedLine → Type 0
+AreLinesNoted None ds es = (ds ≡ []) × (es ≡ [])
+AreLinesNoted (Some net) ds es = AreNumbered net ds es
 
 abbrev pub AreSmall : Option (List ℕ × Shares) → Type 0
 AreSmall None = Unit {0}
@@ -235,7 +230,7 @@ IsSmallDeclaration (declaration.Roster r) = r.shares.opens < 2 ^ 64
 -- what a line declares has budgets, and openings and closings, below 2^64
 abbrev pub DeclarationsAreSmall : Type 0
 DeclarationsAreSmall =
-    (fields : List Bytes) (g : ℕ) (d : DeclarationOf) → IsAsked fields (Some (g, ask.Declare d)) → IsSmallDeclaration d
+    (fields : List Bytes) (g : ℕ) (d : DeclarationOf) → IsAskedOf fields (Some (g, ask.Declare d)) → IsSmallDeclaration d
 
 -- its declarations lead to one that waits, of which no line is known yet that concerns a slot
 pub record IsUnnamed (longest : ℕ) (bytes : Bool) (g : ℕ) (lost : Drawn) (ds : List (ℕ × Declaration))
@@ -245,16 +240,16 @@ pub record IsUnnamed (longest : ℕ) (bytes : Bool) (g : ℕ) (lost : Drawn) (ds
   pub declared : DoAll longest g (new_live bytes) (map declaring (map declared_text ds)) own
   pub none_applied : es ≡ []
   pub none_lost : lost ≡ nothing_drawn
-  pub is : own ≡ one_waits bytes g outlined
+  pub is : own ≡ waits_alone bytes g outlined
 
 -- Its declarations lead to one that waits. With budgets that are less by what was lost it begins, and the lines of its open
 -- slots lead to one that is alike.
-pub record IsNamed (longest : ℕ) (bytes : Bool) (g : ℕ) (lost : Drawn) (ds : List (ℕ × Declaration))
+pub record IsNamedNetwork (longest : ℕ) (bytes : Bool) (g : ℕ) (lost : Drawn) (ds : List (ℕ × Declaration))
     (es : List AppliedLine) (own : Live) : Type 0 where
   pub outlined : Outlined
   pub small : IsSmall outlined
   pub declared :
-      DoAll longest g (new_live bytes) (map declaring (map declared_text ds)) (one_waits bytes g outlined)
+      DoAll longest g (new_live bytes) (map declaring (map declared_text ds)) (waits_alone bytes g outlined)
   pub config : Config
   pub rest : Config
   pub is_config : IsConfigOf g outlined config
@@ -263,11 +258,11 @@ pub record IsNamed (longest : ℕ) (bytes : Bool) (g : ℕ) (lost : Drawn) (ds :
   pub left : Machine
   pub applied : AreApplied longest g (begun rest) es left
   pub alike : IsAlike machine left
-  pub is : own ≡ one_runs bytes g machine
+  pub is : own ≡ runs_alone bytes g machine
 
 abbrev pub IsMadeAs : Bool → ℕ → Bool → ℕ → Drawn → List (ℕ × Declaration) → List AppliedLine → Live → Type 0
 IsMadeAs false longest bytes g lost ds es own = IsUnnamed longest bytes g lost ds es own
-IsMadeAs true longest bytes g lost ds es own = IsNamed longest bytes g lost ds es own
+IsMadeAs true longest bytes g lost ds es own = IsNamedNetwork longest bytes g lost ds es own
 
 -- a network is what its lines that last make of it
 abbrev pub IsMade : ℕ → Bool → ℕ → Option NetworkLines → List (ℕ × Declaration) → List AppliedLine → Live → Type 0
@@ -276,22 +271,22 @@ IsMade longest bytes g (Some net) ds es own = IsMadeAs net.is_named longest byte
 
 -- ---- what is known of a host
 -- the numbers ascend, the first of them from this one on, and are below that one
-abbrev pub AreWithin : {X : Type 0} → ℕ → ℕ → List (ℕ × X) → Type 0
-AreWithin k n [] = k ≤ n
-AreWithin k n (e ∷ es) = (k ≤ e.0) × AreWithin (e.0 + 1) n es
+abbrev pub AscendWithin : {X : Type 0} → ℕ → ℕ → List (ℕ × X) → Type 0
+AscendWithin k n [] = k ≤ n
+AscendWithin k n (e ∷ es) = (k ≤ e.0) × AscendWithin (e.0 + 1) n es
 
--- of the lines that last of those before this number, and of the host
-pub record IsKnown (longest : ℕ) (bytes : Bool) (n : ℕ) (l : Live) (lines : Lines) : Type 0 where
+-- what is known, before the line of this number, of the lines that last and of the host
+pub record AreLinesKnown (longest : ℕ) (bytes : Bool) (n : ℕ) (l : Live) (lines : Lines) : Type 0 where
   pub applied : List AppliedLine
   pub events : lines.lasting.events ≡ map pair_of applied
-  pub events_ascend : AreWithin 0 n lines.lasting.events
-  pub declarations_ascend : AreWithin 0 n lines.lasting.declarations
+  pub events_ascend : AscendWithin 0 n lines.lasting.events
+  pub declarations_ascend : AscendWithin 0 n lines.lasting.declarations
   pub networks_ascend : AreFrom 0 lines.networks
   pub ordered : IsOrdered l
   pub few : length lines.networks ≤ 4096
   pub bytes_stay : l.bytes ≡ bytes
-  pub noted : (g : ℕ) → AreNoted (value_at lines.networks g) (declarations_of g lines.lasting.declarations) (of_network g applied)
-  pub made : (g : ℕ) → IsMade longest bytes g (value_at lines.networks g) (declarations_of g lines.lasting.declarations)
+  pub noted : (g : ℕ) → AreLinesNoted (entry_at lines.networks g) (declarations_of g lines.lasting.declarations) (of_network g applied)
+  pub made : (g : ℕ) → IsMade longest bytes g (entry_at lines.networks g) (declarations_of g lines.lasting.declarations)
       (of_network g applied) (alone g l)
 
 -- ---- laws of one network
@@ -299,9 +294,9 @@ pub record IsKnown (longest : ℕ) (bytes : Bool) (n : ℕ) (l : Live) (lines : 
 abbrev pub NetworksAreMade : Type 0
 NetworksAreMade =
     (longest : ℕ) (bytes : Bool) (g n : ℕ) (line text : Bytes) (d : Deed) (net : Option NetworkLines)
-    (ds : List (ℕ × Declaration)) (es : List AppliedLine) (old new : Live) → AreNoted net ds es
+    (ds : List (ℕ × Declaration)) (es : List AppliedLine) (old new : Live) → AreLinesNoted net ds es
     → of_network g es ≡ es → IsMade longest bytes g net ds es old
-    → Remembers old n (given longest line) (record { text = text; done = Some (done_by g d) }) new
+    → Remembers old n (given longest line) (record { text = text; done = Some (done_as g d) }) new
     → IsMade longest bytes g (network_behind n d net) (declarations_behind n line g d ds) (applied_behind n line g d es) new
 
 -- ---- laws of lines
@@ -311,9 +306,9 @@ abbrev pub SlotsMayBeErased : Type 0
 SlotsMayBeErased =
     (longest : ℕ) (bytes : Bool) (g n i : ℕ) (line text : Bytes) (d : Drawn) (c : Config) (es : List AppliedLine)
     (m after : Machine) → AreApplied longest g (begun c) es m
-    → Serves (one_runs bytes g m) n (given longest line)
-    (record { text = text; done = Some (done_by g (deed.Closed i d)) }) (one_runs bytes g after)
-    → (rest : Config) × (left : Machine) × (c ≡ moved_config (all_drawn (at_slot i es) d) rest)
+    → Serves (runs_alone bytes g m) n (given longest line)
+    (record { text = text; done = Some (done_as g (deed.Closed i d)) }) (runs_alone bytes g after)
+    → (rest : Config) × (left : Machine) × (c ≡ moved_config (all_drawn (lines_at_slot i es) d) rest)
     × AreApplied longest g (begun rest) (but_at_slot i es) left × IsAlike after left
 
 -- An event that is refused changes nothing that matters: where the lines of open slots led to a network that is alike, they
@@ -322,16 +317,16 @@ abbrev pub RefusedLinesStayAlike : Type 0
 RefusedLinesStayAlike =
     (longest : ℕ) (bytes : Bool) (g n : ℕ) (line text : Bytes) (c : Config) (es : List AppliedLine)
     (m after left : Machine) → AreApplied longest g (begun c) es left → IsAlike m left
-    → Serves (one_runs bytes g m) n (given longest line) (record { text = text; done = Some (done_by g deed.Refused) })
-    (one_runs bytes g after)
+    → Serves (runs_alone bytes g m) n (given longest line) (record { text = text; done = Some (done_as g deed.Refused) })
+    (runs_alone bytes g after)
     → (next : Machine) × AreApplied longest g (begun c) es next × IsAlike after next
 
 -- Lines that declare a network declare it with budgets that are less, if these are.
 abbrev pub DeclarationsMayBeLowered : Type 0
 DeclarationsMayBeLowered =
     (longest : ℕ) (bytes : Bool) (g : ℕ) (texts : List Bytes) (d : Drawn) (o : Outlined)
-    → DoAll longest g (new_live bytes) (map declaring texts) (one_waits bytes g o)
-    → DoAll longest g (new_live bytes) (map declaring (map (lowered d) texts)) (one_waits bytes g (less_outline d o))
+    → DoAll longest g (new_live bytes) (map declaring texts) (waits_alone bytes g o)
+    → DoAll longest g (new_live bytes) (map declaring (map (lowered d) texts)) (waits_alone bytes g (less_outline d o))
 
 -- `close N 0`
 abbrev pub naming_line : ℕ → Bytes
@@ -341,15 +336,15 @@ naming_line g = codes "close " ++ (decimal g ++ 32 ∷ 48 ∷ [])
 abbrev pub NamingLinesBegin : Type 0
 NamingLinesBegin =
     (longest : ℕ) → 32 ≤ longest → (bytes : Bool) (g : ℕ) (texts : List Bytes) (o : Outlined) (c : Config)
-    → DoAll longest g (new_live bytes) (map declaring texts) (one_waits bytes g o) → IsConfigOf g o c
+    → DoAll longest g (new_live bytes) (map declaring texts) (waits_alone bytes g o) → IsConfigOf g o c
     → (text : Bytes)
-    × Serves (one_waits bytes g o) 1 (given longest (naming_line g))
-    (record { text = text; done = Some (done_by g deed.Refused) }) (one_runs bytes g (begun c))
+    × Serves (waits_alone bytes g o) 1 (given longest (naming_line g))
+    (record { text = text; done = Some (done_as g deed.Refused) }) (runs_alone bytes g (begun c))
 
 -- ---- the shorter journal
 -- its lines, each behind the number of its network
 abbrev pub declared_tag : List (ℕ × NetworkLines) → (ℕ × Declaration) → ℕ × Bytes
-declared_tag networks e = (e.1.network, lowered (lost_at (value_at networks e.1.network)) e.1.text)
+declared_tag networks e = (e.1.network, lowered (lost_at (entry_at networks e.1.network)) e.1.text)
 
 abbrev pub naming_tags : List (ℕ × NetworkLines) → List (ℕ × Bytes)
 naming_tags [] = []

@@ -11,11 +11,11 @@ use Rattle.protocol.specs.Networks.Reading.{Fault, Read}
 use Rattle.protocol.specs.Networks.Reply.{Done, Refused}
 use Rattle.protocol.specs.Networks.Step.{BallotTimerFires, Closes, Delivers, Hears, NominationTimerFires, Opens, Proposes, Reslices}
 use Rattle.protocol.specs.Rosters.{Draw, Roster}
-use Rattle.live.specs.Serving.{Ending, IsServed, Telling}
+use Rattle.live.specs.Serving.{Ending, IsServed, ToldReply}
 use Rattle.live.specs.Serving.Ending.{IsDone, IsRefused}
 use Rattle.configuration.specs.Configs.{names_of}
 use Rattle.network.specs.Decoding.{reading}
-use Rattle.network.specs.Lodgings.{Seats, slot_of}
+use Rattle.network.specs.FiledSlots.{CountedSlot, slot_of}
 use Rattle.network.specs.Standing.{IsStood, Machine, StandsFor}
 use Rattle.live.specs.Telling.{IsServedBy, tellings_of}
 use Rattle.live.specs.declared.served.Served.{Served}
@@ -27,8 +27,8 @@ use Rattle.serving.specs.declared.all.NodeAnswer.{NodeAnswer}
 
 -- ---- what is drawn
 -- what both come to
-abbrev pub both : Drawn → Drawn → Drawn
-both d e = record { events = d.events + e.events; bytes = d.bytes + e.bytes; opens = d.opens + e.opens }
+abbrev pub both_amounts : Drawn → Drawn → Drawn
+both_amounts d e = record { events = d.events + e.events; bytes = d.bytes + e.bytes; opens = d.opens + e.opens }
 
 -- what was drawn between two states of a network
 abbrev pub drawn_in : Net → Net → Drawn
@@ -43,7 +43,7 @@ HasOpensFor n None = Unit {0}
 HasOpensFor n (Some r) = n ≤ r.shares.opens
 
 -- the network has room for so much more
-pub record HasRoomFor (d : Drawn) (net : Net) : Type 0 where
+pub record HasRoomForMore (d : Drawn) (net : Net) : Type 0 where
   pub events : net.events + d.events ≤ net.budgets.events
   pub bytes : net.bytes + d.bytes ≤ net.budgets.bytes
   pub opens : HasOpensFor (net.opens + d.opens) net.roster
@@ -57,7 +57,7 @@ slots_but i slots = filter (λ s. not (s.number == i)) slots
 abbrev pub draws_but : ℕ → List Draw → List Draw
 draws_but i draws = filter (λ d. not (d.slot == i)) draws
 
--- The slot of a number is erased, at which so much was drawn, and so much is drawn yet: what is left has the other slots,
+-- The slot of a number is erased, at which so much was drawn, and so much is still to be drawn: what is left has the other slots,
 -- and what was drawn on their shares. It counts less by what was drawn at the slot, and its budgets are less by what is
 -- drawn there in all.
 pub record IsErased (i : ℕ) (rest lost : Drawn) (net left : Net) : Type 0 where
@@ -65,8 +65,8 @@ pub record IsErased (i : ℕ) (rest lost : Drawn) (net left : Net) : Type 0 wher
   pub nodes : left.nodes ≡ net.nodes
   pub slots : left.slots ≡ slots_but i net.slots
   pub draws : draws_but i left.draws ≡ draws_but i net.draws
-  pub budgets : net.budgets ≡ moved_budgets (both lost rest) left.budgets
-  pub roster : net.roster ≡ option_map (moved_roster (both lost rest)) left.roster
+  pub budgets : net.budgets ≡ moved_budgets (both_amounts lost rest) left.budgets
+  pub roster : net.roster ≡ option_map (moved_roster (both_amounts lost rest)) left.roster
   pub events : net.events ≡ left.events + lost.events
   pub bytes : net.bytes ≡ left.bytes + lost.bytes
   pub opens : net.opens ≡ left.opens + lost.opens
@@ -93,11 +93,11 @@ opens_slot (Opens i) = true
 opens_slot _ = false
 
 -- A step at another slot that is done is done where one slot is left out too, if there is room afterwards for all that
--- is drawn yet.
+-- is still to be drawn.
 abbrev pub ErasedNetsStepAlike : Type 0
 ErasedNetsStepAlike =
     (i : ℕ) (rest lost : Drawn) (net left : Net) (e : Step) (os : List Out) → IsErased i rest lost net left
-    → is_step_at i e ≡ false → (net_step net e).1 ≡ Done os → HasRoomFor rest (net_step net e).0
+    → is_step_at i e ≡ false → (net_step net e).1 ≡ Done os → HasRoomForMore rest (net_step net e).0
     → ((net_step left e).1 ≡ Done os) × IsErased i rest lost (net_step net e).0 (net_step left e).0
 
 -- a step that is refused is refused where one slot is left out too, if not always for the same reason; but for an
@@ -112,46 +112,46 @@ ErasedNetsRefuseAlike =
 abbrev pub StepsThereAreErased : Type 0
 StepsThereAreErased =
     (i : ℕ) (rest lost : Drawn) (net left : Net) (e : Step) → is_step_at i e ≡ true
-    → IsErased i (both (drawn_in net (net_step net e).0) rest) lost net left
-    → IsErased i rest (both lost (drawn_in net (net_step net e).0)) (net_step net e).0 left
+    → IsErased i (both_amounts (drawn_in net (net_step net e).0) rest) lost net left
+    → IsErased i rest (both_amounts lost (drawn_in net (net_step net e).0)) (net_step net e).0 left
 
 -- ---- events that are served
 -- the same is told; but where memory was wanting, a step may be refused for another reason
-pub data AreToldAs : List Telling → List Telling → Type 0 where
+pub data AreToldAs : List ToldReply → List ToldReply → Type 0 where
   none_told : AreToldAs [] []
-  told_so : {ts ss : List Telling} (t : Telling) → AreToldAs ts ss → AreToldAs (t ∷ ts) (t ∷ ss)
-  wanting_so : {ts ss : List Telling} (u : ℕ) (r : Refusal) → AreToldAs ts ss
+  told_so : {ts ss : List ToldReply} (t : ToldReply) → AreToldAs ts ss → AreToldAs (t ∷ ts) (t ∷ ss)
+  wanting_so : {ts ss : List ToldReply} (u : ℕ) (r : Refusal) → AreToldAs ts ss
       → AreToldAs (record { node = u; reply = Refused NoMemory } ∷ ts) (record { node = u; reply = Refused r } ∷ ss)
 
 -- An event at another slot that is done, with all that the others hear of it, is done where one slot is left out too,
--- if there is room afterwards for all that is drawn yet.
+-- if there is room afterwards for all that is still to be drawn.
 abbrev pub ErasedNetsServeAlike : Type 0
 ErasedNetsServeAlike =
-    (i : ℕ) (rest lost : Drawn) (net left : Net) (e : Step) (stale : Bool) (told : List Telling) (after : Net)
+    (i : ℕ) (rest lost : Drawn) (net left : Net) (e : Step) (stale : Bool) (told : List ToldReply) (after : Net)
     → IsErased i rest lost net left → is_step_at i e ≡ false → IsServed net e (IsDone stale) told after
-    → HasRoomFor rest after
-    → (told_too : List Telling) × (after_too : Net) × AreToldAs told told_too × IsServed left e (IsDone stale) told_too after_too
+    → HasRoomForMore rest after
+    → (told_too : List ToldReply) × (after_too : Net) × AreToldAs told told_too × IsServed left e (IsDone stale) told_too after_too
     × IsErased i rest lost after after_too
 
 -- an event that is refused is refused where one slot is left out too, if not always for the same reason; but for an
 -- opening
 abbrev pub ErasedNetsRefuseEventsAlike : Type 0
 ErasedNetsRefuseEventsAlike =
-    (i : ℕ) (rest lost : Drawn) (net left : Net) (e : Step) (r : Refusal) (told : List Telling) (after : Net)
+    (i : ℕ) (rest lost : Drawn) (net left : Net) (e : Step) (r : Refusal) (told : List ToldReply) (after : Net)
     → IsErased i rest lost net left → is_step_at i e ≡ false → opens_slot e ≡ false → IsServed net e (IsRefused r) told after
     → (after ≡ net) × (told ≡ []) × ((other : Refusal) × IsServed left e (IsRefused other) [] left)
 
 -- An event at the slot changes nothing of what is left, and what it draws is drawn no more.
 abbrev pub EventsThereAreErased : Type 0
 EventsThereAreErased =
-    (i : ℕ) (rest lost : Drawn) (net left : Net) (e : Step) (ending : Ending) (told : List Telling) (after : Net)
-    → is_step_at i e ≡ true → IsServed net e ending told after → IsErased i (both (drawn_in net after) rest) lost net left
-    → IsErased i rest (both lost (drawn_in net after)) after left
+    (i : ℕ) (rest lost : Drawn) (net left : Net) (e : Step) (ending : Ending) (told : List ToldReply) (after : Net)
+    → is_step_at i e ≡ true → IsServed net e ending told after → IsErased i (both_amounts (drawn_in net after) rest) lost net left
+    → IsErased i rest (both_amounts lost (drawn_in net after)) after left
 
 -- ---- machines
 -- all slots but that of a number, as the host keeps them
-abbrev pub seats_but : ℕ → List Seats → List Seats
-seats_but i slots = filter (λ s. not (s.number == i)) slots
+abbrev pub counted_slots_but : ℕ → List CountedSlot → List CountedSlot
+counted_slots_but i slots = filter (λ s. not (s.number == i)) slots
 
 -- the network has room for so much more
 pub record HasRoomBy (d : Drawn) (m : Machine) : Type 0 where
@@ -159,13 +159,13 @@ pub record HasRoomBy (d : Drawn) (m : Machine) : Type 0 where
   pub bytes : m.bytes + d.bytes ≤ m.config.budgets.bytes
   pub opens : HasOpensFor (m.opens + d.opens) m.config.roster
 
--- the slot of a number is erased, at which so much was drawn, and so much is drawn yet
+-- the slot of a number is erased, at which so much was drawn, and so much is still to be drawn
 pub record IsErasedBy (i : ℕ) (rest lost : Drawn) (m left : Machine) : Type 0 where
   pub number : left.config.number ≡ m.config.number
   pub nodes : left.config.nodes ≡ m.config.nodes
-  pub slots : left.slots ≡ seats_but i m.slots
-  pub budgets : m.config.budgets ≡ moved_budgets (both lost rest) left.config.budgets
-  pub roster : m.config.roster ≡ option_map (moved_roster (both lost rest)) left.config.roster
+  pub slots : left.slots ≡ counted_slots_but i m.slots
+  pub budgets : m.config.budgets ≡ moved_budgets (both_amounts lost rest) left.config.budgets
+  pub roster : m.config.roster ≡ option_map (moved_roster (both_amounts lost rest)) left.config.roster
   pub events : m.events ≡ left.events + lost.events
   pub bytes : m.bytes ≡ left.bytes + lost.bytes
   pub opens : m.opens ≡ left.opens + lost.opens
@@ -175,17 +175,17 @@ abbrev pub StandsAsWell : Machine → Machine → Type 0
 StandsAsWell m n = (net : Net) → StandsFor m net → StandsFor n net
 
 -- nothing was refused for want of memory
-abbrev pub IsEnough : Telling → Type 0
+abbrev pub IsEnough : ToldReply → Type 0
 IsEnough t = t.reply ≡ Refused NoMemory → ⊥
 
-pub record HadMemory (s : Served) : Type 0 where
+pub record HadMemoryToServe (s : Served) : Type 0 where
   pub refused : s.refused ≡ Some NoMemory → ⊥
   pub told : AllByRecursion IsEnough (tellings_of s.told.items)
 
--- an opening was not refused
-abbrev pub IsKept : Step → Served → Type 0
-IsKept (Opens i) s = s.refused ≡ None
-IsKept _ s = Unit {0}
+-- it is no opening that was refused
+abbrev pub IsNoRefusedOpening : Step → Served → Type 0
+IsNoRefusedOpening (Opens i) s = s.refused ≡ None
+IsNoRefusedOpening _ s = Unit {0}
 
 -- the same came of it, or it was refused for another reason, and not for want of memory
 abbrev pub CameAs : Served → Served → Type 0
@@ -195,12 +195,12 @@ CameAs s t =
     × (t ≡ record s { refused = Some other }))
 
 -- An event at another slot comes to the same where one slot is left out, if memory sufficed, and there is room
--- afterwards for all that is drawn yet.
+-- afterwards for all that is still to be drawn.
 abbrev pub ErasedMachinesServeAlike : Type 0
 ErasedMachinesServeAlike =
     (i : ℕ) (rest lost : Drawn) (m left : Machine) (e : Step) (after : Machine) (s : Served)
     → IsStood m → IsErasedBy i rest lost m left → is_step_at i e ≡ false → IsServedBy m e after s
-    → IsKept e s → HadMemory s → HasRoomBy rest after
+    → IsNoRefusedOpening e s → HadMemoryToServe s → HasRoomBy rest after
     → (after_too : Machine) × (t : Served) × IsStood after × IsErasedBy i rest lost after after_too × CameAs s t
     × IsServedBy left e after_too t
 
@@ -209,9 +209,9 @@ ErasedMachinesServeAlike =
 abbrev pub MachineEventsThereAreErased : Type 0
 MachineEventsThereAreErased =
     (i : ℕ) (rest lost : Drawn) (m left : Machine) (e : Step) (after : Machine) (s : Served)
-    → IsStood m → is_step_at i e ≡ true → IsServedBy m e after s → IsErasedBy i (both (drawn m after) rest) lost m left
+    → IsStood m → is_step_at i e ≡ true → IsServedBy m e after s → IsErasedBy i (both_amounts (drawn m after) rest) lost m left
     → (left_too : Machine) × (left_too.config ≡ left.config) × IsStood after
-    × IsErasedBy i rest (both lost (drawn m after)) after left_too × StandsAsWell left left_too
+    × IsErasedBy i rest (both_amounts lost (drawn m after)) after left_too × StandsAsWell left left_too
 
 -- ---- bytes for all nodes
 -- the same came of each, or it was refused for another reason
@@ -225,7 +225,7 @@ abbrev pub ErasedMachinesServeAllAlike : Type 0
 ErasedMachinesServeAllAlike =
     (i : ℕ) (rest lost : Drawn) (m left : Machine) (bytes : Bytes) (us : List ℕ) (answers : List NodeAnswer)
     (after : Machine) → IsStood m → IsErasedBy i rest lost m left → is_reading_at i (reading bytes) ≡ false
-    → AreServed bytes us m answers after → AllByRecursion (λ a. HadMemory a.served) answers → HasRoomBy rest after
+    → AreServed bytes us m answers after → AllByRecursion (λ a. HadMemoryToServe a.served) answers → HasRoomBy rest after
     → (after_too : Machine) × (answers_too : List NodeAnswer) × IsStood after × IsErasedBy i rest lost after after_too
     × CameAllAs answers answers_too × AreServed bytes us left answers_too after_too
 
@@ -234,9 +234,9 @@ abbrev pub AllMachineEventsThereAreErased : Type 0
 AllMachineEventsThereAreErased =
     (i : ℕ) (rest lost : Drawn) (m left : Machine) (bytes : Bytes) (us : List ℕ) (answers : List NodeAnswer)
     (after : Machine) → IsStood m → is_reading_at i (reading bytes) ≡ true → AreServed bytes us m answers after
-    → IsErasedBy i (both (drawn m after) rest) lost m left
+    → IsErasedBy i (both_amounts (drawn m after) rest) lost m left
     → (left_too : Machine) × (left_too.config ≡ left.config) × IsStood after
-    × IsErasedBy i rest (both lost (drawn m after)) after left_too × StandsAsWell left left_too
+    × IsErasedBy i rest (both_amounts lost (drawn m after)) after left_too × StandsAsWell left left_too
 
 -- ---- runs
 -- a line that a network serves, with what came of it and how much it drew: an event, or bytes that come to each of its
@@ -251,10 +251,10 @@ IsLine (OfBytes bytes answers d) m after =
     AreServed bytes (names_of m.config.nodes) m answers after × (drawn m after ≡ d)
 
 -- lines are served, one after the other
-pub data AreRun : Machine → List Line → Machine → Type 0 where
-  ended : {m : Machine} → AreRun m [] m
+pub data AreServedInTurn : Machine → List Line → Machine → Type 0 where
+  ended : {m : Machine} → AreServedInTurn m [] m
   goes_on : {m now after : Machine} {lines : List Line} (l : Line)
-      → IsLine l m now → AreRun now lines after → AreRun m (l ∷ lines) after
+      → IsLine l m now → AreServedInTurn now lines after → AreServedInTurn m (l ∷ lines) after
 
 -- a line is one of the slot of a number
 abbrev pub is_line_at : ℕ → Line → Bool
@@ -262,9 +262,9 @@ is_line_at i (OfEvent e s d) = is_step_at i e
 is_line_at i (OfBytes bytes answers d) = is_reading_at i (reading bytes)
 
 -- memory sufficed for a line, and it is no opening that was refused
-abbrev pub IsLineKept : Line → Type 0
-IsLineKept (OfEvent e s d) = IsKept e s × HadMemory s
-IsLineKept (OfBytes bytes answers d) = AllByRecursion (λ a. HadMemory a.served) answers
+abbrev pub IsLineErasable : Line → Type 0
+IsLineErasable (OfEvent e s d) = IsNoRefusedOpening e s × HadMemoryToServe s
+IsLineErasable (OfBytes bytes answers d) = AllByRecursion (λ a. HadMemoryToServe a.served) answers
 
 abbrev pub none_drawn : Drawn
 none_drawn = record { events = 0; bytes = 0; opens = 0 }
@@ -275,9 +275,9 @@ drawn_by (OfEvent e s d) = d
 drawn_by (OfBytes bytes answers d) = d
 
 -- how much all lines of a slot drew
-abbrev pub drawn_at : ℕ → List Line → Drawn
-drawn_at i [] = none_drawn
-drawn_at i (l ∷ lines) = if is_line_at i l then both (drawn_by l) (drawn_at i lines) else drawn_at i lines
+abbrev pub drawn_at_slot : ℕ → List Line → Drawn
+drawn_at_slot i [] = none_drawn
+drawn_at_slot i (l ∷ lines) = if is_line_at i l then both_amounts (drawn_by l) (drawn_at_slot i lines) else drawn_at_slot i lines
 
 -- the same line, of which the same came, and which drew as much
 abbrev pub IsSameLine : Line → Line → Type 0
@@ -299,22 +299,22 @@ pub data AreOthers (i : ℕ) : List Line → List Line → Type 0 where
 -- with so much less declared and used up.
 abbrev pub ClosedSlotsAreErased : Type 0
 ClosedSlotsAreErased =
-    (i : ℕ) (c : Config) (lines : List Line) (m : Machine) → AreRun (begun c) lines m
-    → AllByRecursion (λ l. is_line_at i l ≡ false → IsLineKept l) lines → instances_at (map slot_of m.slots) i ≡ None
-    → (less : Config) × (others : List Line) × (left : Machine) × (c ≡ moved_config (drawn_at i lines) less)
-    × AreOthers i lines others × AreRun (begun less) others left × IsStood left × (m ≡ moved (drawn_at i lines) left)
-    × AllByRecursion IsLineKept others
+    (i : ℕ) (c : Config) (lines : List Line) (m : Machine) → AreServedInTurn (begun c) lines m
+    → AllByRecursion (λ l. is_line_at i l ≡ false → IsLineErasable l) lines → instances_at (map slot_of m.slots) i ≡ None
+    → (less : Config) × (others : List Line) × (left : Machine) × (c ≡ moved_config (drawn_at_slot i lines) less)
+    × AreOthers i lines others × AreServedInTurn (begun less) others left × IsStood left × (m ≡ moved (drawn_at_slot i lines) left)
+    × AllByRecursion IsLineErasable others
 
 -- what lines of another slot drew they draw without those of the slot
 abbrev pub OthersDrawAsMuch : Type 0
 OthersDrawAsMuch =
-    (i k : ℕ) (lines others : List Line) → (i == k) ≡ false → AreOthers i lines others → drawn_at k others ≡ drawn_at k lines
+    (i k : ℕ) (lines others : List Line) → (i == k) ≡ false → AreOthers i lines others → drawn_at_slot k others ≡ drawn_at_slot k lines
 
 -- ---- several slots
 -- these are all different
-abbrev pub AreApart : List ℕ → Type 0
-AreApart [] = Unit {0}
-AreApart (i ∷ slots) = AllByRecursion (λ k. (i == k) ≡ false) slots × AreApart slots
+abbrev pub AreAllDifferent : List ℕ → Type 0
+AreAllDifferent [] = Unit {0}
+AreAllDifferent (i ∷ slots) = AllByRecursion (λ k. (i == k) ≡ false) slots × AreAllDifferent slots
 
 -- the lines but those of these slots, which go one after the other
 pub data AreOthersOf : List ℕ → List Line → List Line → Type 0 where
@@ -325,13 +325,13 @@ pub data AreOthersOf : List ℕ → List Line → List Line → Type 0 where
 -- how much all lines of these slots drew
 abbrev pub drawn_of : List ℕ → List Line → Drawn
 drawn_of [] lines = none_drawn
-drawn_of (i ∷ slots) lines = both (drawn_of slots lines) (drawn_at i lines)
+drawn_of (i ∷ slots) lines = both_amounts (drawn_of slots lines) (drawn_at_slot i lines)
 
 -- the lines of several slots may be left out, if none of them is open at the end
 abbrev pub AllClosedSlotsAreErased : Type 0
 AllClosedSlotsAreErased =
-    (slots : List ℕ) (c : Config) (lines : List Line) (m : Machine) → AreApart slots → AreRun (begun c) lines m
-    → AllByRecursion IsLineKept lines → AllByRecursion (λ i. instances_at (map slot_of m.slots) i ≡ None) slots
+    (slots : List ℕ) (c : Config) (lines : List Line) (m : Machine) → AreAllDifferent slots → AreServedInTurn (begun c) lines m
+    → AllByRecursion IsLineErasable lines → AllByRecursion (λ i. instances_at (map slot_of m.slots) i ≡ None) slots
     → (less : Config) × (others : List Line) × (left : Machine) × (c ≡ moved_config (drawn_of slots lines) less)
-    × AreOthersOf slots lines others × AreRun (begun less) others left × IsStood left
+    × AreOthersOf slots lines others × AreServedInTurn (begun less) others left × IsStood left
     × (m ≡ moved (drawn_of slots lines) left)

@@ -8,7 +8,7 @@ use Rattle.protocol.specs.Networks.{Budgets, Net, Step, net_step}
 use Rattle.protocol.specs.Rosters.{Roster, Shares}
 use Rattle.network.specs.Standing.{IsStood, Machine}
 use Rattle.scripts.specs.Script.{Bytes}
-use Rattle.feed.specs.Served.{Reply, Serves as ServesAll}
+use Rattle.feed.specs.Served.{LineReply, ServesAll}
 use Rattle.feed.specs.declared.answering.Drawn.{Drawn}
 use Rattle.live.specs.Telling.{IsServedBy}
 use Rattle.live.specs.declared.served.Served.{Served}
@@ -94,7 +94,7 @@ pub record AreAlike (l other : Live) : Type 0 where
 -- what a line is answered by one of two alike hosts it is answered by the other, and they are alike after it
 abbrev pub AlikeHostsAnswerAlike : Type 0
 AlikeHostsAnswerAlike =
-    (l other new : Live) (n : ℕ) (line : Option Bytes) (a : Reply) → AreAlike l other → Serves l n line a new
+    (l other new : Live) (n : ℕ) (line : Option Bytes) (a : LineReply) → AreAlike l other → Serves l n line a new
     → (other_new : Live) × Serves other n line a other_new × AreAlike new other_new
 
 -- all further lines are answered alike by two alike hosts: what may be told, and what journals may have, is the same
@@ -140,7 +140,7 @@ behind_numbers n (block ∷ blocks) = behind_number n block ++ behind_numbers (n
 -- What a line is answered that has one number, it is answered with any other, which then begins each line of the block.
 abbrev pub NumbersStandInFront : Type 0
 NumbersStandInFront =
-    (l new : Live) (n : ℕ) (line : Option Bytes) (a : Reply) → AreAlike l l → Serves l n line a new
+    (l new : Live) (n : ℕ) (line : Option Bytes) (a : LineReply) → AreAlike l l → Serves l n line a new
     → (rests : List Bytes) × (a.text ≡ behind_number n rests)
     × ((k : ℕ) → Serves l k line (record { text = behind_number k rests; done = a.done }) new)
 

@@ -17,7 +17,7 @@ use Rattle.network.specs.Decoding.{step_of}
 use Rattle.network.specs.Standing.{Machine, StandsFor, node_at}
 use Rattle.network.specs.declared.network.Used.{Used}
 use Rattle.scripts.specs.Script.{AreFields, Bytes, IsBad, IsSkipped}
-use Rattle.feed.specs.Served.{Reply, Serving, unanswered}
+use Rattle.feed.specs.Served.{LineReply, Serving, unanswered}
 use Rattle.feed.specs.declared.answering.Deed.{Deed}
 use Rattle.feed.specs.declared.answering.Deed.TheVariants as deed
 use Rattle.feed.specs.declared.answering.Done.{Done}
@@ -33,7 +33,7 @@ use Rattle.live.specs.declared.served.Served.{Served}
 use Rattle.questions.specs.Left.{all_left, left_line, left_of}
 use Rattle.questions.specs.Shown.{Shows}
 use Rattle.questions.specs.declared.left.Left.{Left}
-use Rattle.requests.specs.Asking.{IsAsked}
+use Rattle.requests.specs.Asking.{IsAskedOf}
 use Rattle.serving.specs.Blocks.{TellsOfNoWant, block_of, closing_line, closing_of, line_of_telling}
 use Rattle.requests.specs.declared.ask.Ask.{Ask}
 use Rattle.requests.specs.declared.ask.Ask.TheVariants as ask
@@ -61,7 +61,7 @@ abbrev pub with_live : Live → ℕ → Machine → Live
 with_live l g m = record l { running = set_value (is_at (nat_cmp g)) l.running m }
 
 -- the answer that is one line: how it closes
-abbrev pub one_line : ℕ → Closing → Option Done → Reply
+abbrev pub one_line : ℕ → Closing → Option Done → LineReply
 one_line n c done = record { text = closing_line n c; done = done }
 
 -- ---- what a line did
@@ -103,17 +103,17 @@ deed_of e s d = deed_by s.refused e s.slot d
 -- ---- declarations
 -- A declaration is taken. A network is one that is not declared, where fewer than 4,096 are; a node and a roster are those
 -- of a network that waits.
-abbrev pub takes : Live → ℕ → Declaration → Bool
-takes l g (declaration.Net b) =
+abbrev pub takes_declaration : Live → ℕ → Declaration → Bool
+takes_declaration l g (declaration.Net b) =
     not (is_some (waiting_at l.waiting g)) && (not (is_some (live_at l g)) && nat_lt (length l.waiting + length l.running) 4096)
-takes l g (declaration.Node u q) = takes_node (waiting_at l.waiting g) u
-takes l g (declaration.Roster r) = takes_roster (waiting_at l.waiting g) r.names.items r.shares
+takes_declaration l g (declaration.Node u q) = takes_node (waiting_at l.waiting g) u
+takes_declaration l g (declaration.Roster r) = takes_roster (waiting_at l.waiting g) r.names.items r.shares
 
 -- a declaration is taken, and changes the networks that wait; or it is not, and changes nothing
 abbrev pub IsDeclared : ℕ → Declaration → Live → Bool → Live → Type 0
 IsDeclared g d old true new =
-    (takes old g d ≡ true) × Prepares g d old.waiting new.waiting × (new.running ≡ old.running) × (new.bytes ≡ old.bytes)
-IsDeclared g d old false new = (takes old g d ≡ false) × (new ≡ old)
+    (takes_declaration old g d ≡ true) × Prepares g d old.waiting new.waiting × (new.running ≡ old.running) × (new.bytes ≡ old.bytes)
+IsDeclared g d old false new = (takes_declaration old g d ≡ false) × (new ≡ old)
 
 abbrev pub closing_of_declaration : Bool → Closing
 closing_of_declaration true = closing.Taken
@@ -139,7 +139,7 @@ IsBegun g old false new = (is_bare (waiting_at old.waiting g) ≡ true) × (new 
 
 -- ---- events
 -- an event of a network that runs, if it does, is served, and then the line is kept; this is its answer
-abbrev pub IsServedAt : Option Machine → ℕ → ℕ → Event → Live → Reply → Live → Type 0
+abbrev pub IsServedAt : Option Machine → ℕ → ℕ → Event → Live → LineReply → Live → Type 0
 IsServedAt None n g e old a new = (a ≡ one_line n (closing.Refused NoSuchNetwork) None) × (new ≡ old)
 IsServedAt (Some m) n g e old a new =
     (after : Machine) × (s : Served) × IsServedBy m (step_of e) after s × (new ≡ with_live old g after)
@@ -149,7 +149,7 @@ IsServedAt (Some m) n g e old a new =
     })
 
 -- the answer to an event of the network of a number, if it runs: it is served, and the line is kept
-abbrev pub IsEventAnswered : ℕ → ℕ → Event → Live → Reply → Live → Type 0
+abbrev pub IsEventAnswered : ℕ → ℕ → Event → Live → LineReply → Live → Type 0
 IsEventAnswered n g e old a new =
     (running : Option Machine) × (live_at old g ≡ running) × IsServedAt running n g e old a new
 
@@ -191,19 +191,19 @@ lines_of_answers None b n g answers = []
 lines_of_answers (Some i) b n g answers = flat_map (lines_of_answer b n g i) answers
 
 -- the better of two closings of a block: `ok`, else `stale`, else the first
-abbrev pub better : Closing → Closing → Closing
-better closing.Taken c = closing.Taken
-better closing.Stale closing.Taken = closing.Taken
-better closing.Stale c = closing.Stale
-better (closing.Refused r) closing.Taken = closing.Taken
-better (closing.Refused r) closing.Stale = closing.Stale
-better (closing.Refused r) c = closing.Refused r
-better closing.Bad c = c
+abbrev pub better_closing : Closing → Closing → Closing
+better_closing closing.Taken c = closing.Taken
+better_closing closing.Stale closing.Taken = closing.Taken
+better_closing closing.Stale c = closing.Stale
+better_closing (closing.Refused r) closing.Taken = closing.Taken
+better_closing (closing.Refused r) closing.Stale = closing.Stale
+better_closing (closing.Refused r) c = closing.Refused r
+better_closing closing.Bad c = c
 
 -- how the block of several answers closes: with the best of their closings
 abbrev pub closing_of_answers : List NodeAnswer → Closing
 closing_of_answers [] = closing.Refused NoSuchNode
-closing_of_answers (a ∷ answers) = better (closing_of (ending_of a.served)) (closing_of_answers answers)
+closing_of_answers (a ∷ answers) = better_closing (closing_of (ending_of a.served)) (closing_of_answers answers)
 
 -- the lines of all, and how the block ends
 abbrev pub block_of_answers : Bool → ℕ → ℕ → List NodeAnswer → Bytes
@@ -211,7 +211,7 @@ block_of_answers b n g answers =
     lines_of_answers (slot_of_answers answers) b n g answers ++ closing_line n (closing_of_answers answers)
 
 -- bytes come to each hosted node of a network that runs, if it does, and then the line is kept; this is the answer
-abbrev pub AreServedAt : Option Machine → ℕ → ℕ → Bytes → Live → Reply → Live → Type 0
+abbrev pub AreServedAt : Option Machine → ℕ → ℕ → Bytes → Live → LineReply → Live → Type 0
 AreServedAt None n g bytes old a new = (a ≡ one_line n (closing.Refused NoSuchNetwork) None) × (new ≡ old)
 AreServedAt (Some m) n g bytes old a new =
     (after : Machine) × (answers : List NodeAnswer) × AreServed bytes (names_of m.config.nodes) m answers after
@@ -222,7 +222,7 @@ AreServedAt (Some m) n g bytes old a new =
     })
 
 -- the answer to bytes for all nodes of the network of a number, if it runs: they are served, and the line is kept
-abbrev pub AreAllAnswered : ℕ → ℕ → Bytes → Live → Reply → Live → Type 0
+abbrev pub AreAllAnswered : ℕ → ℕ → Bytes → Live → LineReply → Live → Type 0
 AreAllAnswered n g bytes old a new =
     (running : Option Machine) × (live_at old g ≡ running) × AreServedAt running n g bytes old a new
 
@@ -285,41 +285,41 @@ IsShown n g i u l text = (running : Option Machine) × (live_at l g ≡ running)
 
 -- ---- lines
 -- a bad line changes nothing, and is not kept
-abbrev pub IsBadLine : ℕ → Live → Reply → Live → Type 0
+abbrev pub IsBadLine : ℕ → Live → LineReply → Live → Type 0
 IsBadLine n old a new = (a ≡ one_line n closing.Bad None) × (new ≡ old)
 
 -- what stands behind the beginning of a network: its answer; or the line is bad
-abbrev pub IsAnsweredThen : Bool → ℕ → (Live → Reply → Live → Type 0) → Live → Reply → Live → Type 0
+abbrev pub IsAnsweredThen : Bool → ℕ → (Live → LineReply → Live → Type 0) → Live → LineReply → Live → Type 0
 IsAnsweredThen true n answers old a new = answers old a new
 IsAnsweredThen false n answers old a new = IsBadLine n old a new
 
-abbrev pub IsAnsweredOnceBegun : ℕ → ℕ → (Live → Reply → Live → Type 0) → Live → Reply → Live → Type 0
+abbrev pub IsAnsweredOnceBegun : ℕ → ℕ → (Live → LineReply → Live → Type 0) → Live → LineReply → Live → Type 0
 IsAnsweredOnceBegun n g answers old a new =
     (is : Bool) × (now : Live) × IsBegun g old is now × IsAnsweredThen is n answers now a new
 
 -- The answer to what a line asks of the network of a number. A declaration or a `drop` is kept where it is taken; a
 -- question is not kept, and changes nothing.
-abbrev pub IsAnswer : ℕ → ℕ → Ask → Live → Reply → Live → Type 0
-IsAnswer n g (ask.Declare d) old a new =
+abbrev pub IsAskAnswered : ℕ → ℕ → Ask → Live → LineReply → Live → Type 0
+IsAskAnswered n g (ask.Declare d) old a new =
     (taken : Bool) × IsDeclared g d old taken new × (a ≡ one_line n (closing_of_declaration taken) (done_if taken g deed.Declared))
-IsAnswer n g (ask.Serve e) old a new = IsAnsweredOnceBegun n g (IsEventAnswered n g e) old a new
-IsAnswer n g (ask.ForAll bytes) old a new = IsAnsweredOnceBegun n g (AreAllAnswered n g bytes) old a new
-IsAnswer n g ask.Left old a new = IsLeftText n g (left_at old g) a.text × (a.done ≡ None) × (new ≡ old)
-IsAnswer n g (ask.Show i u) old a new = IsShown n g i u old a.text × (a.done ≡ None) × (new ≡ old)
-IsAnswer n g ask.Drop old a new =
+IsAskAnswered n g (ask.Serve e) old a new = IsAnsweredOnceBegun n g (IsEventAnswered n g e) old a new
+IsAskAnswered n g (ask.ForAll bytes) old a new = IsAnsweredOnceBegun n g (AreAllAnswered n g bytes) old a new
+IsAskAnswered n g ask.Left old a new = IsLeftText n g (left_at old g) a.text × (a.done ≡ None) × (new ≡ old)
+IsAskAnswered n g (ask.Show i u) old a new = IsShown n g i u old a.text × (a.done ≡ None) × (new ≡ old)
+IsAskAnswered n g ask.Drop old a new =
     (taken : Bool) × IsDropped g old taken new × (a ≡ one_line n (closing_of_drop taken) (done_if taken g deed.Dropped))
 
-abbrev pub IsAnswerTo : ℕ → Option (ℕ × Ask) → Live → Reply → Live → Type 0
+abbrev pub IsAnswerTo : ℕ → Option (ℕ × Ask) → Live → LineReply → Live → Type 0
 IsAnswerTo n None old a new = IsBadLine n old a new
-IsAnswerTo n (Some asked) old a new = IsAnswer n asked.0 asked.1 old a new
+IsAnswerTo n (Some asked) old a new = IsAskAnswered n asked.0 asked.1 old a new
 
 -- the answer to a line with these fields: to what they ask for, or that it is bad
-abbrev pub AreFieldsAnswered : ℕ → List Bytes → Live → Reply → Live → Type 0
+abbrev pub AreFieldsAnswered : ℕ → List Bytes → Live → LineReply → Live → Type 0
 AreFieldsAnswered n fields old a new =
-    (asked : Option (ℕ × Ask)) × IsAsked fields asked × IsAnswerTo n asked old a new
+    (asked : Option (ℕ × Ask)) × IsAskedOf fields asked × IsAnswerTo n asked old a new
 
 -- a line that is not skipped is bad, or its fields are answered
-abbrev pub IsLineAnswered : ℕ → Bytes → Live → Reply → Live → Type 0
+abbrev pub IsLineAnswered : ℕ → Bytes → Live → LineReply → Live → Type 0
 IsLineAnswered n line old a new =
     (IsBad line × IsBadLine n old a new)
     ⊎ ((fields : List Bytes) × AreFields line fields × AreFieldsAnswered n fields old a new)

@@ -14,15 +14,15 @@ use Rattle.std.proofs.lemmas.List.Folds.{list_all-append}
 use Rattle.types.specs.declared.event.Event.{Event}
 use Rattle.network.specs.Standing.{Machine}
 use Rattle.scripts.specs.Script.{Bytes, IsSkipped, is_field}
-use Rattle.feed.specs.Served.{EmptyLinesAreSkipped, KeptLinesAreWhole, OnlyKeptLinesCount, Reply, is_kept, kept_as}
+use Rattle.feed.specs.Served.{EmptyLinesAreSkipped, KeptLinesAreWhole, LineReply, OnlyKeptLinesCount, is_kept, kept_as}
 use Rattle.feed.specs.WholeLines.{has_no_hole}
 use Rattle.requests.specs.Outlines.{Outlined, waiting_at}
 use Rattle.serving.specs.Blocks.{TellsOfNoWant}
-use Rattle.serving.specs.Hosts.{AreAllAnswered, IsAnswer, IsAnswerTo, IsAnsweredOnceBegun, IsDroppedAt, IsEventAnswered, IsStarted, Live, Remembers, Serves, begun, live_at}
+use Rattle.serving.specs.Hosts.{AreAllAnswered, IsAnswerTo, IsAnsweredOnceBegun, IsAskAnswered, IsDroppedAt, IsEventAnswered, IsStarted, Live, Remembers, Serves, begun, live_at}
 use Rattle.requests.specs.declared.ask.Ask.{Ask}
 use Rattle.requests.specs.declared.ask.Ask.TheVariants as ask
 
-kept-by : {a b : Reply} → a ≡ b → is_kept a ≡ is_kept b
+kept-by : {a b : LineReply} → a ≡ b → is_kept a ≡ is_kept b
 kept-by e = ap is_kept e
 
 not-both : {b : Bool} {X : Type 0} → b ≡ true → b ≡ false → X
@@ -51,9 +51,9 @@ not-started (Some d) g old now (c, of, waiting, running, bytes) none =
 
 -- ---- answers that are not kept
 -- what is not kept of these answers is of a network that does not run, and changes nothing
-abbrev CountsWhereItRuns : ℕ → (Live → Reply → Live → Type 0) → Type 0
+abbrev CountsWhereItRuns : ℕ → (Live → LineReply → Live → Type 0) → Type 0
 CountsWhereItRuns g answers =
-    (old new : Live) (a : Reply) → answers old a new → is_kept a ≡ false → (live_at old g ≡ None) × (new ≡ old)
+    (old new : Live) (a : LineReply) → answers old a new → is_kept a ≡ false → (live_at old g ≡ None) × (new ≡ old)
 
 event-counts : (n g : ℕ) (e : Event) → CountsWhereItRuns g (IsEventAnswered n g e)
 event-counts n g e old new a (None, at, answered) out = (at, answered.1)
@@ -63,7 +63,7 @@ all-count : (n g : ℕ) (bytes : Bytes) → CountsWhereItRuns g (AreAllAnswered 
 all-count n g bytes old new a (None, at, answered) out = (at, answered.1)
 all-count n g bytes old new a (Some m, at, answered) out = not-both (kept-by answered.4) out
 
-begun-counts : (n g : ℕ) (answers : Live → Reply → Live → Type 0) → CountsWhereItRuns g answers → (old new : Live) (a : Reply)
+begun-counts : (n g : ℕ) (answers : Live → LineReply → Live → Type 0) → CountsWhereItRuns g answers → (old new : Live) (a : LineReply)
     → IsAnsweredOnceBegun n g answers old a new → is_kept a ≡ false → new ≡ old
 begun-counts n g answers law old new a (true, now, started, answered) out =
     let none = law now new a answered out in none.1 ∙ not-started (waiting_at old.waiting g) g old now started none.0
@@ -74,7 +74,7 @@ drop-counts (Some d) runs g old new dropped = not-both dropped.0 refl
 drop-counts None (Some m) g old new dropped = not-both dropped.0 refl
 drop-counts None None g old new dropped = dropped.1
 
-answer-counts : (n g : ℕ) (asked : Ask) (old new : Live) (a : Reply) → IsAnswer n g asked old a new → is_kept a ≡ false → new ≡ old
+answer-counts : (n g : ℕ) (asked : Ask) (old new : Live) (a : LineReply) → IsAskAnswered n g asked old a new → is_kept a ≡ false → new ≡ old
 answer-counts n g (ask.Declare d) old new a (true, declared, is) out = not-both (kept-by is) out
 answer-counts n g (ask.Declare d) old new a (false, declared, is) out = declared.1
 answer-counts n g (ask.Serve e) old new a answer out = begun-counts n g (IsEventAnswered n g e) (event-counts n g e) old new a answer out
@@ -84,25 +84,25 @@ answer-counts n g (ask.Show i u) old new a answer out = answer.2
 answer-counts n g ask.Drop old new a (true, dropped, is) out = not-both (kept-by is) out
 answer-counts n g ask.Drop old new a (false, dropped, is) out = drop-counts (waiting_at old.waiting g) (live_at old g) g old new dropped
 
-asked-counts : (n : ℕ) (asked : Option (ℕ × Ask)) (old new : Live) (a : Reply) → IsAnswerTo n asked old a new → is_kept a ≡ false → new ≡ old
+asked-counts : (n : ℕ) (asked : Option (ℕ × Ask)) (old new : Live) (a : LineReply) → IsAnswerTo n asked old a new → is_kept a ≡ false → new ≡ old
 asked-counts n None old new a bad out = bad.1
 asked-counts n (Some asked) old new a answer out = answer-counts n asked.0 asked.1 old new a answer out
 
 -- a line that stands for an empty one is not kept, or it is empty and was skipped
-line-counts : (old new : Live) (n : ℕ) (line : Bytes) (a : Reply) (kept : Bool) → is_kept a ≡ kept → Serves old n (Some line) a new → kept_as (Some line) kept ≡ [] → new ≡ old
+line-counts : (old new : Live) (n : ℕ) (line : Bytes) (a : LineReply) (kept : Bool) → is_kept a ≡ kept → Serves old n (Some line) a new → kept_as (Some line) kept ≡ [] → new ≡ old
 line-counts old new n line a kept is (inl skipped) e = skipped.2
 line-counts old new n line a kept is (inr (runs, inl bad)) e = bad.1.1
 line-counts old new n line a true is (inr (runs, inr fields)) e = absurd (runs (subst IsSkipped (sym e) (refl, refl)))
 line-counts old new n line a false is (inr (runs, inr (fields, are, (asked, of, answer)))) e = asked-counts n asked old new a answer is
 
 -- a law: only kept lines change a live host
-pub only_kept_lines_count : OnlyKeptLinesCount Serves
-only_kept_lines_count old new n None a bad e = bad.1
-only_kept_lines_count old new n (Some line) a answer e = line-counts old new n line a (is_kept a) refl answer e
+pub live_only_kept_lines_count : OnlyKeptLinesCount Serves
+live_only_kept_lines_count old new n None a bad e = bad.1
+live_only_kept_lines_count old new n (Some line) a answer e = line-counts old new n line a (is_kept a) refl answer e
 
 -- a law: empty lines are not answered by a live host, and change nothing
-pub empty_lines_are_skipped : EmptyLinesAreSkipped Serves
-empty_lines_are_skipped s n = inl ((refl, refl), refl, refl)
+pub live_empty_lines_are_skipped : EmptyLinesAreSkipped Serves
+live_empty_lines_are_skipped s n = inl ((refl, refl), refl, refl)
 
 -- ---- kept lines
 both-true : (a b : Bool) → (a && b) ≡ true → (a ≡ true) × (b ≡ true)
@@ -136,10 +136,10 @@ fields-are-whole (field ∷ next ∷ fields) e =
     ∙ fields-are-whole (next ∷ fields) both.1
 
 -- a law: the lines that a live host keeps have no byte 0
-pub kept_lines_are_whole : KeptLinesAreWhole Serves
-kept_lines_are_whole old new n line a (inl skipped) kept = not-both kept (kept-by skipped.1)
-kept_lines_are_whole old new n line a (inr (runs, inl bad)) kept = not-both kept (kept-by bad.1.0)
-kept_lines_are_whole old new n line a (inr (runs, inr (fields, are, answer))) kept =
+pub live_kept_lines_are_whole : KeptLinesAreWhole Serves
+live_kept_lines_are_whole old new n line a (inl skipped) kept = not-both kept (kept-by skipped.1)
+live_kept_lines_are_whole old new n line a (inr (runs, inl bad)) kept = not-both kept (kept-by bad.1.0)
+live_kept_lines_are_whole old new n line a (inr (runs, inr (fields, are, answer))) kept =
     subst (λ bytes. has_no_hole bytes ≡ true) are.0 (fields-are-whole fields are.1)
 
 -- ---- where a journal is kept
@@ -150,12 +150,12 @@ none_told (b ∷ front) rest is = cc
 
 -- a law: what a host with a journal does not keep left it as it was
 pub only_remembered_lines_count : OnlyKeptLinesCount Remembers
-only_remembered_lines_count old new n line a serves out = only_kept_lines_count old new n line a serves.0 out
+only_remembered_lines_count old new n line a serves out = live_only_kept_lines_count old new n line a serves.0 out
 
 -- a law: empty lines are not answered by a host with a journal, and change nothing
 pub empty_lines_are_remembered : EmptyLinesAreSkipped Remembers
-empty_lines_are_remembered s n = (empty_lines_are_skipped s n, none_told)
+empty_lines_are_remembered s n = (live_empty_lines_are_skipped s n, none_told)
 
 -- a law: the lines that a host with a journal keeps have no byte 0
 pub remembered_lines_are_whole : KeptLinesAreWhole Remembers
-remembered_lines_are_whole old new n line a serves kept = kept_lines_are_whole old new n line a serves.0 kept
+remembered_lines_are_whole old new n line a serves kept = live_kept_lines_are_whole old new n line a serves.0 kept

@@ -9,13 +9,13 @@ use Rattle.network.specs.Standing.{Machine}
 use Rattle.types.specs.Trees.{Slices}
 use Rattle.scripts.specs.Script.{AreFields, Bytes}
 use Rattle.feed.specs.Lasting.{lowered}
-use Rattle.feed.specs.Served.{Reply, Serves as ServesAll}
-use Rattle.feed.specs.Served.Serves.{next, none}
+use Rattle.feed.specs.Served.{LineReply, ServesAll}
+use Rattle.feed.specs.Served.ServesAll.{next, none}
 use Rattle.feed.specs.WholeLines.{given}
 use Rattle.feed.specs.declared.answering.Deed.TheVariants as deed
 use Rattle.feed.specs.declared.answering.Done.{Done}
 use Rattle.feed.specs.declared.answering.Drawn.{Drawn}
-use Rattle.requests.specs.Asking.{IsAsked}
+use Rattle.requests.specs.Asking.{IsAskedOf}
 use Rattle.requests.specs.Outlines.{IsConfigOf, Outlined, Waiting}
 use Rattle.requests.specs.declared.ask.Ask.TheVariants as ask
 use Rattle.requests.specs.declared.request.Declaration.{Declaration}
@@ -64,7 +64,7 @@ less_live d l = record l { waiting = less_waiting d l.waiting }
 -- ---- lines
 -- the line asks that this be declared of the network of a number
 abbrev pub AsksToDeclare : Bytes → ℕ → Declaration → Type 0
-AsksToDeclare line g x = (fields : List Bytes) × AreFields line fields × IsAsked fields (Some (g, ask.Declare x))
+AsksToDeclare line g x = (fields : List Bytes) × AreFields line fields × IsAskedOf fields (Some (g, ask.Declare x))
 
 -- a line that declares something declares as much less once it is lowered
 abbrev pub LoweredLinesDeclareLess : Type 0
@@ -89,7 +89,7 @@ declared_of g = Some (record { network = g; deed = deed.Declared })
 -- each of these lines, the first of which has this number, declares something of the network of a number and is taken
 pub data AreDeclared (longest g : ℕ) : Live → ℕ → List Bytes → Live → Type 0 where
   none_left : {s : Live} {n : ℕ} → AreDeclared longest g s n [] s
-  next_line : {s t u : Live} {n : ℕ} {line : Bytes} {more : List Bytes} (a : Reply)
+  next_line : {s t u : Live} {n : ℕ} {line : Bytes} {more : List Bytes} (a : LineReply)
       → Serves s n (given longest line) a t → a.done ≡ declared_of g → AreDeclared longest g t (n + 1) more u
       → AreDeclared longest g s n (line ∷ more) u
 

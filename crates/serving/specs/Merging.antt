@@ -4,24 +4,24 @@ use Rattle.std.specs.Prelude.{◌≡◌, ◌≤◌, ◌==◌, ◌++◌, ℕ, Boo
 use Rattle.protocol.specs.Sets.{among}
 use Rattle.network.specs.Standing.{Machine}
 use Rattle.scripts.specs.Script.{Bytes}
-use Rattle.feed.specs.Served.{Reply, Serves as ServesAll}
+use Rattle.feed.specs.Served.{LineReply, ServesAll}
 use Rattle.feed.specs.WholeLines.{given}
 use Rattle.feed.specs.declared.answering.Done.{Done}
 use Rattle.requests.specs.Outlines.{waiting_at}
-use Rattle.serving.specs.Apart.{HasRoom, IsOrdered, OthersStay, alone, lines_of, own_of}
+use Rattle.serving.specs.Apart.{HasRoomForNetwork, IsOrdered, OthersStay, alone, texts_of_lines, lines_of_network}
 use Rattle.serving.specs.Futures.{AreAlike, IsAlike}
 use Rattle.serving.specs.Hosts.{Live, Serves, live_at, new_live}
 
 -- ---- one line
 -- if the network of this number is not declared yet, fewer are declared than may be
-abbrev pub HasRoomFor : ℕ → Live → Type 0
-HasRoomFor g l = waiting_at l.waiting g ≡ None → live_at l g ≡ None → HasRoom l
+abbrev pub HasRoomToDeclare : ℕ → Live → Type 0
+HasRoomToDeclare g l = waiting_at l.waiting g ≡ None → live_at l g ≡ None → HasRoomForNetwork l
 
 -- What a line is answered where there is its network alone, it is answered next to others, where this network is declared,
 -- or there is room for it.
 abbrev pub LinesAreAnsweredWhereRoomIs : Type 0
 LinesAreAnsweredWhereRoomIs =
-    (l own : Live) (n : ℕ) (line : Option Bytes) (a : Reply) (d : Done) → IsOrdered l → HasRoomFor d.network l
+    (l own : Live) (n : ℕ) (line : Option Bytes) (a : LineReply) (d : Done) → IsOrdered l → HasRoomToDeclare d.network l
     → Serves (alone d.network l) n line a own → a.done ≡ Some d
     → (t : Live) × Serves l n line a t × (alone d.network t ≡ own) × OthersStay d.network l t
 
@@ -30,7 +30,7 @@ LinesAreAnsweredWhereRoomIs =
 -- number, so that all of them are kept.
 pub data RunsAlone (longest g : ℕ) : Live → List Bytes → Live → Type 0 where
   none_left : {l : Live} → RunsAlone longest g l [] l
-  next_line : {l now new : Live} {line : Bytes} {lines : List Bytes} (n : ℕ) (a : Reply) (d : Done)
+  next_line : {l now new : Live} {line : Bytes} {lines : List Bytes} (n : ℕ) (a : LineReply) (d : Done)
       → Serves l n (given longest line) a now → a.done ≡ Some d → d.network ≡ g → RunsAlone longest g now lines new
       → RunsAlone longest g l (line ∷ lines) new
 
@@ -51,7 +51,7 @@ abbrev pub OwnLinesRunAlone : Type 0
 OwnLinesRunAlone =
     (longest : ℕ) (bytes : Bool) (n : ℕ) (lines journal : List Bytes) (text : Bytes) (t : Live)
     (run : ServesAll Serves longest (new_live bytes) n lines journal text t) (g : ℕ)
-    → RunsAlone longest g (new_live bytes) (lines_of (own_of g run)) (alone g t)
+    → RunsAlone longest g (new_live bytes) (texts_of_lines (lines_of_network g run)) (alone g t)
 
 -- of lines, each behind the number of its network, those of one network
 abbrev pub lines_for : ℕ → List (ℕ × Bytes) → List Bytes
@@ -63,16 +63,16 @@ abbrev pub all_lines : List (ℕ × Bytes) → List Bytes
 all_lines es = map (λ (e : ℕ × Bytes). e.1) es
 
 -- the networks of the lines are among these
-abbrev pub AreOf : List ℕ → List (ℕ × Bytes) → Type 0
-AreOf names [] = Unit {0}
-AreOf names (e ∷ es) = IsTrue (among names e.0) × AreOf names es
+abbrev pub AreLinesOf : List ℕ → List (ℕ × Bytes) → Type 0
+AreLinesOf numbers [] = Unit {0}
+AreLinesOf numbers (e ∷ es) = IsTrue (among numbers e.0) × AreLinesOf numbers es
 
 -- Lines that each network is served alone may be served in any order in which those of each network stay in theirs: what
 -- becomes of each network is the same.
 abbrev pub LinesMayBeMerged : Type 0
 LinesMayBeMerged =
-    (longest : ℕ) (bytes : Bool) (n : ℕ) (lines : List (ℕ × Bytes)) (names : List ℕ) (own : ℕ → Live)
-    → AreOf names lines → length names ≤ 4096
+    (longest : ℕ) (bytes : Bool) (n : ℕ) (lines : List (ℕ × Bytes)) (numbers : List ℕ) (own : ℕ → Live)
+    → AreLinesOf numbers lines → length numbers ≤ 4096
     → ((g : ℕ) → RunsAlone longest g (new_live bytes) (lines_for g lines) (own g))
     → (text : Bytes) × (l : Live) × ServesAll Serves longest (new_live bytes) n (all_lines lines) (all_lines lines) text l
     × ((g : ℕ) → alone g l ≡ own g)

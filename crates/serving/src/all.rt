@@ -5,7 +5,7 @@ ghost use Rattle.std.specs.List.{flat_map};
 ghost use Rattle.types.specs.declared.event.Event.TheVariants.{Deliver};
 ghost use Rattle.network.specs.Decoding.{step_of};
 ghost use Rattle.live.specs.Telling.{IsServedBy};
-ghost use Rattle.serving.specs.Hosts.{AreServed, better, closing_of_answers, deed_of_all, lines_of_answer, lines_of_answers, slot_of_answers};
+ghost use Rattle.serving.specs.Hosts.{AreServed, better_closing, closing_of_answers, deed_of_all, lines_of_answer, lines_of_answers, slot_of_answers};
 ghost use Rattle.serving.specs.declared.all.NodeAnswer.{NodeAnswer};
 
 use crate::block::{Closing, Place, ending, push_refused, push_told};
@@ -149,7 +149,7 @@ pub(crate) fn closing_of_answers(answers: &[NodeAnswer]) -> Closing
 
 /// Of two closings `ok`, else `stale`, else the first.
 fn better(one: Closing, other: Closing) -> Closing
-    ensures { result ≡ better one other }
+    ensures { result ≡ better_closing one other }
 {
     match (one, other) {
         (Closing::Taken, _) => one,

@@ -1,6 +1,6 @@
 //! Laws on the networks of a host: each depends only on its own lines.
 
-ghost use Rattle.serving.specs.Apart.{AlikeNetworksAreAnsweredAlike, AnswersAreGivenNextToOthers, AnswersAreLocal, HostsAreAlikeByNetworks, HostsStayOrdered, LinesAreAnsweredNextToOthers, LinesAreLocal, NetworksAreApart, NetworksFollowTheirOwnLines, NetworksGoOnByTheirOwnLines, NetworksOfAlikeHostsAreAlike, OrderAmongNetworksDoesNotCount, OtherLinesChangeNothing, ReachedHostsAreOrdered};
+ghost use Rattle.serving.specs.Apart.{AlikeNetworksAreAnsweredAlike, AnswersAreGivenNextToOthers, AnswersAreLocal, HostsAreAlikeByNetworks, HostsStayOrdered, LinesAreAnsweredNextToOthers, LinesAreLocal, NetworksAreApart, NetworksFollowTheirOwnLines, NetworksGoOnByTheirOwnLines, NetworksOfAlikeHostsAreAlike, OrderAmongNetworksDoesNotCount, IdleLinesChangeNothing, ReachedHostsAreOrdered};
 
 /// A law: the networks of a host are ascending by number, those that wait and those that run; none stands twice, and
 /// none does both.
@@ -13,7 +13,7 @@ pub fn hosts_are_ordered()
 /// other line changes nothing.
 pub fn lines_are_local()
     ensures own { LinesAreLocal }
-    ensures others { OtherLinesChangeNothing }
+    ensures others { IdleLinesChangeNothing }
 {}
 
 /// A law: all that a line may ask of a network, questions too, is answered as if there were no other. A network that it

@@ -5,7 +5,7 @@ ghost use Rattle.std.specs.List.{flat_map};
 ghost use Rattle.codec.specs.Spelling.{spelling};
 ghost use Rattle.hex.specs.Hex.{encode_lower};
 ghost use Rattle.protocol.specs.Networks.Reply.{Refused};
-ghost use Rattle.live.specs.Telling.{ending_of, reply_of, telling_of, tellings_of};
+ghost use Rattle.live.specs.Telling.{ending_of, reply_of_step, telling_of, tellings_of};
 ghost use Rattle.serving.specs.Blocks.{behind_space_as, block_of, closing_line, closing_of, front_of_line, line_of_telling, text_of_closing, text_of_out_as, text_of_reply};
 
 use codec::encode;
@@ -114,7 +114,7 @@ fn push_reply(
     bytes: bool,
     answer: &Result<Vec<Out>, Refusal>,
 ) -> Result<(), AllocError>
-    ensures { OnOk result (string_bytes text.new ≡ string_bytes text.old ++ text_of_reply bytes (reply_of answer.now)) }
+    ensures { OnOk result (string_bytes text.new ≡ string_bytes text.old ++ text_of_reply bytes (reply_of_step answer.now)) }
 {
     match answer {
         Ok(outs) => push_outs_as(text, bytes, outs),

@@ -8,7 +8,7 @@ ghost use Rattle.configuration.specs.Configs.{names_of};
 ghost use Rattle.requests.specs.Outlines.{waiting_at};
 ghost use Rattle.requests.specs.Preparing.{Prepares};
 ghost use Rattle.serving.specs.Blocks.{closing_line};
-ghost use Rattle.serving.specs.Hosts.{AreAllAnswered, AreFieldsAnswered, IsAnswer, IsBegun, IsDeclared, IsDropped, IsEventAnswered, IsLeftText, IsShown, IsShownOf, Serves, begun, left_at, not_shown, not_there, one_line, takes};
+ghost use Rattle.serving.specs.Hosts.{AreAllAnswered, AreFieldsAnswered, IsAskAnswered, IsBegun, IsDeclared, IsDropped, IsEventAnswered, IsLeftText, IsShown, IsShownOf, Serves, begun, left_at, not_shown, not_there, one_line, takes_declaration};
 
 use crate::all::{closing_of_answers, deed_of_all, push_answers, serve_each};
 use crate::block::{Closing, Place, push_closing, push_served};
@@ -122,7 +122,7 @@ impl LiveHost {
     /// The answer to what a line asks.
     fn answer_ask(&mut self, place: Place, ask: Ask) -> Result<Answer, AllocError>
         requires { place.bytes ≡ self.old.bytes }
-        ensures { IfOk result (λ answer. IsAnswer place.line place.network ask self.old (reply_of (Some answer)) self.new) }
+        ensures { IfOk result (λ answer. IsAskAnswered place.line place.network ask self.old (reply_of (Some answer)) self.new) }
     {
         match ask {
             Ask::Declare(declaration) => self.answer_declaration(place, declaration),
@@ -148,7 +148,7 @@ impl LiveHost {
         place: Place,
         declaration: Declaration,
     ) -> Result<Answer, AllocError>
-        ensures { IfOk result (λ answer. IsAnswer place.line place.network (Ask.Declare declaration) self.old (reply_of (Some answer)) self.new) }
+        ensures { IfOk result (λ answer. IsAskAnswered place.line place.network (Ask.Declare declaration) self.old (reply_of (Some answer)) self.new) }
     {
         if self.declare(place.network, declaration)? {
             let done = done_to(place.network, Deed::Declared);
@@ -161,7 +161,7 @@ impl LiveHost {
     /// The answer to an event of a network.
     fn answer_event(&mut self, place: Place, event: &Event) -> Result<Answer, AllocError>
         requires { place.bytes ≡ self.old.bytes }
-        ensures { IfOk result (λ answer. IsAnswer place.line place.network (Ask.Serve event.now) self.old (reply_of (Some answer)) self.new) }
+        ensures { IfOk result (λ answer. IsAskAnswered place.line place.network (Ask.Serve event.now) self.old (reply_of (Some answer)) self.new) }
     {
         if self.begin(place.network)? {
             self.serve_event(place, event)
@@ -173,7 +173,7 @@ impl LiveHost {
     /// The answer to bytes for all hosted nodes of a network.
     fn answer_for_all(&mut self, place: Place, bytes: &Bytes) -> Result<Answer, AllocError>
         requires { place.bytes ≡ self.old.bytes }
-        ensures { IfOk result (λ answer. IsAnswer place.line place.network (Ask.ForAll bytes.now) self.old (reply_of (Some answer)) self.new) }
+        ensures { IfOk result (λ answer. IsAskAnswered place.line place.network (Ask.ForAll bytes.now) self.old (reply_of (Some answer)) self.new) }
     {
         if self.begin(place.network)? {
             self.serve_for_all(place, bytes)
@@ -199,7 +199,7 @@ impl LiveHost {
 
     /// Whether a declaration of the network of a number is taken.
     fn takes(&self, number: u32, declaration: &Declaration) -> bool
-        ensures { result ≡ takes self.now number declaration.now }
+        ensures { result ≡ takes_declaration self.now number declaration.now }
     {
         match declaration {
             Declaration::Net(_) => self.has_room_for(number),
@@ -210,7 +210,7 @@ impl LiveHost {
 
     /// Whether a network of a number may be declared: there is none, and fewer than 4,096 are declared.
     fn has_room_for(&self, number: u32) -> bool
-        ensures { (budgets : _) → result ≡ takes self.now number (Declaration.Net budgets) }
+        ensures { (budgets : _) → result ≡ takes_declaration self.now number (Declaration.Net budgets) }
     {
         !self.waiting.has(number)
             && !self.running.contains_key(&number)
@@ -364,7 +364,7 @@ impl LiveHost {
 
     /// The answer to a line that takes a network back, which is kept if there is one.
     fn answer_drop(&mut self, place: Place) -> Result<Answer, AllocError>
-        ensures { IfOk result (λ answer. IsAnswer place.line place.network Ask.Drop self.old (reply_of (Some answer)) self.new) }
+        ensures { IfOk result (λ answer. IsAskAnswered place.line place.network Ask.Drop self.old (reply_of (Some answer)) self.new) }
     {
         if self.take_back(place.network) {
             let done = done_to(place.network, Deed::Dropped);
@@ -396,15 +396,15 @@ impl LiveHost {
 
 impl LineServer for LiveHost {
     ghost use Rattle.serving.specs.Hosts.{Serves};
-    ghost use Rattle.serving.specs.Keeping.{empty_lines_are_skipped, kept_lines_are_whole, only_kept_lines_count};
+    ghost use Rattle.serving.specs.Keeping.{live_empty_lines_are_skipped, live_kept_lines_are_whole, live_only_kept_lines_count};
 
     ghost serves = { Serves };
 
-    ghost only_kept = { only_kept_lines_count };
+    ghost only_kept = { live_only_kept_lines_count };
 
-    ghost skipped = { empty_lines_are_skipped };
+    ghost skipped = { live_empty_lines_are_skipped };
 
-    ghost whole = { kept_lines_are_whole };
+    ghost whole = { live_kept_lines_are_whole };
 
     /// The answer to a line, or `None` if it is empty or a comment. An error says that it is out of memory; then the
     /// line has no answer, and some of it may have happened.

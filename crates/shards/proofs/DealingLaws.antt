@@ -5,15 +5,15 @@ use Rattle.std.proofs.Common.{◌∙◌, inl, inr, refl, sym, ap, subst, arith, 
 use Rattle.std.proofs.lemmas.Bool.Decides.{Decides-ltb}
 use Rattle.std.proofs.lemmas.Nat.{mod_below}
 use Rattle.scripts.specs.Script.{AreFields, Bytes, IsBad, IsSkipped}
-use Rattle.feed.specs.Served.{Reply}
-use Rattle.requests.specs.Asking.{IsAsked}
+use Rattle.feed.specs.Served.{LineReply}
+use Rattle.requests.specs.Asking.{IsAskedOf}
 use Rattle.requests.specs.Outlines.{waiting_at}
 use Rattle.requests.specs.declared.ask.Ask.{Ask}
 use Rattle.requests.specs.declared.ask.Ask.TheVariants as ask
 use Rattle.requests.specs.declared.request.Declaration.TheVariants as declaration
 use Rattle.protocol.specs.Networks.{Budgets}
 use Rattle.serving.specs.Apart.{HasRoomToAnswer}
-use Rattle.serving.specs.Hosts.{IsAnswer, IsBadLine, Live, live_at}
+use Rattle.serving.specs.Hosts.{IsAskAnswered, IsBadLine, Live, live_at}
 use Rattle.shards.specs.Asked.{cut_at_spaces, is_net, network_in}
 use Rattle.shards.specs.Dealing.{IsAnsweredInVain, IsDealt, IsNetLine}
 use Rattle.shards.specs.Parts.{networks_of, place_of}
@@ -33,7 +33,7 @@ net_is_whole (b ∷ more) is skipped = true≢false (sym is ∙ ap (λ c. is_net
     by (word ∷ words) = refl
 
 -- what does not begin with `net` needs no room
-needs-none : (fields : List Bytes) (g : ℕ) (asked : Ask) (l : Live) → is_net fields ≡ false → IsAsked fields (Some (g, asked)) → HasRoomToAnswer asked l
+needs-none : (fields : List Bytes) (g : ℕ) (asked : Ask) (l : Live) → is_net fields ≡ false → IsAskedOf fields (Some (g, asked)) → HasRoomToAnswer asked l
 needs-none fields g (ask.Declare (declaration.Net b)) l quiet asks = absurd (true≢false (sym (only_nets_declare_networks fields g b asks) ∙ quiet))
 needs-none fields g (ask.Declare (declaration.Node u q)) l quiet asks = tt
 needs-none fields g (ask.Declare (declaration.Roster r)) l quiet asks = tt
@@ -66,11 +66,11 @@ none-left true true n full = by (nat_lt n 4096) refl
     by true is = let less : n < 4096 = (Decides-ltb n 4096).0 is in absurd (omega (arith, less, full))
     by false is = is
 
-vain : (n g : ℕ) (asked : Ask) (a : Reply) (l : Live) → (budgets : Budgets) × (asked ≡ ask.Declare (declaration.Net budgets)) → (x y : Live) → IsBadLine n x a y → 4096 ≤ networks_of l → IsAnswer n g asked l a l
-vain n g asked a l (budgets, is) x y bad full = subst (λ o. IsAnswer n g o l a l) (sym is)
+vain : (n g : ℕ) (asked : Ask) (a : LineReply) (l : Live) → (budgets : Budgets) × (asked ≡ ask.Declare (declaration.Net budgets)) → (x y : Live) → IsBadLine n x a y → 4096 ≤ networks_of l → IsAskAnswered n g asked l a l
+vain n g asked a l (budgets, is) x y bad full = subst (λ o. IsAskAnswered n g o l a l) (sym is)
     (false, (none-left (not (is_some (waiting_at l.waiting g))) (not (is_some (live_at l g))) (networks_of l) full, refl), bad.0)
 
-pub answered_in_vain : (n : ℕ) (line : Bytes) (fields : List Bytes) (asked : Option (ℕ × Ask)) (a : Reply) → IsNetLine (Some line) → AreFields line fields → IsAsked fields asked → (x y : Live) → IsBadLine n x a y
+pub answered_in_vain : (n : ℕ) (line : Bytes) (fields : List Bytes) (asked : Option (ℕ × Ask)) (a : LineReply) → IsNetLine (Some line) → AreFields line fields → IsAskedOf fields asked → (x y : Live) → IsBadLine n x a y
     → IsAnsweredInVain n (Some line) a
 answered_in_vain n line fields None a net are asks x y bad l full = inr (net_is_whole line net, inr (fields, are, (None, asks, (bad.0, refl))))
 answered_in_vain n line fields (Some (g, asked)) a net are asks x y bad l full =
@@ -78,5 +78,5 @@ answered_in_vain n line fields (Some (g, asked)) a net are asks x y bad l full =
     let is_net_too : is_net fields ≡ true = ap is_net (sym (fields_by_cut line fields whole are)) ∙ net in
     inr (whole, inr (fields, are, (Some (g, asked), asks, vain n g asked a l (nets_declare_networks fields g asked is_net_too asks) x y bad full)))
 
-pub bad_in_vain : (n : ℕ) (line : Bytes) (a : Reply) → IsBad line → (x y : Live) → IsBadLine n x a y → IsAnsweredInVain n (Some line) a
+pub bad_in_vain : (n : ℕ) (line : Bytes) (a : LineReply) → IsBad line → (x y : Live) → IsBadLine n x a y → IsAnsweredInVain n (Some line) a
 bad_in_vain n line a is x y bad l full = inr (is.0, inl (is, (bad.0, refl)))

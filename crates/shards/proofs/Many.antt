@@ -2,23 +2,23 @@
 use Rattle.std.specs.Prelude.{◌≡◌, ◌≢◌, ◌⊎◌, ◌+◌, ◌<◌, ℕ, Bool, true, false, eqb, List, [], ◌∷◌, length, slice_index_or, slice_set, Option}
 use Rattle.std.proofs.Common.{◌∙◌, inl, inr, refl, sym, ap, subst, arith, eq-eqb, eqb-true, true≢false, ext_get_or, get_or-set_other, get_or-set_same, length-set}
 use Rattle.scripts.specs.Script.{Bytes}
-use Rattle.feed.specs.Served.{AreAnswered, Reply}
+use Rattle.feed.specs.Served.{AreAnswered, LineReply}
 use Rattle.serving.specs.Hosts.{Live, Serves, new_live}
 use Rattle.shards.specs.Parts.{AreGathered, AreOwnAnswered, AreParts, ArePlaced, PartsAnswerForTheWhole, PartsAnswerLinesForTheWhole, joined, part_at}
 use Rattle.shards.specs.Parts.AreGathered.{takes}
 use Rattle.shards.proofs.Inverted.{Answered, ended, inverted}
 
-abbrev head_of : Reply → List Reply → Reply
+abbrev head_of : LineReply → List LineReply → LineReply
 head_of d [] = d
 head_of d (a ∷ more) = a
 
-abbrev tail_of : List Reply → List Reply
+abbrev tail_of : List LineReply → List LineReply
 tail_of [] = []
 tail_of (a ∷ more) = more
 
 -- ---- the part that answers
 -- the part at the place of a line whose answer was taken answered so
-first_answered : (p : ℕ) (s t : Live) (n : ℕ) (line : Option Bytes) (lines : List (Option Bytes)) (places : List ℕ) (answers : List Reply) (a : Reply) (rest : List Reply)
+first_answered : (p : ℕ) (s t : Live) (n : ℕ) (line : Option Bytes) (lines : List (Option Bytes)) (places : List ℕ) (answers : List LineReply) (a : LineReply) (rest : List LineReply)
     → AreOwnAnswered p s n (line ∷ lines) (p ∷ places) answers t → answers ≡ a ∷ rest
     → (u : Live) × Serves s n line a u × AreOwnAnswered p u (n + 1) lines places rest t
 first_answered p s t n line lines places answers a rest are is = by (inverted p s t n line lines p places answers are)
@@ -35,7 +35,7 @@ first_answered p s t n line lines places answers a rest are is = by (inverted p 
         )
 
 -- another part did not
-others_answered : (k p : ℕ) → k ≢ p → (s t : Live) (n : ℕ) (line : Option Bytes) (lines : List (Option Bytes)) (places : List ℕ) (answers : List Reply)
+others_answered : (k p : ℕ) → k ≢ p → (s t : Live) (n : ℕ) (line : Option Bytes) (lines : List (Option Bytes)) (places : List ℕ) (answers : List LineReply)
     → AreOwnAnswered k s n (line ∷ lines) (p ∷ places) answers t → AreOwnAnswered k s (n + 1) lines places answers t
 others_answered k p other s t n line lines places answers are = by (inverted k s t n line lines p places answers are)
   where
@@ -52,18 +52,18 @@ same_or_not k p = by (eqb k p) refl
     by false is = inr (λ same. true≢false (sym (eq-eqb k p same) ∙ is))
 
 -- ---- the parts
-abbrev AreAllOwn : Bool → List Live → List Live → ℕ → List (Option Bytes) → List ℕ → List (List Reply) → Type 0
+abbrev AreAllOwn : Bool → List Live → List Live → ℕ → List (Option Bytes) → List ℕ → List (List LineReply) → Type 0
 AreAllOwn bytes parts now n lines places all =
     (k : ℕ) → k < length parts → AreOwnAnswered k (part_at bytes parts k) n lines places (slice_index_or all k []) (part_at bytes now k)
 
-abbrev IsWhole : Bool → List Live → List Live → ℕ → List (Option Bytes) → List Reply → Type 0
+abbrev IsWhole : Bool → List Live → List Live → ℕ → List (Option Bytes) → List LineReply → Type 0
 IsWhole bytes parts now n lines answers =
     (t : Live) × AreAnswered Serves (joined parts) n lines answers t
     × (length answers ≡ length lines → (t ≡ joined now) × AreParts bytes now)
 
 module _ (bytes : Bool) (now : List Live) where
   -- no line is left: the parts are what they are now
-  none_left : (parts : List Live) (n : ℕ) (all : List (List Reply)) → AreParts bytes parts → length now ≡ length parts
+  none_left : (parts : List Live) (n : ℕ) (all : List (List LineReply)) → AreParts bytes parts → length now ≡ length parts
       → AreAllOwn bytes parts now n [] [] all → (joined parts ≡ joined now) × AreParts bytes now
   none_left parts n all are long owns =
       let same : parts ≡ now =
@@ -71,14 +71,14 @@ module _ (bytes : Bool) (now : List Live) where
       (ap joined same, subst (AreParts bytes) same are)
 
   -- no answer is left
-  none_gathered : (parts : List Live) (n : ℕ) (lines : List (Option Bytes)) (places : List ℕ) (all : List (List Reply)) → AreParts bytes parts
+  none_gathered : (parts : List Live) (n : ℕ) (lines : List (Option Bytes)) (places : List ℕ) (all : List (List LineReply)) → AreParts bytes parts
       → length now ≡ length parts → ArePlaced (length parts) lines places → AreAllOwn bytes parts now n lines places all → IsWhole bytes parts now n lines []
   none_gathered parts n [] [] all are long placed owns = (joined parts, refl, λ same. none_left parts n all are long owns)
   none_gathered parts n [] (p ∷ places) all are long placed owns = absurd placed
   none_gathered parts n (line ∷ lines) places all are long placed owns = (joined parts, refl, λ same. absurd (omega (arith, same)))
 
   -- the others, once the part at a place is this
-  owns_then : (parts : List Live) (n : ℕ) (line : Option Bytes) (lines : List (Option Bytes)) (p : ℕ) (places : List ℕ) (all : List (List Reply)) (rest : List Reply) (u : Live)
+  owns_then : (parts : List Live) (n : ℕ) (line : Option Bytes) (lines : List (Option Bytes)) (p : ℕ) (places : List ℕ) (all : List (List LineReply)) (rest : List LineReply) (u : Live)
       → length all ≡ length parts → p < length parts → AreAllOwn bytes parts now n (line ∷ lines) (p ∷ places) all
       → AreOwnAnswered p u (n + 1) lines places rest (part_at bytes now p)
       → AreAllOwn bytes (slice_set parts p u) now (n + 1) lines places (slice_set all p rest)
@@ -94,7 +94,7 @@ module _ (bytes : Bool) (now : List Live) where
           (subst (λ answers. AreOwnAnswered k (part_at bytes parts k) (n + 1) lines places answers (part_at bytes now k)) (sym (get_or-set_other all p k rest [] other))
           (others_answered k p other (part_at bytes parts k) (part_at bytes now k) n line lines places (slice_index_or all k []) (owns k (subst (λ (m : ℕ). k < m) (length-set parts p u) l))))
 
-  whole : PartsAnswerForTheWhole → (parts : List Live) (n : ℕ) (lines : List (Option Bytes)) (places : List ℕ) (all : List (List Reply)) (answers : List Reply)
+  whole : PartsAnswerForTheWhole → (parts : List Live) (n : ℕ) (lines : List (Option Bytes)) (places : List ℕ) (all : List (List LineReply)) (answers : List LineReply)
       → AreParts bytes parts → length now ≡ length parts → length all ≡ length parts → ArePlaced (length parts) lines places
       → AreAllOwn bytes parts now n lines places all → AreGathered places all answers → IsWhole bytes parts now n lines answers
   whole law parts n lines places all [] are long all_long placed owns gathered = none_gathered parts n lines places all are long placed owns

@@ -4,7 +4,7 @@ use Rattle.std.proofs.Common.{◌∙◌, inl, inr, sym, ap, subst}
 use Rattle.scripts.specs.Script.{Bytes}
 use Rattle.scripts.specs.Words.{word_counter}
 use Rattle.protocol.specs.Networks.{Budgets}
-use Rattle.requests.specs.Asking.{IsAsked, IsAskedAs, IsNet, IsServedNet, asked_by}
+use Rattle.requests.specs.Asking.{IsAskedAs, IsAskedOf, IsNet, IsServedNet, asked_by}
 use Rattle.requests.specs.Forms.{form_in, is_word}
 use Rattle.requests.specs.Lines.{verb_in}
 use Rattle.requests.specs.Requests.{AreAllowed, IsRequestOf, IsRequested, budgets_in}
@@ -71,7 +71,7 @@ net : (word : Bytes) (fields : List Bytes) (g : ℕ) (asked : Ask) → word ≡ 
 net word fields g asked same (inl none) = let no = none.0 in absurd (cc)
 net word fields g asked same (inr (before, last, is, served)) = served-net (is_word last (codes "served")) word before fields last g asked same is served
 
-pub nets_declare_networks : (fields : List Bytes) (g : ℕ) (asked : Ask) → is_net fields ≡ true → IsAsked fields (Some (g, asked)) → IsNetAsked asked
+pub nets_declare_networks : (fields : List Bytes) (g : ℕ) (asked : Ask) → is_net fields ≡ true → IsAskedOf fields (Some (g, asked)) → IsNetAsked asked
 nets_declare_networks [] g asked is asks = absurd (cc)
 nets_declare_networks (word ∷ fields) g asked is asks =
     let same : word ≡ codes "net" = same-word word (codes "net") is in

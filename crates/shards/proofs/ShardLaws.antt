@@ -7,18 +7,18 @@ use Rattle.std.proofs.lemmas.Bool.Decides.{Decides-ltb}
 use Rattle.std.proofs.lemmas.List.{get_or-map, length-map, length-set, map-append, map-set, set-get_or, take_all, drop_all}
 use Rattle.std.proofs.lemmas.List.Elements.{All-cons, All-head, All-nil, All-set, All-tail}
 use Rattle.scripts.specs.Script.{Bytes}
-use Rattle.feed.specs.Reading.{Held, given_of}
-use Rattle.feed.specs.Served.{AreAnswered, Reply, reply_of}
+use Rattle.feed.specs.Reading.{HeldLine, given_of}
+use Rattle.feed.specs.Served.{AreAnswered, LineReply, reply_of}
 use Rattle.feed.specs.declared.answering.Answer.{Answer}
 use Rattle.feed.proofs.TogetherLaws.{few_answers}
 use Rattle.requests.specs.declared.ask.Ask.{Ask}
 use Rattle.requests.specs.declared.ask.Ask.TheVariants as ask
 use Rattle.requests.specs.declared.request.Declaration.TheVariants as declaration
-use Rattle.serving.specs.Apart.{HasRoom, HasRoomToAnswer}
+use Rattle.serving.specs.Apart.{HasRoomForNetwork, HasRoomToAnswer}
 use Rattle.serving.specs.Hosts.{Live, Serves, new_live}
 use Rattle.shards.specs.Dealing.{IsAnsweredInVain, IsDealt}
-use Rattle.shards.specs.Parts.{AreGathered, AreOwnAnswered, AreParts, ArePlaced, HasRoomForLine, IsOfPlace, IsPart, both_of, joined, networks_of, networks_of_all, part_at}
-use Rattle.shards.specs.Sharded.{AreAllAnswered, AreBatchAnswered, AreShards, answers_of, hosts_of}
+use Rattle.shards.specs.Parts.{AreGathered, AreOwnAnswered, AreParts, ArePlaced, HasRoomForLine, IsHostPart, IsOfPlace, both_of, joined, networks_of, networks_of_all, part_at}
+use Rattle.shards.specs.Sharded.{AreAnsweredUntil, AreBatchAnswered, AreShards, hosts_of, waiting_answers}
 use Rattle.shards.specs.declared.dealing.Dealt.{Dealt}
 use Rattle.shards.specs.declared.shard.Shard.{Shard}
 use Rattle.shards.proofs.Counted.{joined_hosts_have_all_networks}
@@ -44,7 +44,7 @@ are-shards : (bytes : Bool) (shards : List Shard) → 0 < length shards → All 
 are-shards bytes shards some idle are = record { some = some; idle = idle; parts = λ kept. subst (λ b. AreParts b (hosts_of shards)) (sym (same-bytes bytes (hosts_of shards) are)) are }
 
 -- ---- room
-room-for-line : (line : Option Bytes) (l : Live) → HasRoom l → HasRoomForLine line l
+room-for-line : (line : Option Bytes) (l : Live) → HasRoomForNetwork l → HasRoomForLine line l
 room-for-line None l room = tt
 room-for-line (Some line) l room = λ whole fields g asked are asks. room-for asked
   where
@@ -64,7 +64,7 @@ one-of-all (p ∷ parts) zero d l = omega arith
 one-of-all (p ∷ parts) (suc k) d l = let less = one-of-all parts k d (omega (arith, l)) in omega (arith, less)
 
 -- ---- one line
-pub served_by_shard : (shards : List Shard) (n : ℕ) (s d : Shard) (line : Option Bytes) (dealt : Dealt) (a : Reply) → AreShards false shards → IsDealt (length shards) line dealt
+pub served_by_shard : (shards : List Shard) (n : ℕ) (s d : Shard) (line : Option Bytes) (dealt : Dealt) (a : LineReply) → AreShards false shards → IsDealt (length shards) line dealt
     → (dealt.declares ≡ true → networks_of_all (hosts_of shards) < 4096) → Serves (get_or shards dealt.place d).host n line a s.host → s.answers.items ≡ []
     → Serves (joined (hosts_of shards)) n line a (joined (hosts_of (set shards dealt.place s))) × AreShards false (set shards dealt.place s)
 served_by_shard shards n s d line dealt a are dealt_is room serves idle =
@@ -83,32 +83,32 @@ served_by_shard shards n s d line dealt a are dealt_is room serves idle =
           (subst (AreParts bytes) (sym set_is) done.1),
     )
   where
-    rooms : (is : Bool) → dealt.declares ≡ is → (l : Live) → (networks_of_all (hosts_of shards) < 4096 → HasRoom l) → HasRoomForLine line l
+    rooms : (is : Bool) → dealt.declares ≡ is → (l : Live) → (networks_of_all (hosts_of shards) < 4096 → HasRoomForNetwork l) → HasRoomForLine line l
     rooms true may l small = room-for-line line l (small (room may))
     rooms false quiet l small = dealt_is.quiet quiet l
 
 -- as many networks are declared as may be
-pub in_vain : (shards : List Shard) (n : ℕ) (line : Option Bytes) (a : Reply) → AreShards false shards → 4096 ≤ networks_of_all (hosts_of shards) → IsAnsweredInVain n line a
+pub in_vain : (shards : List Shard) (n : ℕ) (line : Option Bytes) (a : LineReply) → AreShards false shards → 4096 ≤ networks_of_all (hosts_of shards) → IsAnsweredInVain n line a
     → Serves (joined (hosts_of shards)) n line a (joined (hosts_of shards))
 in_vain shards n line a are full vain =
     let all = joined_hosts_have_all_networks (joined (hosts_of shards)).bytes (hosts_of shards) (are.parts refl) in
     vain (joined (hosts_of shards)) (omega (arith, all, full))
 
 -- ---- many lines
-pub batch_answered : (old now : List Shard) (n : ℕ) (lines : List (Option Bytes)) (places : List ℕ) (answers : List Reply) → AreShards false old → length now ≡ length old → ArePlaced (length old) lines places
+pub batch_answered : (old now : List Shard) (n : ℕ) (lines : List (Option Bytes)) (places : List ℕ) (answers : List LineReply) → AreShards false old → length now ≡ length old → ArePlaced (length old) lines places
     → ((k : ℕ) (d : Shard) → k < length old → AreOwnAnswered k (get_or old k d).host n lines places (map reply_of (get_or now k d).answers.items) (get_or now k d).host)
-    → AreGathered places (answers_of now) answers
+    → AreGathered places (waiting_answers now) answers
     → (t : Live) × AreAnswered Serves (joined (hosts_of old)) n lines answers t
     × (length answers ≡ length lines → (t ≡ joined (hosts_of now)) × AreParts (joined (hosts_of old)).bytes (hosts_of now))
 batch_answered old now n lines places answers are long placed own gathered =
     let bytes = (joined (hosts_of old)).bytes in
-    parts_answer_lines_for_the_whole bytes (hosts_of old) (hosts_of now) n lines places (answers_of now) answers (are.parts refl) (as-many now ∙ long ∙ sym (as-many old))
+    parts_answer_lines_for_the_whole bytes (hosts_of old) (hosts_of now) n lines places (waiting_answers now) answers (are.parts refl) (as-many now ∙ long ∙ sym (as-many old))
     (length-map now (λ s. map reply_of s.answers.items) ∙ long ∙ sym (as-many old)) (subst (λ (m : ℕ). ArePlaced m lines places) (sym (as-many old)) placed)
     (λ k l.
     let here : k < length old = omega (arith, l, as-many old) in
     let there : k < length now = omega (arith, here, long) in
     let d : Shard = get_or old k (first old are.some) in
-    subst (λ s. AreOwnAnswered k s n lines places (get_or (answers_of now) k []) (part_at bytes (hosts_of now) k)) (sym (at-place bytes old k d here))
+    subst (λ s. AreOwnAnswered k s n lines places (get_or (waiting_answers now) k []) (part_at bytes (hosts_of now) k)) (sym (at-place bytes old k d here))
     (subst (λ rs. AreOwnAnswered k (get_or old k d).host n lines places rs (part_at bytes (hosts_of now) k)) (sym (get_or-map (λ (s : Shard). map reply_of s.answers.items) now k d [] there))
     (subst (λ t. AreOwnAnswered k (get_or old k d).host n lines places (map reply_of (get_or now k d).answers.items) t) (sym (at-place bytes now k d there)) (own k d here))))
     gathered
@@ -164,10 +164,10 @@ pub same_hosts : (shards : List Shard) (p : ℕ) (s d : Shard) → p < length sh
 same_hosts shards p s d l same =
     map-set host_of shards p s ∙ ap (set (hosts_of shards) p) (same ∙ sym (get_or-map host_of shards p d (host_of d) l)) ∙ set-get_or (hosts_of shards) p (host_of d)
 
-pub answers_set : (shards : List Shard) (p : ℕ) (s : Shard) → answers_of (set shards p s) ≡ set (answers_of shards) p (map reply_of s.answers.items)
+pub answers_set : (shards : List Shard) (p : ℕ) (s : Shard) → waiting_answers (set shards p s) ≡ set (waiting_answers shards) p (map reply_of s.answers.items)
 answers_set shards p s = map-set (λ (s : Shard). map reply_of s.answers.items) shards p s
 
-pub answers_at : (shards : List Shard) (p : ℕ) (d : Shard) → p < length shards → get_or (answers_of shards) p [] ≡ map reply_of (get_or shards p d).answers.items
+pub answers_at : (shards : List Shard) (p : ℕ) (d : Shard) → p < length shards → get_or (waiting_answers shards) p [] ≡ map reply_of (get_or shards p d).answers.items
 answers_at shards p d l = get_or-map (λ (s : Shard). map reply_of s.answers.items) shards p d [] l
 
 pub rested_more : (shards : List Shard) (p : ℕ) (s : Shard) → p < length shards → s.answers.items ≡ [] → ((k : ℕ) (d : Shard) → k < p → (get_or shards k d).answers.items ≡ [])
@@ -213,7 +213,7 @@ fresh_joined bytes [] fresh some = absurd (omega (arith, some))
 fresh_joined bytes (s ∷ shards) fresh some =
     λ i. record { bytes = (All-head (IsFresh bytes) s shards fresh).bytes_is i; waiting = none-waits bytes (s ∷ shards) fresh i; running = none-runs bytes (s ∷ shards) fresh i }
 
-fresh-part : (bytes : Bool) (count k : ℕ) → IsPart count k (new_live bytes)
+fresh-part : (bytes : Bool) (count k : ℕ) → IsHostPart count k (new_live bytes)
 fresh-part bytes count k = record { ordered = record { waiting = tt; running = tt; apart = λ g. inl refl }; own = λ g other. (refl, refl) }
 
 pub fresh_shards : (bytes : Bool) (shards : List Shard) → All (IsFresh bytes) shards → 0 < length shards → AreShards false shards
@@ -221,7 +221,7 @@ fresh_shards bytes shards fresh some =
     are-shards bytes shards some (λ k d l. (fresh k d l).idle) (record {
       some = omega (arith, some, as-many shards);
       alike = λ k l. ap (λ (h : Live). h.bytes) (at k l);
-      each = λ k l. subst (IsPart (length (hosts_of shards)) k) (sym (at k l)) (fresh-part bytes (length (hosts_of shards)) k);
+      each = λ k l. subst (IsHostPart (length (hosts_of shards)) k) (sym (at k l)) (fresh-part bytes (length (hosts_of shards)) k);
     })
   where
     one : (shards : List Shard) → 0 < length shards → Shard
@@ -234,7 +234,7 @@ fresh_shards bytes shards fresh some =
         at-place bytes shards k (one shards some) here ∙ is-new bytes (get_or shards k (one shards some)) (fresh k (one shards some) here)
 
 -- ---- lines that are placed
-take-next : (lines : List Held) (k : ℕ) (h : Held) → k < length lines → get_or lines k h ≡ h → take (k + 1) lines ≡ take k lines ++ h ∷ []
+take-next : (lines : List HeldLine) (k : ℕ) (h : HeldLine) → k < length lines → get_or lines k h ≡ h → take (k + 1) lines ≡ take k lines ++ h ∷ []
 take-next [] k h l at = absurd (omega (arith, l))
 take-next (x ∷ xs) zero h l at = ap (λ y. y ∷ []) at
 take-next (x ∷ xs) (suc k) h l at =
@@ -248,13 +248,13 @@ placed-more count [] (q ∷ places) line p are less of quiet = absurd are
 placed-more count (x ∷ lines) [] line p are less of quiet = absurd are
 placed-more count (x ∷ lines) (q ∷ places) line p are less of quiet = (are.0, are.1, are.2, placed-more count lines places line p are.3 less of quiet)
 
-pub placed_next : (count : ℕ) (lines : List Held) (k : ℕ) (h : Held) (places : List ℕ) (dealt : Dealt) → k < length lines → get_or lines k h ≡ h → ArePlaced count (map given_of (take k lines)) places
+pub placed_next : (count : ℕ) (lines : List HeldLine) (k : ℕ) (h : HeldLine) (places : List ℕ) (dealt : Dealt) → k < length lines → get_or lines k h ≡ h → ArePlaced count (map given_of (take k lines)) places
     → IsDealt count (given_of h) dealt → dealt.declares ≡ false → ArePlaced count (map given_of (take (k + 1) lines)) (places ++ dealt.place ∷ [])
 placed_next count lines k h places dealt l at are is quiet =
     let same : map given_of (take (k + 1) lines) ≡ map given_of (take k lines) ++ given_of h ∷ [] = ap (map given_of) (take-next lines k h l at) ∙ map-append given_of (take k lines) (h ∷ []) in
     subst (λ ls. ArePlaced count ls (places ++ dealt.place ∷ [])) (sym same) (placed-more count (map given_of (take k lines)) places (given_of h) dealt.place are is.within is.place (is.quiet quiet))
 
-pub all_placed : (count : ℕ) (lines : List Held) (k : ℕ) (places : List ℕ) → length lines ≤ k → ArePlaced count (map given_of (take k lines)) places → ArePlaced count (map given_of lines) places
+pub all_placed : (count : ℕ) (lines : List HeldLine) (k : ℕ) (places : List ℕ) → length lines ≤ k → ArePlaced count (map given_of (take k lines)) places → ArePlaced count (map given_of lines) places
 all_placed count lines k places l are = subst (λ ls. ArePlaced count (map given_of ls) places) (take_all k lines l) are
 
 pub placed_long : (count : ℕ) (lines : List (Option Bytes)) (places : List ℕ) → ArePlaced count lines places → length places ≡ length lines
@@ -332,9 +332,9 @@ no_room_left declares full n is none = let both = by declares full (nat_lt n 409
 pub as_long : (a b : List Shard) → hosts_of a ≡ hosts_of b → length a ≡ length b
 as_long a b same = sym (as-many a) ∙ ap length same ∙ as-many b
 
-pub batch_then : (old worked gathered rested : List Shard) (n : ℕ) (lines : List (Option Bytes)) (places : List ℕ) (answers : List Reply) → AreShards false old → length worked ≡ length old → ArePlaced (length old) lines places
+pub batch_then : (old worked gathered rested : List Shard) (n : ℕ) (lines : List (Option Bytes)) (places : List ℕ) (answers : List LineReply) → AreShards false old → length worked ≡ length old → ArePlaced (length old) lines places
     → ((k : ℕ) (d : Shard) → k < length old → AreOwnAnswered k (get_or old k d).host n lines places (map reply_of (get_or worked k d).answers.items) (get_or worked k d).host)
-    → AreGathered places (answers_of worked) answers → hosts_of gathered ≡ hosts_of worked → hosts_of rested ≡ hosts_of gathered → AreBatchAnswered old n lines answers rested
+    → AreGathered places (waiting_answers worked) answers → hosts_of gathered ≡ hosts_of worked → hosts_of rested ≡ hosts_of gathered → AreBatchAnswered old n lines answers rested
 batch_then old worked gathered rested n lines places answers are long placed own gathers one two =
     subst (λ hs. (t : Live) × AreAnswered Serves (joined (hosts_of old)) n lines answers t × (length answers ≡ length lines → (t ≡ joined hs) × AreParts (joined (hosts_of old)).bytes hs)) (sym (two ∙ one))
     (batch_answered old worked n lines places answers are long placed own gathers)
@@ -344,7 +344,7 @@ pub written : (xs ys : List Shard) (n : ℕ) → n ≡ length ys → length xs �
 written xs ys n long same =
     ap (λ (zs : List Shard). take n (xs ++ zs)) (drop_all (length xs) ys (omega (arith, same))) ∙ ap (take n) (append-nil xs) ∙ take_all n xs (omega (arith, long, same))
 
-pub batch_shards : (old new : List Shard) (n : ℕ) (lines : List (Option Bytes)) (answers : List Reply) (lost : Bool) → 0 < length old → length new ≡ length old → All (λ (s : Shard). s.answers.items ≡ []) new
+pub batch_shards : (old new : List Shard) (n : ℕ) (lines : List (Option Bytes)) (answers : List LineReply) (lost : Bool) → 0 < length old → length new ≡ length old → All (λ (s : Shard). s.answers.items ≡ []) new
     → AreBatchAnswered old n lines answers new → lost ≡ nat_lt (length answers) (length lines) → AreShards lost new
 batch_shards old new n lines answers lost some long idle answered is = record {
   some = omega (arith, some, long);
@@ -357,10 +357,10 @@ batch_shards old new n lines answers lost some long idle answered is = record {
 }
 
 -- ---- a host that answered lines
-pub nothing_answered : (l : Live) (n : ℕ) (lines : List Held) (answers : List (Option Answer)) → answers ≡ [] → AreAllAnswered l n (map given_of lines) (map reply_of answers) l
-nothing_answered l n lines answers none = subst (λ as_told. AreAllAnswered l n (map given_of lines) (map reply_of as_told) l) (sym none) (l, refl, λ all. refl)
+pub nothing_answered : (l : Live) (n : ℕ) (lines : List HeldLine) (answers : List (Option Answer)) → answers ≡ [] → AreAnsweredUntil l n (map given_of lines) (map reply_of answers) l
+nothing_answered l n lines answers none = subst (λ as_told. AreAnsweredUntil l n (map given_of lines) (map reply_of as_told) l) (sym none) (l, refl, λ all. refl)
 
-pub together_answered : (old new : List Shard) (l : Live) (n : ℕ) (lines : List (Option Bytes)) (answers : List Reply) → joined (hosts_of old) ≡ l → AreBatchAnswered old n lines answers new
-    → AreAllAnswered l n lines answers (joined (hosts_of new))
+pub together_answered : (old new : List Shard) (l : Live) (n : ℕ) (lines : List (Option Bytes)) (answers : List LineReply) → joined (hosts_of old) ≡ l → AreBatchAnswered old n lines answers new
+    → AreAnsweredUntil l n lines answers (joined (hosts_of new))
 together_answered old new l n lines answers view answered =
-    subst (λ h. AreAllAnswered h n lines answers (joined (hosts_of new))) view (answered.0, answered.1, λ all. (answered.2 all).0)
+    subst (λ h. AreAnsweredUntil h n lines answers (joined (hosts_of new))) view (answered.0, answered.1, λ all. (answered.2 all).0)

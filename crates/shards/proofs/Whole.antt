@@ -2,16 +2,16 @@
 use Rattle.std.specs.Prelude.{◌≡◌, ◌≢◌, ◌+◌, ◌<◌, ◌==◌, ℕ, Bool, true, false, length, slice_set, List, Some, None}
 use Rattle.std.proofs.Common.{◌∙◌, refl, sym, ap, subst, inl, inr, arith, true≢false, ext_get_or, get_or-set_other, get_or-set_same, length-set}
 use Rattle.std.proofs.lemmas.Bool.Decides.{Decides-eqb}
-use Rattle.feed.specs.Served.{Reply}
+use Rattle.feed.specs.Served.{LineReply}
 use Rattle.requests.specs.declared.ask.Ask.{Ask}
 use Rattle.serving.specs.Apart.{HasRoomToAnswer, IsOrdered, OthersStay, alone}
-use Rattle.serving.specs.Hosts.{IsAnswer, Live, Serves, live_at, new_live}
+use Rattle.serving.specs.Hosts.{IsAskAnswered, Live, Serves, live_at, new_live}
 use Rattle.serving.proofs.Alone.{found-alone}
 use Rattle.serving.proofs.ApartAnswers.{answers_are_given_next_to_others, answers_are_local}
 use Rattle.serving.proofs.ApartHosts.{waits-as-alone}
 use Rattle.serving.proofs.ApartLines.{hosts_stay_ordered}
 use Rattle.serving.proofs.ApartShuffled.{same-by-networks}
-use Rattle.shards.specs.Parts.{AreParts, IsPart, PartsAnswerForTheWhole, joined, part_at, place_of}
+use Rattle.shards.specs.Parts.{AreParts, IsHostPart, PartsAnswerForTheWhole, joined, part_at, place_of}
 use Rattle.shards.proofs.Joined.{alone-at-place, joined-ordered, place-below}
 
 -- ---- one part in the place of another
@@ -46,7 +46,7 @@ same-parts bytes parts k new below is =
     (subst (λ n. j < n) (length-set parts k new) less))
 
 pub parts-set : (bytes : Bool) (parts : List Live) (k : ℕ) (new : Live) → AreParts bytes parts → k < length parts
-    → new.bytes ≡ bytes → IsPart (length parts) k new → AreParts bytes (slice_set parts k new)
+    → new.bytes ≡ bytes → IsHostPart (length parts) k new → AreParts bytes (slice_set parts k new)
 parts-set bytes parts k new are below alike part =
     let many = length-set parts k new in
     record {
@@ -55,8 +55,8 @@ parts-set bytes parts k new are below alike part =
           all-set (λ i l. l.bytes ≡ bytes) bytes parts k new below alike (λ i more differ. are.alike i more) j
           (subst (λ n. j < n) many less);
       each = λ j less.
-          subst (λ n. IsPart n j (part_at bytes (slice_set parts k new) j)) (sym many)
-          (all-set (IsPart (length parts)) bytes parts k new below part (λ i more differ. are.each i more) j
+          subst (λ n. IsHostPart n j (part_at bytes (slice_set parts k new) j)) (sym many)
+          (all-set (IsHostPart (length parts)) bytes parts k new below part (λ i more differ. are.each i more) j
           (subst (λ n. j < n) many less));
     }
 
@@ -110,10 +110,10 @@ same-alone-then bytes parts k g new t are below place stay whole-stay here later
         ∙ sym (stay h apart)
 
 -- what the part answers the whole host may answer, and if it is ordered then, it is what its parts are
-changed : (bytes : Bool) (parts : List Live) (k n g : ℕ) (asked : Ask) (a : Reply) (new : Live) → AreParts bytes parts
+changed : (bytes : Bool) (parts : List Live) (k n g : ℕ) (asked : Ask) (a : LineReply) (new : Live) → AreParts bytes parts
     → k < length parts → place_of (length parts) g ≡ k → HasRoomToAnswer asked (part_at bytes parts k)
-    → HasRoomToAnswer asked (joined parts) → IsOrdered new → IsAnswer n g asked (part_at bytes parts k) a new
-    → (t : Live) × IsAnswer n g asked (joined parts) a t × (IsOrdered t → t ≡ joined (slice_set parts k new))
+    → HasRoomToAnswer asked (joined parts) → IsOrdered new → IsAskAnswered n g asked (part_at bytes parts k) a new
+    → (t : Live) × IsAskAnswered n g asked (joined parts) a t × (IsOrdered t → t ≡ joined (slice_set parts k new))
     × AreParts bytes (slice_set parts k new)
 changed bytes parts k n g asked a new are below place room whole-room ordered answers =
     let own = answers_are_local (part_at bytes parts k) new n g asked a (are.each k below).ordered room answers in
@@ -121,7 +121,7 @@ changed bytes parts k n g asked a new are below place room whole-room ordered an
     ap (λ j. alone g (part_at bytes parts j)) (sym place) ∙ sym (alone-at-place bytes parts are g) in
     let next =
     answers_are_given_next_to_others (joined parts) (alone g new) n g asked a (joined-ordered bytes parts are) whole-room
-    (subst (λ l. IsAnswer n g asked l a (alone g new)) one own.0) in
+    (subst (λ l. IsAskAnswered n g asked l a (alone g new)) one own.0) in
     let later = still-part bytes parts k g new are below place ordered own.1 in (
       next.0,
       next.1,

@@ -4,7 +4,7 @@ use Rattle.std.specs.List.{slice_split}
 use Rattle.scripts.specs.Script.{Bytes}
 use Rattle.scripts.specs.Words.{word_counter}
 use Rattle.protocol.specs.Networks.{Budgets}
-use Rattle.requests.specs.Asking.{IsAsked}
+use Rattle.requests.specs.Asking.{IsAskedOf}
 use Rattle.requests.specs.Forms.{is_word}
 use Rattle.requests.specs.declared.ask.Ask.{Ask}
 use Rattle.requests.specs.declared.ask.Ask.TheVariants as ask
@@ -20,21 +20,21 @@ network_in fields = option_and_then word_counter (slice_get fields 1)
 
 -- what a line asks for, it asks of the network whose number is its second field
 abbrev pub AskedNetworksAreNamed : Type 0
-AskedNetworksAreNamed = (fields : List Bytes) (g : ℕ) (asked : Ask) → IsAsked fields (Some (g, asked)) → network_in fields ≡ Some g
+AskedNetworksAreNamed = (fields : List Bytes) (g : ℕ) (asked : Ask) → IsAskedOf fields (Some (g, asked)) → network_in fields ≡ Some g
 
 -- the first field is `net`
 abbrev pub is_net : List Bytes → Bool
 is_net [] = false
 is_net (word ∷ fields) = is_word word (codes "net")
 
--- only such a line declares a network
+-- only a line that begins with `net` declares a network
 abbrev pub OnlyNetsDeclareNetworks : Type 0
 OnlyNetsDeclareNetworks =
-    (fields : List Bytes) (g : ℕ) (budgets : Budgets) → IsAsked fields (Some (g, ask.Declare (declaration.Net budgets)))
+    (fields : List Bytes) (g : ℕ) (budgets : Budgets) → IsAskedOf fields (Some (g, ask.Declare (declaration.Net budgets)))
     → is_net fields ≡ true
 
--- such a line asks for nothing else
+-- a line that begins with `net` asks for nothing but that a network is declared
 abbrev pub NetsDeclareNetworks : Type 0
 NetsDeclareNetworks =
-    (fields : List Bytes) (g : ℕ) (asked : Ask) → is_net fields ≡ true → IsAsked fields (Some (g, asked))
+    (fields : List Bytes) (g : ℕ) (asked : Ask) → is_net fields ≡ true → IsAskedOf fields (Some (g, asked))
     → (budgets : Budgets) × (asked ≡ ask.Declare (declaration.Net budgets))

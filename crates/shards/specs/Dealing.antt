@@ -1,7 +1,7 @@
 -- To which shard a line goes.
 use Rattle.std.specs.Prelude.{◌≡◌, ◌<◌, ◌≤◌, ℕ, true, false, Option, Some, None}
 use Rattle.scripts.specs.Script.{Bytes}
-use Rattle.feed.specs.Served.{Reply}
+use Rattle.feed.specs.Served.{LineReply}
 use Rattle.serving.specs.Hosts.{Live, Serves}
 use Rattle.shards.specs.Asked.{cut_at_spaces, is_net}
 use Rattle.shards.specs.Parts.{HasRoomForLine, IsOfPlace, networks_of}
@@ -18,6 +18,6 @@ abbrev pub IsNetLine : Option Bytes → Type 0
 IsNetLine None = ⊥
 IsNetLine (Some line) = is_net (cut_at_spaces line) ≡ true
 
--- where as many networks are declared as may be, a line is answered so, and changes nothing
-abbrev pub IsAnsweredInVain : ℕ → Option Bytes → Reply → Type 0
+-- if as many networks are declared as may be, a line is answered so, and changes nothing
+abbrev pub IsAnsweredInVain : ℕ → Option Bytes → LineReply → Type 0
 IsAnsweredInVain n line a = (l : Live) → 4096 ≤ networks_of l → Serves l n line a l

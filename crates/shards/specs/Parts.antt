@@ -3,8 +3,8 @@ use Rattle.std.specs.Prelude.{◌≡◌, ◌≢◌, ◌+◌, ◌%◌, ◌<◌, �
 use Rattle.std.specs.BTreeMap.{insert_entry}
 use Rattle.std.specs.Ordering.{nat_cmp}
 use Rattle.scripts.specs.Script.{AreFields, Bytes, IsSkipped}
-use Rattle.feed.specs.Served.{AreAnswered, Reply}
-use Rattle.requests.specs.Asking.{IsAsked}
+use Rattle.feed.specs.Served.{AreAnswered, LineReply}
+use Rattle.requests.specs.Asking.{IsAskedOf}
 use Rattle.requests.specs.Outlines.{waiting_at}
 use Rattle.requests.specs.declared.ask.Ask.{Ask}
 use Rattle.serving.specs.Apart.{HasRoomToAnswer, IsOrdered}
@@ -25,12 +25,12 @@ joined (l ∷ ls) = record {
   running = both_of l.running (joined ls).running;
 }
 
--- at which of so many places the network of a number is
+-- at which of `count` places the network of a number is
 abbrev pub place_of : ℕ → ℕ → ℕ
 place_of count g = g % count
 
--- the host at a place, of so many, has networks of this place alone
-pub record IsPart (count place : ℕ) (l : Live) : Type 0 where
+-- the networks of the host at a place, of `count`, ascend by number, and all are of this place
+pub record IsHostPart (count place : ℕ) (l : Live) : Type 0 where
   pub ordered : IsOrdered l
   pub own : (g : ℕ) → place_of count g ≢ place → (waiting_at l.waiting g ≡ None) × (live_at l g ≡ None)
 
@@ -42,13 +42,13 @@ part_at bytes parts k = slice_index_or parts k (new_live bytes)
 pub record AreParts (bytes : Bool) (parts : List Live) : Type 0 where
   pub some : 0 < length parts
   pub alike : (k : ℕ) → k < length parts → (part_at bytes parts k).bytes ≡ bytes
-  pub each : (k : ℕ) → k < length parts → IsPart (length parts) k (part_at bytes parts k)
+  pub each : (k : ℕ) → k < length parts → IsHostPart (length parts) k (part_at bytes parts k)
 
 -- how many networks are declared
 abbrev pub networks_of : Live → ℕ
 networks_of l = length l.waiting + length l.running
 
--- in all of them
+-- how many networks are declared in all parts together
 abbrev pub networks_of_all : List Live → ℕ
 networks_of_all [] = 0
 networks_of_all (l ∷ ls) = networks_of l + networks_of_all ls
@@ -59,24 +59,24 @@ JoinedHostsHaveAllNetworks =
     (bytes : Bool) (parts : List Live) → AreParts bytes parts → networks_of (joined parts) ≡ networks_of_all parts
 
 -- ---- one line
--- what a line asks for, it asks of a network of this place, of so many
+-- what a line asks for, it asks of a network of this place, of `count`
 abbrev pub IsOfPlace : ℕ → ℕ → Option Bytes → Type 0
 IsOfPlace count place None = Unit {0}
 IsOfPlace count place (Some line) =
     (IsSkipped line → ⊥) → (fields : List Bytes) (g : ℕ) (asked : Ask) → AreFields line fields
-    → IsAsked fields (Some (g, asked)) → place_of count g ≡ place
+    → IsAskedOf fields (Some (g, asked)) → place_of count g ≡ place
 
 -- if a line declares a network, the host has room for it
 abbrev pub HasRoomForLine : Option Bytes → Live → Type 0
 HasRoomForLine None l = Unit {0}
 HasRoomForLine (Some line) l =
     (IsSkipped line → ⊥) → (fields : List Bytes) (g : ℕ) (asked : Ask) → AreFields line fields
-    → IsAsked fields (Some (g, asked)) → HasRoomToAnswer asked l
+    → IsAskedOf fields (Some (g, asked)) → HasRoomToAnswer asked l
 
 -- what a part answers to a line of its place, the whole host answers, if both have room for the network that it may declare
 abbrev pub PartsAnswerForTheWhole : Type 0
 PartsAnswerForTheWhole =
-    (bytes : Bool) (parts : List Live) (k n : ℕ) (line : Option Bytes) (a : Reply) (new : Live) → AreParts bytes parts
+    (bytes : Bool) (parts : List Live) (k n : ℕ) (line : Option Bytes) (a : LineReply) (new : Live) → AreParts bytes parts
     → k < length parts → IsOfPlace (length parts) k line → HasRoomForLine line (part_at bytes parts k)
     → HasRoomForLine line (joined parts) → Serves (part_at bytes parts k) n line a new
     → Serves (joined parts) n line a (joined (slice_set parts k new)) × AreParts bytes (slice_set parts k new)
@@ -84,25 +84,26 @@ PartsAnswerForTheWhole =
 -- ---- many lines
 -- of lines, the first with this number, the host at a place answered those of this place one after the other, until one was
 -- not answered; and what is left of it
-pub data AreOwnAnswered (k : ℕ) : Live → ℕ → List (Option Bytes) → List ℕ → List Reply → Live → Type 0 where
+pub data AreOwnAnswered (k : ℕ) : Live → ℕ → List (Option Bytes) → List ℕ → List LineReply → Live → Type 0 where
   at_end : {s : Live} {n : ℕ} → AreOwnAnswered k s n [] [] [] s
-  own : {s u t : Live} {n : ℕ} {line : Option Bytes} {lines : List (Option Bytes)} {places : List ℕ} {answers : List Reply}
-      (a : Reply) → Serves s n line a u → AreOwnAnswered k u (n + 1) lines places answers t
+  own : {s u t : Live} {n : ℕ} {line : Option Bytes} {lines : List (Option Bytes)} {places : List ℕ} {answers : List LineReply}
+      (a : LineReply) → Serves s n line a u → AreOwnAnswered k u (n + 1) lines places answers t
       → AreOwnAnswered k s n (line ∷ lines) (k ∷ places) (a ∷ answers) t
   not_own : {s t : Live} {n : ℕ} {line : Option Bytes} {lines : List (Option Bytes)} {places : List ℕ}
-      {answers : List Reply} (p : ℕ) → p ≢ k → AreOwnAnswered k s (n + 1) lines places answers t
+      {answers : List LineReply} (p : ℕ) → p ≢ k → AreOwnAnswered k s (n + 1) lines places answers t
       → AreOwnAnswered k s n (line ∷ lines) (p ∷ places) answers t
   stops : {s t : Live} {n : ℕ} {line : Option Bytes} {lines : List (Option Bytes)} {places : List ℕ}
       → AreOwnAnswered k s n (line ∷ lines) (k ∷ places) [] t
 
--- from the answers of all places the next one of each place was taken, in the order of these, until one was wanting
-pub data AreGathered : List ℕ → List (List Reply) → List Reply → Type 0 where
-  ends : {places : List ℕ} {all : List (List Reply)} → AreGathered places all []
-  takes : {p : ℕ} {places : List ℕ} {all : List (List Reply)} {a : Reply} {rest answers : List Reply}
+-- From the answers of all places the next one of each place was taken, in the order of these. That may have ended
+-- before the last of them, even if an answer was left there.
+pub data AreGathered : List ℕ → List (List LineReply) → List LineReply → Type 0 where
+  ends : {places : List ℕ} {all : List (List LineReply)} → AreGathered places all []
+  takes : {p : ℕ} {places : List ℕ} {all : List (List LineReply)} {a : LineReply} {rest answers : List LineReply}
       → slice_index_or all p [] ≡ a ∷ rest → AreGathered places (slice_set all p rest) answers
       → AreGathered (p ∷ places) all (a ∷ answers)
 
--- each line is of its place, of so many, and declares no network
+-- each line is of its place, of `count`, and declares no network
 abbrev pub ArePlaced : ℕ → List (Option Bytes) → List ℕ → Type 0
 ArePlaced count [] [] = Unit {0}
 ArePlaced count [] (p ∷ places) = ⊥
@@ -110,12 +111,12 @@ ArePlaced count (line ∷ lines) [] = ⊥
 ArePlaced count (line ∷ lines) (p ∷ places) =
     (p < count) × IsOfPlace count p line × ((l : Live) → HasRoomForLine line l) × ArePlaced count lines places
 
--- Where each part answers the lines of its place, the gathered answers are those of the whole host to the lines one after
--- the other; and if none is wanting, it is what the parts are then.
+-- If each part answers the lines of its place, none of which declares a network, the gathered answers are those of the
+-- whole host to the lines one after the other. If none is wanting, the host is what the parts are then.
 abbrev pub PartsAnswerLinesForTheWhole : Type 0
 PartsAnswerLinesForTheWhole =
-    (bytes : Bool) (parts now : List Live) (n : ℕ) (lines : List (Option Bytes)) (places : List ℕ) (all : List (List Reply))
-    (answers : List Reply) → AreParts bytes parts → length now ≡ length parts → length all ≡ length parts
+    (bytes : Bool) (parts now : List Live) (n : ℕ) (lines : List (Option Bytes)) (places : List ℕ) (all : List (List LineReply))
+    (answers : List LineReply) → AreParts bytes parts → length now ≡ length parts → length all ≡ length parts
     → ArePlaced (length parts) lines places
     → ((k : ℕ) → k < length parts
     → AreOwnAnswered k (part_at bytes parts k) n lines places (slice_index_or all k []) (part_at bytes now k))

@@ -18,8 +18,8 @@ pub(crate) struct Dealt {
     pub declares: bool,
 }
 
-/// To which of so many shards a line goes: that of the network that it names, or the first if it names none. Only its first
-/// two fields are looked at, since the shard reads the line as a whole.
+/// To which of `count` shards a line goes: that of the network that it names, or the first if it names none or is too
+/// long. Only its first two fields are looked at, since the shard reads the line as a whole.
 pub(crate) fn deal(line: Option<&[u8]>, count: usize) -> Dealt
     requires { 0 < count }
     ensures dealt { IsDealt count (option_map (λ bytes. bytes.now) line.entry) result }
@@ -61,8 +61,9 @@ fn field_at(line: &[u8], place: usize) -> Option<&[u8]>
     line.split(|byte| *byte == b' ').nth(place)
 }
 
-/// The answer to a line that begins with `net` where as many networks are declared as may be: it is bad, whatever it asks
-/// for. An error says that memory is short.
+/// The answer to a line that begins with `net` if as many networks are declared as may be: it is bad, whatever it asks
+/// for. What it asks for is read only because the contract speaks of it. Each bad line is answered as one that is too
+/// long, by whatever host. An error says that it is out of memory.
 pub(crate) fn answer_in_vain(
     alloc: Global,
     number: u64,

@@ -18,7 +18,8 @@ pub(crate) struct Shard {
 }
 
 impl Shard {
-    /// Answers lines behind so many, those that go to this place, one after the other until memory is short.
+    /// Answers those of the lines that go to this place, one after the other, until it is out of memory. `count` lines stand
+    /// before them.
     pub(crate) fn work(
         &mut self,
         alloc: Global,

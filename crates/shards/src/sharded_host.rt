@@ -6,7 +6,7 @@ ghost use Rattle.feed.specs.Reading.{given_of};
 ghost use Rattle.feed.specs.Served.{reply_of};
 ghost use Rattle.serving.specs.Hosts.{new_live};
 ghost use Rattle.shards.specs.Parts.{AreGathered, AreOwnAnswered, ArePlaced, networks_of_all};
-ghost use Rattle.shards.specs.Sharded.{AllLess, AreAllAnswered, AreBatchAnswered, AreShards, answers_of, hosts_of};
+ghost use Rattle.shards.specs.Sharded.{AllLess, AreAnsweredUntil, AreBatchAnswered, AreShards, hosts_of, waiting_answers};
 ghost use Rattle.shards.specs.declared.shard.Shard.{Shard};
 
 use crate::dealing::{Dealt, answer_in_vain, deal};
@@ -25,9 +25,9 @@ const FEW_LINES: usize = 16;
 /// For how many shards lines are taken together at most: all of these lines and their answers are kept at a time.
 const MOST_SHARES: usize = 4;
 
-/// A live host whose networks are shared out among as many shards as there are workers.
-///
-/// Contracts see it as one live host, with the networks of all shards.
+/// A live host whose networks are shared out among as many shards as there are workers. Contracts see it as one live
+/// host, with the networks of all shards. If a line that was dealt has no answer for want of memory, shards may have
+/// answered lines behind it; so no further line is answered.
 #[derive(Drop)]
 pub struct ShardedHost {
     shards: Vec<Shard>,
@@ -51,8 +51,8 @@ impl Model for ShardedHost {
 }
 
 impl ShardedHost {
-    /// A host without networks in so many shards, which prints envelopes as bytes if that is asked for. An error says that
-    /// memory is short.
+    /// A host without networks in `count` shards, which prints envelopes as bytes if `bytes` is set. An error says that
+    /// it is out of memory.
     pub fn new(alloc: Global, bytes: bool, count: usize) -> Result<ShardedHost, AllocError>
         requires { 0 < count }
         ensures { IfOk result (λ host. host ≡ new_live bytes) }
@@ -70,8 +70,9 @@ impl ShardedHost {
         })
     }
 
-    /// The answers to lines behind so many, by all shards side by side; `None` where one of them may declare a network, or
-    /// there is no memory to deal them out. Then nothing was done.
+    /// The answers to lines, by all shards side by side; `count` lines stand before them. `None` says that one of them
+    /// may declare a network, or that there is no memory to deal them out. Then nothing was done. If there are fewer
+    /// answers than lines, it is out of memory, and no further line is answered.
     fn serve_together<R: Threads + Sync>(
         &mut self,
         rt: &R,
@@ -81,7 +82,7 @@ impl ShardedHost {
     ) -> Option<VecDeque<Option<Answer>>>
         requires { count + length lines.now < 2 ^ 64 }
         ensures none { IfNone result (self.new ≡ self.old) }
-        ensures answered { IfSome result (λ answers. AreAllAnswered self.old (count + 1) (map given_of lines.now) (map reply_of answers.items) self.new) }
+        ensures answered { IfSome result (λ answers. AreAnsweredUntil self.old (count + 1) (map given_of lines.now) (map reply_of answers.items) self.new) }
     {
         if self.lost {
             // Memory: there was none for a line before.
@@ -119,7 +120,7 @@ fn has_room(dealt: Dealt, shards: &[Shard]) -> bool
     !dealt.declares || !are_full(shards)
 }
 
-/// To which shards lines go; `None` where one of them may declare a network, or memory is short.
+/// To which shards lines go; `None` if one of them may declare a network, or it is out of memory.
 fn places_of(alloc: Global, lines: &[KeptLine], count: usize) -> Option<Vec<usize>>
     requires { 0 < count }
     ensures { IfSome result (λ places. ArePlaced count (map given_of lines.now) places.items) }
@@ -136,7 +137,8 @@ fn places_of(alloc: Global, lines: &[KeptLine], count: usize) -> Option<Vec<usiz
     Some(places)
 }
 
-/// Each shard answers those of the lines behind so many that go to it, in a thread of its own where one can be started.
+/// Each shard answers those of the lines that go to it, in a thread of its own if one can be started. `count` lines stand
+/// before them.
 fn work<R: Threads + Sync>(
     rt: &R,
     alloc: Global,
@@ -167,7 +169,7 @@ fn work<R: Threads + Sync>(
 /// The answers of all shards in the order of these places, until one is wanting.
 fn gather(alloc: Global, shards: &mut [Shard], places: &[usize]) -> VecDeque<Option<Answer>>
     requires { AllLess (length shards.old) places.now }
-    ensures gathered { AreGathered places.now (answers_of shards.old) (map reply_of result.items) }
+    ensures gathered { AreGathered places.now (waiting_answers shards.old) (map reply_of result.items) }
     ensures hosts { hosts_of shards.new ≡ hosts_of shards.old }
 {
     let mut answers = VecDeque::new(alloc);
@@ -182,7 +184,7 @@ fn gather(alloc: Global, shards: &mut [Shard], places: &[usize]) -> VecDeque<Opt
     answers
 }
 
-/// No answers are kept.
+/// Lets go of all answers that were not gathered.
 fn rest(shards: &mut [Shard])
     ensures idle { All (λ s. s.answers.items ≡ []) shards.new }
     ensures hosts { hosts_of shards.new ≡ hosts_of shards.old }
@@ -192,7 +194,7 @@ fn rest(shards: &mut [Shard])
     }
 }
 
-/// The answers to lines behind so many, which go to the shards of these places, until one is wanting.
+/// The answers to lines that go to the shards of these places, until one is wanting. `count` lines stand before them.
 fn serve_dealt<R: Threads + Sync>(
     rt: &R,
     alloc: Global,
@@ -216,18 +218,19 @@ fn serve_dealt<R: Threads + Sync>(
 
 impl LineServer for ShardedHost {
     ghost use Rattle.serving.specs.Hosts.{Serves};
-    ghost use Rattle.serving.specs.Keeping.{empty_lines_are_skipped, kept_lines_are_whole, only_kept_lines_count};
+    ghost use Rattle.serving.specs.Keeping.{live_empty_lines_are_skipped, live_kept_lines_are_whole, live_only_kept_lines_count};
 
     ghost serves = { Serves };
 
-    ghost only_kept = { only_kept_lines_count };
+    ghost only_kept = { live_only_kept_lines_count };
 
-    ghost skipped = { empty_lines_are_skipped };
+    ghost skipped = { live_empty_lines_are_skipped };
 
-    ghost whole = { kept_lines_are_whole };
+    ghost whole = { live_kept_lines_are_whole };
 
-    /// The answer to a line, by the shard to which it goes. An error says that memory is short; then the line has no answer,
-    /// and no further one has.
+    /// The answer to a line, by the shard to which it goes. One that may declare a network is bad if all shards have
+    /// 4,096 together. An error says that it is out of memory; then the line has no answer. If that was so in its
+    /// shard, no further line has one.
     fn serve(
         &mut self,
         alloc: Global,
@@ -249,8 +252,8 @@ impl LineServer for ShardedHost {
 }
 
 impl BatchServer for ShardedHost {
-    /// As many lines for each of the first shards as one is given alone. To start a thread takes as long as some lines, and
-    /// may wait until a processor is free.
+    /// [`MOST_LINES`] for each shard, for at most `MOST_SHARES` of them. A thread is given that many since to start it
+    /// takes as long as some lines, and may wait until a processor is free.
     fn lines_at_once(&self) -> usize {
         let shares = if self.shards.len() < MOST_SHARES {
             self.shards.len()
@@ -260,8 +263,9 @@ impl BatchServer for ShardedHost {
         shares * MOST_LINES
     }
 
-    /// Answers lines, each by the shard to which it goes, and those of different shards in different threads. Few lines, and
-    /// such among which one may declare a network, are answered in turn.
+    /// Answers lines, each by the shard to which it goes, and those of different shards in different threads. They are
+    /// answered in turn if they are few, if there is one shard, or if there is no memory to deal them out. So they are
+    /// if one may declare a network, since its limit counts the networks of all shards.
     fn serve_batch<R: Threads + Sync>(
         &mut self,
         rt: &R,

@@ -31,22 +31,22 @@ use Rattle.latest.specs.Puts.{IsPut}
 use Rattle.listening.specs.declared.configured.Configured.{Configured}
 use Rattle.listening.proofs.Offers.{put-takes}
 use Rattle.listening.specs.Listening.{ListenerState}
-use Rattle.slot.specs.Listening.{Held, node_of}
+use Rattle.slot.specs.Listening.{FiledNode, node_of}
 use Rattle.slot.specs.declared.filed.GivenOut.{GivenOut}
-use Rattle.slot.specs.Filings.{outs_of}
+use Rattle.slot.specs.Filings.{whole_outs}
 use Rattle.slot.specs.declared.changes.Changed.{Changed}
-use Rattle.slot.specs.NodeParts.{ChangesTo, IsChange, SendWellFormed, inputs_in_round, node_from_parts, with_changed}
+use Rattle.slot.specs.NodeParts.{ChangesTo, IsBeforePasses, SendWellFormed, inputs_in_round, node_from_parts, with_changed}
 
 -- the node that is held
-abbrev pub node_in : Held → Node
+abbrev pub node_in : FiledNode → Node
 node_in h = h.node
 
 -- the votes that an event changes settle within the limit
-pub settles_of : (m : Node) → IsChange m → IsTrue (is_some (settle most_passes (after_pass m) m.votes))
+pub settles_of : (m : Node) → IsBeforePasses m → IsTrue (is_some (settle most_passes (after_pass m) m.votes))
 settles_of m d = never_limited d.before d.reached d.event m d.is
 
 -- what they send once they settle is well formed
-pub sends_of : (m : Node) → IsChange m → IfSome (settle most_passes (after_pass m) m.votes) SendWellFormed
+pub sends_of : (m : Node) → IsBeforePasses m → IfSome (settle most_passes (after_pass m) m.votes) SendWellFormed
 unfolding step
 sends_of m d = go (settle most_passes (after_pass m) m.votes) (subst (λ (o : Option Node). ComesOfEvents (node_and_outs d.before (after_change o)).0) d.is (next d.reached d.event))
   where
@@ -144,7 +144,7 @@ change-slices h k inputs votes n q e is = ap (λ m. change m (Reslice q)) (sym e
 
 -- ---- inputs and votes
 -- those that an event set, as the change of the node that they are of
-abbrev pub change-of : (h : ListenerState) (inputs : Inputs) (votes : Votes) (n : Node) (event : NodeEvent) (o : Option Changed) (d : Changed) → node_of h inputs votes ≡ n → ComesOfEvents (node_of h inputs votes) → o ≡ Some d → ChangesTo n event o → IsChange (node_of h d.inputs d.votes)
+abbrev pub change-of : (h : ListenerState) (inputs : Inputs) (votes : Votes) (n : Node) (event : NodeEvent) (o : Option Changed) (d : Changed) → node_of h inputs votes ≡ n → ComesOfEvents (node_of h inputs votes) → o ≡ Some d → ChangesTo n event o → IsBeforePasses (node_of h d.inputs d.votes)
 change-of h inputs votes n event o d e reached is made = record {
   before = n;
   event = event;
@@ -157,16 +157,16 @@ pub step-none : (n : Node) (event : NodeEvent) (o : Option Changed) → o ≡ No
 step-none n event o is made = step-is n event None (made ∙ ap (option_map (with_changed n)) is)
 
 -- ---- once the votes have settled
-step-some : (m : Node) (d : IsChange m) (w : Votes) → settle most_passes (after_pass m) m.votes ≡ Some w → step d.before d.event ≡ node_and_outs d.before (Some (record m { votes = w }))
+step-some : (m : Node) (d : IsBeforePasses m) (w : Votes) → settle most_passes (after_pass m) m.votes ≡ Some w → step d.before d.event ≡ node_and_outs d.before (Some (record m { votes = w }))
 step-some m d w h = step-is d.before d.event (Some m) d.is ∙ ap (λ (o : Option Votes). node_and_outs d.before (with_settled_votes m o)) h
 
 -- the node that is held then is the step's
-pub node-after : (k : ListenerState) (inputs : Inputs) (votes : Votes) (d : IsChange (node_of k inputs votes)) (h : ListenerState) (u w : Votes) → settle most_passes (after_pass (node_of k inputs votes)) votes ≡ Some w → h ≡ k → u ≡ w → node_of h inputs u ≡ (step d.before d.event).0
+pub node-after : (k : ListenerState) (inputs : Inputs) (votes : Votes) (d : IsBeforePasses (node_of k inputs votes)) (h : ListenerState) (u w : Votes) → settle most_passes (after_pass (node_of k inputs votes)) votes ≡ Some w → h ≡ k → u ≡ w → node_of h inputs u ≡ (step d.before d.event).0
 node-after k inputs votes d h u w settled same set =
     let held : node_of h inputs u ≡ node_of k inputs w = λ i. node_of (same i) inputs (set i) in
     held ∙ sym (ap (λ (p : Node × List Out). p.0) (step-some (node_of k inputs votes) d w settled))
 
-pub reached-after : (k : ListenerState) (inputs : Inputs) (votes : Votes) (d : IsChange (node_of k inputs votes)) (h : ListenerState) (u w : Votes) → settle most_passes (after_pass (node_of k inputs votes)) votes ≡ Some w → h ≡ k → u ≡ w → ComesOfEvents (node_of h inputs u)
+pub reached-after : (k : ListenerState) (inputs : Inputs) (votes : Votes) (d : IsBeforePasses (node_of k inputs votes)) (h : ListenerState) (u w : Votes) → settle most_passes (after_pass (node_of k inputs votes)) votes ≡ Some w → h ≡ k → u ≡ w → ComesOfEvents (node_of h inputs u)
 reached-after k inputs votes d h u w settled same set = subst ComesOfEvents (sym (node-after k inputs votes d h u w settled same set)) (next d.reached d.event)
 
 -- and what is given out is the step's: it does not depend on the slices and rows before the event
@@ -174,7 +174,7 @@ outs-by_new : (c d : Configured) (inputs : Inputs) (votes : Votes) (before table
 unfolding outs
 outs-by_new c d inputs votes before table new = refl
 
-pub outs-after : (k : ListenerState) (inputs : Inputs) (votes : Votes) (d : IsChange (node_of k inputs votes)) (h : ListenerState) (a : Inputs) (v w : Votes) (os : List Out) → settle most_passes (after_pass (node_of k inputs votes)) votes ≡ Some w → node_of h a v ≡ d.before
+pub outs-after : (k : ListenerState) (inputs : Inputs) (votes : Votes) (d : IsBeforePasses (node_of k inputs votes)) (h : ListenerState) (a : Inputs) (v w : Votes) (os : List Out) → settle most_passes (after_pass (node_of k inputs votes)) votes ≡ Some w → node_of h a v ≡ d.before
     → ((before after : List Sent) → os ≡ outs (node_from_parts k.configured a v before) (node_from_parts k.configured inputs w after)) → os ≡ (step d.before d.event).1
 outs-after k inputs votes d h a v w os settled is given =
     given (sents_of k.table) (sents_of k.table)
@@ -184,12 +184,12 @@ outs-after k inputs votes d h a v w os settled is given =
 
 -- ---- quiet
 -- an envelope from outside of a set that holds the node's reach, and not from a leader
-pub quiet-after : {E : Type 0} (n new : Node) (event : NodeEvent) (r : Result GivenOut E) → ComesOfEvents n → OnOk r (new ≡ (step n event).0) → IfOk r (λ v. outs_of v.outs.items ≡ (step n event).1)
-    → (R : Names) (x : Sent) → event ≡ Take x → HoldsReach n.name n.slices n.table R → IsFalse (R x.sender) → IsFalse (among n.inputs.leaders x.sender) → IfOk r (λ v. IsQuiet R n new (outs_of v.outs.items))
+pub quiet-after : {E : Type 0} (n new : Node) (event : NodeEvent) (r : Result GivenOut E) → ComesOfEvents n → OnOk r (new ≡ (step n event).0) → IfOk r (λ v. whole_outs v.outs.items ≡ (step n event).1)
+    → (R : Names) (x : Sent) → event ≡ Take x → HoldsReach n.name n.slices n.table R → IsFalse (R x.sender) → IsFalse (among n.inputs.leaders x.sender) → IfOk r (λ v. IsQuiet R n new (whole_outs v.outs.items))
 quiet-after n new event (Ok v) h node outs R x is held out no_leader =
     let q = outsiders_are_quiet R n x h held out no_leader in
     let same : new ≡ (step n (Take x)).0 = node ∙ ap (λ (e : NodeEvent). (step n e).0) is in
-    let items : outs_of v.outs.items ≡ (step n (Take x)).1 = outs ∙ ap (λ (e : NodeEvent). (step n e).1) is in
+    let items : whole_outs v.outs.items ≡ (step n (Take x)).1 = outs ∙ ap (λ (e : NodeEvent). (step n e).1) is in
     record {
       outs = items ∙ q.outs;
       inputs = ap (λ (m : Node). m.inputs) same ∙ q.inputs;

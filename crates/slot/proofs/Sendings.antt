@@ -18,7 +18,7 @@ use Rattle.protocol.proofs.Sets.Contained.{contained_cases}
 use Rattle.slot.specs.declared.filed.FiledOut.{FiledOut}
 use Rattle.slot.specs.declared.filed.GivenOut.{GivenOut}
 use Rattle.slot.specs.declared.filed.FiledOut.TheVariants.{ArmNomination as FiledRound, ArmBallot as FiledCounter, Emit as FiledEmit, Externalized as FiledValue}
-use Rattle.slot.specs.Filings.{AreFiledOuts, IsFiledOut, out_of, outs_of}
+use Rattle.slot.specs.Filings.{AreFiledOuts, IsFiledOut, out_of, whole_outs}
 use Rattle.slot.specs.NodeParts.{IsSentBy}
 
 -- ---- lists of outs
@@ -117,13 +117,13 @@ filed-whole archive (FiledCounter b) h = tt
 filed-whole archive (FiledEmit f) h = h.1
 filed-whole archive (FiledValue x) h = tt
 
-all-whole : (archive : Archived) (os : List FiledOut) → AreFiledOuts archive os → (e : Sent) → Contains (outs_of os) (Emit e) → IsEnvelope e
+all-whole : (archive : Archived) (os : List FiledOut) → AreFiledOuts archive os → (e : Sent) → Contains (whole_outs os) (Emit e) → IsEnvelope e
 unfolding IsWhole
-all-whole archive os h e c = All-contains IsWhole (outs_of os) (Emit e) (All-map IsWhole out_of os (λ k d lt. filed-whole archive _ (h k d lt))) c
+all-whole archive os h e c = All-contains IsWhole (whole_outs os) (Emit e) (All-map IsWhole out_of os (λ k d lt. filed-whole archive _ (h k d lt))) c
 
 -- what the answer to an event emits is the node's own
-pub emitted-own : {E : Type 0} (n new : Node) (archive : Archived) (event : NodeEvent) (r : Result GivenOut E) → OnOk r (new ≡ (step n event).0) → IfOk r (λ v. outs_of v.outs.items ≡ (step n event).1)
-    → IfOk r (λ v. AreFiledOuts archive v.outs.items) → IfOk r (λ v. (e : Sent) → Contains (outs_of v.outs.items) (Emit e) → IsSentBy new e)
+pub emitted-own : {E : Type 0} (n new : Node) (archive : Archived) (event : NodeEvent) (r : Result GivenOut E) → OnOk r (new ≡ (step n event).0) → IfOk r (λ v. whole_outs v.outs.items ≡ (step n event).1)
+    → IfOk r (λ v. AreFiledOuts archive v.outs.items) → IfOk r (λ v. (e : Sent) → Contains (whole_outs v.outs.items) (Emit e) → IsSentBy new e)
 emitted-own n new archive event (Ok v) node is filed = λ e c.
     let own : Carries new e = subst (λ (m : Node). Carries m e) (sym node) ((step-own n event).all e (subst (λ os. Contains os (Emit e)) is c)) in
     record { sender = own.sender; slot = own.slot; slices = own.slices; envelope = all-whole archive v.outs.items filed e c }

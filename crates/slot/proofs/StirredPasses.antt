@@ -11,7 +11,7 @@ use Rattle.protocol.specs.Views.{Seen}
 use Rattle.protocol.proofs.Equality.Sameness.{same_values-refl, same_values-true, same_votes-refl, same_votes-true}
 use Rattle.slot.specs.declared.stirring.Stirred.{Stirred}
 use Rattle.slot.specs.declared.stirring.Stirred.TheVariants.{All, Ballots, Nominations}
-use Rattle.slot.specs.Stirrings.{Stirs, part}
+use Rattle.slot.specs.Stirrings.{Stirs, part_of_pass}
 
 -- ---- after a first pass
 pub after-same : (s : Seen) (g : Inputs) (before after : Votes) → after ≡ before → settle_after s g before after ≡ Some after
@@ -44,25 +44,25 @@ confirms-more v s g w x y is other made =
 
 -- ---- by the rules that are stirred
 -- a first pass that changes nothing is the last
-pub no-arm : (t : Stirred) (v : ℕ) (s : Seen) (g : Inputs) (w : Votes) → Stirs t v s g w → part t v s g w ≡ w → settle most_passes (pass v s g) w ≡ Some w
+pub no-arm : (t : Stirred) (v : ℕ) (s : Seen) (g : Inputs) (w : Votes) → Stirs t v s g w → part_of_pass t v s g w ≡ w → settle most_passes (pass v s g) w ≡ Some w
 unfolding settle_all settle_ballots
 no-arm All v s g w stirs e = sym stirs ∙ after-same s g w (pass v s g w) e ∙ ap {B = Option Votes} Some e
 no-arm Ballots v s g w stirs e = sym stirs ∙ after-same s g w (balloted_in s g w) e ∙ ap {B = Option Votes} Some e
 no-arm Nominations v s g w stirs e = sym stirs ∙ confirms-none v s g w w (sym e) refl
 
-pub all-arm : {E : Type 0} (t : Stirred) (v : ℕ) (s : Seen) (g : Inputs) (w x : Votes) (r : Result (Option Votes) E) → t ≡ All → Stirs t v s g w → (x ≡ part t v s g w) × (part t v s g w ≡ w → ⊥) → IfOk r (λ o. o ≡ settle (most_passes - 1) (balloted_in s g) x) → IfOk r (λ o. o ≡ settle most_passes (pass v s g) w)
+pub all-arm : {E : Type 0} (t : Stirred) (v : ℕ) (s : Seen) (g : Inputs) (w x : Votes) (r : Result (Option Votes) E) → t ≡ All → Stirs t v s g w → (x ≡ part_of_pass t v s g w) × (part_of_pass t v s g w ≡ w → ⊥) → IfOk r (λ o. o ≡ settle (most_passes - 1) (balloted_in s g) x) → IfOk r (λ o. o ≡ settle most_passes (pass v s g) w)
 unfolding settle_all
 all-arm t v s g w x r is stirs made done =
     let stirred : Stirs All v s g w = subst (λ u. Stirs u v s g w) is stirs in
-    let next : x ≡ pass v s g w = made.0 ∙ ap (λ u. part u v s g w) is in
+    let next : x ≡ pass v s g w = made.0 ∙ ap (λ u. part_of_pass u v s g w) is in
     let other : x ≡ w → ⊥ = λ e. made.1 (sym made.0 ∙ e) in
     subst (λ (e : Option Votes). IfOk r (λ o. o ≡ e)) (sym (after-other s g w x other) ∙ ap (settle_after s g w) next ∙ stirred) done
 
-pub ballots-arm : {E : Type 0} (t : Stirred) (v : ℕ) (s : Seen) (g : Inputs) (w x : Votes) (r : Result (Option Votes) E) → t ≡ Ballots → Stirs t v s g w → (x ≡ part t v s g w) × (part t v s g w ≡ w → ⊥) → IfOk r (λ o. o ≡ settle (most_passes - 1) (balloted_in s g) x) → IfOk r (λ o. o ≡ settle most_passes (pass v s g) w)
+pub ballots-arm : {E : Type 0} (t : Stirred) (v : ℕ) (s : Seen) (g : Inputs) (w x : Votes) (r : Result (Option Votes) E) → t ≡ Ballots → Stirs t v s g w → (x ≡ part_of_pass t v s g w) × (part_of_pass t v s g w ≡ w → ⊥) → IfOk r (λ o. o ≡ settle (most_passes - 1) (balloted_in s g) x) → IfOk r (λ o. o ≡ settle most_passes (pass v s g) w)
 unfolding settle_ballots
 ballots-arm t v s g w x r is stirs made done =
     let stirred : Stirs Ballots v s g w = subst (λ u. Stirs u v s g w) is stirs in
-    let next : x ≡ balloted_in s g w = made.0 ∙ ap (λ u. part u v s g w) is in
+    let next : x ≡ balloted_in s g w = made.0 ∙ ap (λ u. part_of_pass u v s g w) is in
     let other : x ≡ w → ⊥ = λ e. made.1 (sym made.0 ∙ e) in
     subst (λ (e : Option Votes). IfOk r (λ o. o ≡ e)) (sym (after-other s g w x other) ∙ ap (settle_after s g w) next ∙ stirred) done
 
@@ -71,5 +71,5 @@ nominations-arm t v s g w r is stirs done =
     let stirred : Stirs Nominations v s g w = subst (λ u. Stirs u v s g w) is stirs in
     subst (λ (e : Option Votes). IfOk r (λ o. o ≡ e)) stirred done
 
-pub nominated-arm : (t : Stirred) (v : ℕ) (s : Seen) (g : Inputs) (w x : Votes) → t ≡ Nominations → x ≡ part t v s g w → x ≡ nominated_in v s g w
-nominated-arm t v s g w x is made = made ∙ ap (λ u. part u v s g w) is
+pub nominated-arm : (t : Stirred) (v : ℕ) (s : Seen) (g : Inputs) (w x : Votes) → t ≡ Nominations → x ≡ part_of_pass t v s g w → x ≡ nominated_in v s g w
+nominated-arm t v s g w x is made = made ∙ ap (λ u. part_of_pass u v s g w) is

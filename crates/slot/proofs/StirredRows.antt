@@ -14,12 +14,12 @@ use Rattle.slot.specs.declared.stirring.Stirred.TheVariants.{All, Ballots, Nomin
 use Rattle.listening.specs.Listening.{ListenerState}
 use Rattle.slot.specs.Listening.{node_of}
 use Rattle.slot.specs.Stirrings.{IsStart, IsStirred, StirsIn}
-use Rattle.slot.specs.NodeParts.{IsChange, node_from_parts}
+use Rattle.slot.specs.NodeParts.{IsBeforePasses, node_from_parts}
 use Rattle.slot.proofs.Answered.{sends_of, settles_of}
 
 -- ---- what is stirred
 -- a node after an event of whatever kind
-stirs-all : (m : Node) → IsChange m → StirsIn All m
+stirs-all : (m : Node) → IsBeforePasses m → StirsIn All m
 stirs-all m d = nomination_rests_after_a_pass d.before d.reached d.event m d.is
 
 -- the listener after a row
@@ -31,18 +31,18 @@ kept-row h k x t kept = subst (λ (table : List Sent). ReachesSame h.configured.
 
 -- a node after a row
 stirs-row : (h k : ListenerState) (inputs : Inputs) (votes : Votes) (x : Sent) (stirred : Stirred) → ComesOfEvents (node_of h inputs votes) → k.configured ≡ h.configured → sents_of k.table ≡ with_row x (sents_of h.table)
-    → IsChange (node_of k inputs votes) → IsStirred stirred h.configured (sents_of h.table) x (sents_of k.table) → StirsIn stirred (node_of k inputs votes)
+    → IsBeforePasses (node_of k inputs votes) → IsStirred stirred h.configured (sents_of h.table) x (sents_of k.table) → StirsIn stirred (node_of k inputs votes)
 stirs-row h k inputs votes x All r c t d is = stirs-all (node_of k inputs votes) d
 stirs-row h k inputs votes x Ballots r c t d is = subst (StirsIn Ballots) (row-in h k inputs votes x c t) (ballot_rows_stir_ballots (node_of h inputs votes) r x is.0 (kept-row h k x t is.1))
 stirs-row h k inputs votes x Nominations r c t d is = subst (StirsIn Nominations) (row-in h k inputs votes x c t) (nomination_rows_stir_nomination (node_of h inputs votes) r x is.0 (kept-row h k x t is.1))
 
 -- ---- where passes start
-start-of : (stirred : Stirred) (m : Node) → IsChange m → StirsIn stirred m → IsStart stirred m
+start-of : (stirred : Stirred) (m : Node) → IsBeforePasses m → StirsIn stirred m → IsStart stirred m
 start-of stirred m d stirs = record { stirs = stirs; settles = settles_of m d; sends = sends_of m d }
 
-pub start-all : (m : Node) → IsChange m → IsStart All m
+pub start-all : (m : Node) → IsBeforePasses m → IsStart All m
 start-all m d = start-of All m d (stirs-all m d)
 
 pub start-row : (h k : ListenerState) (inputs : Inputs) (votes : Votes) (x : Sent) (stirred : Stirred) → ComesOfEvents (node_of h inputs votes) → k.configured ≡ h.configured → sents_of k.table ≡ with_row x (sents_of h.table)
-    → IsChange (node_of k inputs votes) → IsStirred stirred h.configured (sents_of h.table) x (sents_of k.table) → IsStart stirred (node_of k inputs votes)
+    → IsBeforePasses (node_of k inputs votes) → IsStirred stirred h.configured (sents_of h.table) x (sents_of k.table) → IsStart stirred (node_of k inputs votes)
 start-row h k inputs votes x stirred r c t d is = start-of stirred (node_of k inputs votes) d (stirs-row h k inputs votes x stirred r c t d is)

@@ -35,8 +35,8 @@ out_of (Emit f) = Out.Emit (sent_of f)
 out_of (Externalized x) = Out.Externalized x
 
 -- all that is given out, with whole envelopes
-abbrev pub outs_of : List FiledOut → List Out
-outs_of os = map out_of os
+abbrev pub whole_outs : List FiledOut → List Out
+whole_outs os = map out_of os
 
 -- the archive has the envelope of what is given out, whose widths and rules are kept
 abbrev pub IsFiledOut : Archived → FiledOut → Type 0
@@ -56,4 +56,4 @@ copies_of count (o ∷ os) = replicate count (o ∷ os)
 
 -- what is given out comes with so many whole copies, and with none if it is nothing
 abbrev pub HasCopies : ℕ → GivenOut → Type 0
-HasCopies count g = map (λ v. v.items) g.copies.items ≡ copies_of count (outs_of g.outs.items)
+HasCopies count g = map (λ v. v.items) g.copies.items ≡ copies_of count (whole_outs g.outs.items)

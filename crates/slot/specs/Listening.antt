@@ -12,7 +12,7 @@ use Rattle.listening.specs.Listening.{ListenerState}
 use Rattle.slot.specs.NodeParts.{node_from_parts}
 
 -- the node of the definitions, and the rows of its table as they were filed
-pub record Held : Type 0 where
+pub record FiledNode : Type 0 where
   pub node : Node
   pub rows : List Filed
 

@@ -47,14 +47,13 @@ abbrev pub ChangesTo : Node → NodeEvent → Option Changed → Type 0
 ChangesTo n event o = change n event ≡ option_map (with_changed n) o
 
 -- events led to a node of which some event's own change makes this one: passes are still to come
-pub record IsChange (new : Node) : Type 0 where
+pub record IsBeforePasses (new : Node) : Type 0 where
   pub before : Node
   pub event : NodeEvent
   pub reached : ComesOfEvents before
   pub is : change before event ≡ Some new
 
--- the envelope is the node's own: it carries its name, its slot and its slices of the moment, and keeps the widths and
--- rules
+-- the envelope is the node's own: its name, its slot and the slices that it has after the event; and it is well formed
 pub record IsSentBy (n : Node) (e : Sent) : Type 0 where
   pub sender : e.sender ≡ n.name
   pub slot : e.slot ≡ n.slot

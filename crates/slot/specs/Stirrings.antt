@@ -21,10 +21,10 @@ stirred_by Kind.Ballot = Ballots
 stirred_by Nomination = Nominations
 
 -- the part of a pass that applies these rules
-abbrev pub part : Stirred → ℕ → Seen → Inputs → Votes → Votes
-part All own seen g = pass own seen g
-part Ballots own seen g = balloted_in seen g
-part Nominations own seen g = nominated_in own seen g
+abbrev pub part_of_pass : Stirred → ℕ → Seen → Inputs → Votes → Votes
+part_of_pass All own seen g = pass own seen g
+part_of_pass Ballots own seen g = balloted_in seen g
+part_of_pass Nominations own seen g = nominated_in own seen g
 
 -- the votes after passes that begin with these rules
 abbrev pub settled_by : Stirred → ℕ → Seen → Inputs → Votes → Option Votes

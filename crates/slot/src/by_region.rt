@@ -4,7 +4,7 @@ ghost use Rattle.std.specs.Prelude.{◌≡◌, IfOk, IsTrue, List, OnOk, Some, b
 ghost use Rattle.envstore.specs.Archives.{AreFiled, Keeps};
 ghost use Rattle.listening.specs.Listening.{IsKnownOf};
 ghost use Rattle.protocol.specs.Nodes.{most_passes, outs, after_pass, settle};
-ghost use Rattle.slot.specs.Filings.{AreFiledOuts, HasCopies, outs_of};
+ghost use Rattle.slot.specs.Filings.{AreFiledOuts, HasCopies, whole_outs};
 ghost use Rattle.slot.specs.Listening.{node_of};
 ghost use Rattle.slot.specs.Stirrings.{IsStart, is_listed};
 ghost use Rattle.slot.specs.NodeParts.{node_from_parts};
@@ -35,7 +35,7 @@ pub(crate) fn answer<S: Shelf>(
     requires rows { AreFiled archive.old listener.old.table }
     requires start { IsStart start.now.stirred (node_of listener.old start.now.inputs.now start.now.votes.now) }
     ensures votes { IfOk result (λ a. settle most_passes (after_pass (node_of listener.old start.now.inputs.now start.now.votes.now)) start.now.votes.now ≡ Some (unwrap_or a.votes start.now.votes.now)) }
-    ensures outs { IfOk result (λ a. (before after : List Sent) → outs_of a.given_out.outs.items ≡ outs (node_from_parts listener.old.configured old.now.inputs.now old.now.votes.now before) (node_from_parts listener.old.configured start.now.inputs.now (unwrap_or a.votes start.now.votes.now) after)) }
+    ensures outs { IfOk result (λ a. (before after : List Sent) → whole_outs a.given_out.outs.items ≡ outs (node_from_parts listener.old.configured old.now.inputs.now old.now.votes.now before) (node_from_parts listener.old.configured start.now.inputs.now (unwrap_or a.votes start.now.votes.now) after)) }
     ensures same { listener.new ≡ listener.old }
     ensures filed { IfOk result (λ a. AreFiledOuts archive.new a.given_out.outs.items) }
     ensures copies { IfOk result (λ a. HasCopies copies a.given_out) }
@@ -67,7 +67,7 @@ pub(crate) fn answer_anew<S: Shelf>(
     requires rows { AreFiled archive.old listener.old.table }
     requires start { IsStart start.now.stirred (node_of listener.old start.now.inputs.now start.now.votes.now) }
     ensures votes { IfOk result (λ a. settle most_passes (after_pass (node_of listener.old start.now.inputs.now start.now.votes.now)) start.now.votes.now ≡ Some (unwrap_or a.votes start.now.votes.now)) }
-    ensures outs { IfOk result (λ a. (before after : List Sent) → outs_of a.given_out.outs.items ≡ outs (node_from_parts listener.old.configured start.now.inputs.now start.now.votes.now before) (node_from_parts listener.old.configured start.now.inputs.now (unwrap_or a.votes start.now.votes.now) after)) }
+    ensures outs { IfOk result (λ a. (before after : List Sent) → whole_outs a.given_out.outs.items ≡ outs (node_from_parts listener.old.configured start.now.inputs.now start.now.votes.now before) (node_from_parts listener.old.configured start.now.inputs.now (unwrap_or a.votes start.now.votes.now) after)) }
     ensures same { listener.new ≡ listener.old }
     ensures filed { IfOk result (λ a. AreFiledOuts archive.new a.given_out.outs.items) }
     ensures copies { IfOk result (λ a. HasCopies copies a.given_out) }

@@ -5,7 +5,7 @@
 ghost use Rattle.std.specs.Prelude.{[], ◌≡◌, ℕ, IfOk, List, map, replicate};
 ghost use Rattle.envstore.specs.Archives.{Keeps};
 ghost use Rattle.protocol.specs.Nodes.{outs};
-ghost use Rattle.slot.specs.Filings.{AreFiledOuts, HasCopies, IsFiledOut, copies_of, out_of, outs_of};
+ghost use Rattle.slot.specs.Filings.{AreFiledOuts, HasCopies, IsFiledOut, copies_of, out_of, whole_outs};
 ghost use Rattle.slot.specs.NodeParts.{SendWellFormed, node_from_parts};
 ghost use Rattle.types.specs.Statements.{Sent};
 
@@ -23,7 +23,7 @@ fn file_all<S: Shelf>(
     archive: &mut Archive<S>,
     outs: Vec<Out>,
 ) -> Result<Vec<FiledOut>, AllocError>
-    ensures outs { IfOk result (λ v. outs_of v.items ≡ outs.items) }
+    ensures outs { IfOk result (λ v. whole_outs v.items ≡ outs.items) }
     ensures filed { IfOk result (λ v. AreFiledOuts archive.new v.items) }
     ensures kept { Keeps archive.old archive.new }
 {
@@ -63,7 +63,7 @@ pub(crate) fn give_out<S: Shelf>(
     copies: usize,
 ) -> Result<GivenOut, AllocError>
     requires { SendWellFormed new.now.votes.now }
-    ensures outs { IfOk result (λ v. (before after : List Sent) → outs_of v.outs.items ≡ outs (node_from_parts configured.now old.now.inputs.now old.now.votes.now before) (node_from_parts configured.now new.now.inputs.now new.now.votes.now after)) }
+    ensures outs { IfOk result (λ v. (before after : List Sent) → whole_outs v.outs.items ≡ outs (node_from_parts configured.now old.now.inputs.now old.now.votes.now before) (node_from_parts configured.now new.now.inputs.now new.now.votes.now after)) }
     ensures filed { IfOk result (λ v. AreFiledOuts archive.new v.outs.items) }
     ensures copies { IfOk result (HasCopies copies) }
     ensures kept { Keeps archive.old archive.new }

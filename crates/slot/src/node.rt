@@ -8,7 +8,7 @@ ghost use Rattle.protocol.specs.Reach.{HoldsReach};
 ghost use Rattle.protocol.specs.Limits.{ComesOfEvents};
 ghost use Rattle.protocol.specs.Sets.{Names, among};
 ghost use Rattle.envstore.specs.Archives.{AreFiled, IsFiled, Keeps, sent_of, sents_of};
-ghost use Rattle.slot.specs.Filings.{AreFiledOuts, HasCopies, IsFiledEvent, event_of, outs_of};
+ghost use Rattle.slot.specs.Filings.{AreFiledOuts, HasCopies, IsFiledEvent, event_of, whole_outs};
 ghost use Rattle.slot.specs.Listening.{AddsRowAlone};
 ghost use Rattle.slot.specs.NodeParts.{ChangesTo, IsSentBy};
 ghost use Rattle.types.specs.Statements.{Sent};
@@ -54,10 +54,10 @@ pub struct Node {
 impl Model for Node {
     ghost use Rattle.std.specs.Coded.{codes};
     ghost use Rattle.types.specs.Trees.{members_code};
-    ghost use Rattle.slot.specs.Listening.{Held, node_of};
+    ghost use Rattle.slot.specs.Listening.{FiledNode, node_of};
     ghost use Rattle.protocol.specs.Limits.{ComesOfEvents};
 
-    ghost Value = { Held };
+    ghost Value = { FiledNode };
 
     ghost coded = { Prim.hlevel (codes, members_code) };
 
@@ -214,11 +214,11 @@ impl Node {
         requires rows { AreFiled archive.old self.old.rows }
         requires event { IsFiledEvent archive.old event }
         ensures node { OnOk result (self.new.node ≡ (step self.old.node (event_of event)).0) }
-        ensures outs { IfOk result (λ v. outs_of v.outs.items ≡ (step self.old.node (event_of event)).1) }
+        ensures outs { IfOk result (λ v. whole_outs v.outs.items ≡ (step self.old.node (event_of event)).1) }
         ensures err { OnErr result (self.new ≡ self.old) }
         ensures idle { change self.old.node (event_of event) ≡ None → IsTrue (is_ok result) }
-        ensures quiet { (R : Names) (e : Sent) → event_of event ≡ NodeEvent.Take e → HoldsReach self.old.node.name self.old.node.slices self.old.node.table R → IsFalse (R e.sender) → IsFalse (among self.old.node.inputs.leaders e.sender) → IfOk result (λ v. IsQuiet R self.old.node self.new.node (outs_of v.outs.items)) }
-        ensures emitted { IfOk result (λ v. (e : Sent) → Contains (outs_of v.outs.items) (Emit e) → IsSentBy self.new.node e) }
+        ensures quiet { (R : Names) (e : Sent) → event_of event ≡ NodeEvent.Take e → HoldsReach self.old.node.name self.old.node.slices self.old.node.table R → IsFalse (R e.sender) → IsFalse (among self.old.node.inputs.leaders e.sender) → IfOk result (λ v. IsQuiet R self.old.node self.new.node (whole_outs v.outs.items)) }
+        ensures emitted { IfOk result (λ v. (e : Sent) → Contains (whole_outs v.outs.items) (Emit e) → IsSentBy self.new.node e) }
         ensures rows { AreFiled archive.new self.new.rows }
         ensures filed { IfOk result (λ v. AreFiledOuts archive.new v.outs.items) }
         ensures copies { IfOk result (HasCopies copies) }
@@ -245,8 +245,8 @@ impl Node {
     ) -> Result<(Node, Vec<FiledOut>), AllocError>
         requires rows { AreFiled archive.old self.now.rows }
         requires event { IsFiledEvent archive.old event }
-        ensures step { IfOk result (λ r. (r.0.node, outs_of r.1.items) ≡ step self.now.node (event_of event)) }
-        ensures emitted { IfOk result (λ r. (e : Sent) → Contains (outs_of r.1.items) (Emit e) → IsSentBy r.0.node e) }
+        ensures step { IfOk result (λ r. (r.0.node, whole_outs r.1.items) ≡ step self.now.node (event_of event)) }
+        ensures emitted { IfOk result (λ r. (e : Sent) → Contains (whole_outs r.1.items) (Emit e) → IsSentBy r.0.node e) }
         ensures rows { IfOk result (λ r. AreFiled archive.new r.0.rows) }
         ensures filed { IfOk result (λ r. AreFiledOuts archive.new r.1.items) }
         ensures kept { Keeps archive.old archive.new }
@@ -330,7 +330,7 @@ impl Node {
     ) -> Result<GivenOut, AllocError>
         requires rows { AreFiled archive.old self.old.rows }
         ensures node { OnOk result (self.new.node ≡ (step self.old.node (NodeEvent.Reslice slices)).0) }
-        ensures outs { IfOk result (λ v. outs_of v.outs.items ≡ (step self.old.node (NodeEvent.Reslice slices)).1) }
+        ensures outs { IfOk result (λ v. whole_outs v.outs.items ≡ (step self.old.node (NodeEvent.Reslice slices)).1) }
         ensures err { OnErr result (self.new ≡ self.old) }
         ensures rows { AreFiled archive.new self.new.rows }
         ensures filed { IfOk result (λ v. AreFiledOuts archive.new v.outs.items) }
@@ -378,7 +378,7 @@ impl Node {
         requires rows { AreFiled archive.old self.old.rows }
         requires envelope { IsFiled archive.old envelope }
         ensures node { OnOk result (self.new.node ≡ (step self.old.node (NodeEvent.Take (sent_of envelope))).0) }
-        ensures outs { IfOk result (λ v. outs_of v.outs.items ≡ (step self.old.node (NodeEvent.Take (sent_of envelope))).1) }
+        ensures outs { IfOk result (λ v. whole_outs v.outs.items ≡ (step self.old.node (NodeEvent.Take (sent_of envelope))).1) }
         ensures err { OnErr result (self.new ≡ self.old) }
         ensures idle { change self.old.node (NodeEvent.Take (sent_of envelope)) ≡ None → IsTrue (is_ok result) }
         ensures rows { AreFiled archive.new self.new.rows }
@@ -429,7 +429,7 @@ impl Node {
         requires rows { AreFiled archive.old self.old.rows }
         requires change { (event : NodeEvent) × ChangesTo self.old.node event changed }
         ensures node { (event : NodeEvent) → ChangesTo self.old.node event changed → OnOk result (self.new.node ≡ (step self.old.node event).0) }
-        ensures outs { (event : NodeEvent) → ChangesTo self.old.node event changed → IfOk result (λ v. outs_of v.outs.items ≡ (step self.old.node event).1) }
+        ensures outs { (event : NodeEvent) → ChangesTo self.old.node event changed → IfOk result (λ v. whole_outs v.outs.items ≡ (step self.old.node event).1) }
         ensures err { OnErr result (self.new ≡ self.old) }
         ensures idle { (event : NodeEvent) → ChangesTo self.old.node event changed → change self.old.node event ≡ None → IsTrue (is_ok result) }
         ensures rows { AreFiled archive.new self.new.rows }

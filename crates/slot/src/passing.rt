@@ -5,7 +5,7 @@
 ghost use Rattle.std.specs.Prelude.{◌≡◌, OnOk};
 ghost use Rattle.drafts.specs.Drafted.{after};
 ghost use Rattle.protocol.specs.Passes.{balloting};
-ghost use Rattle.slot.specs.Stirrings.{part};
+ghost use Rattle.slot.specs.Stirrings.{part_of_pass};
 
 use crate::stirring::Stirred;
 use ballot::{accept_commit, accept_prepared, arm, confirm_commit, confirm_prepared, raise, start};
@@ -35,7 +35,7 @@ pub(crate) fn apply_part<S: Sight>(
     rules: Stirred,
     draft: &mut Draft<'_>,
 ) -> Result<(), AllocError>
-    ensures { OnOk result (draft.new ≡ after (part rules context.now.own.now (S.seen context.now.sight.now) context.now.inputs.now) draft.old) }
+    ensures { OnOk result (draft.new ≡ after (part_of_pass rules context.now.own.now (S.seen context.now.sight.now) context.now.inputs.now) draft.old) }
 {
     match draft.votes().phase {
         Phase::Externalized => Ok(()),

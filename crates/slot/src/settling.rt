@@ -7,7 +7,7 @@ ghost use Rattle.protocol.specs.Nodes.{settle, most_passes};
 ghost use Rattle.protocol.specs.Passes.{balloted_in, nominated_in, pass};
 ghost use Rattle.protocol.specs.Stirring.{settle_after, settle_nominations};
 ghost use Rattle.slot.specs.Differences.{IsDifference};
-ghost use Rattle.slot.specs.Stirrings.{Stirs, part};
+ghost use Rattle.slot.specs.Stirrings.{Stirs, part_of_pass};
 
 use crate::answering::set_settled;
 use crate::passing::{PassContext, apply_part};
@@ -53,7 +53,7 @@ fn settle_next<S: Sight>(
     stirred: Stirred,
 ) -> Result<Option<Votes>, AllocError>
     requires stirs { Stirs stirred context.now.own.now (S.seen context.now.sight.now) context.now.inputs.now before.now }
-    requires next { IsDifference before.now (part stirred context.now.own.now (S.seen context.now.sight.now) context.now.inputs.now before.now) (Some next) }
+    requires next { IsDifference before.now (part_of_pass stirred context.now.own.now (S.seen context.now.sight.now) context.now.inputs.now before.now) (Some next) }
     ensures { IfOk result (λ o. o ≡ settle most_passes (pass context.now.own.now (S.seen context.now.sight.now) context.now.inputs.now) before.now) }
 {
     match stirred {
@@ -146,7 +146,7 @@ fn difference_by<S: Sight>(
     votes: &Votes,
     rules: Stirred,
 ) -> Result<Option<Votes>, AllocError>
-    ensures { IfOk result (IsDifference votes.now (part rules context.now.own.now (S.seen context.now.sight.now) context.now.inputs.now votes.now)) }
+    ensures { IfOk result (IsDifference votes.now (part_of_pass rules context.now.own.now (S.seen context.now.sight.now) context.now.inputs.now votes.now)) }
 {
     let mut draft = Draft::of(votes);
     match apply_part(alloc, context, rules, &mut draft) {

@@ -3,17 +3,17 @@ use Rattle.std.proofs.Common.{List, [], ◌∷◌, inl, inr}
 use Rattle.std.specs.Prelude.{Option, Some, None}
 use Rattle.scripts.specs.Script.{Bytes}
 use Rattle.tables.specs.Listeners.{HeardRows}
-use Rattle.tables.specs.TableLines.{BadLinesAreUntold, Prints, Shows}
-use Rattle.tables.specs.TableLines.Tells.{itself, ask, put, env, shown}
+use Rattle.tables.specs.TableLines.{BadTableLinesAreUntold, Prints, ShowsKnown}
+use Rattle.tables.specs.TableLines.TellsListener.{itself, ask, put, env, shown}
 
 -- what is printed is asked for
-asked_for : (h : HeardRows) (fields : List Bytes) (printed : Option Bytes) → Prints h fields printed → Shows fields
+asked_for : (h : HeardRows) (fields : List Bytes) (printed : Option Bytes) → Prints h fields printed → ShowsKnown fields
 asked_for h [] printed p = p
 asked_for h (word ∷ []) printed (inl p) = inl p.0
 asked_for h (word ∷ []) printed (inr p) = inr p.0
 asked_for h (word ∷ field ∷ more) printed p = p
 
-pub bad_lines_are_untold : BadLinesAreUntold
+pub bad_lines_are_untold : BadTableLinesAreUntold
 bad_lines_are_untold None new fields printed bad (itself begins) = bad _ begins
 bad_lines_are_untold (Some h) new fields printed bad (ask asks backs) = bad.0 _ asks
 bad_lines_are_untold (Some h) new fields printed bad (put puts takes) = bad.1 _ puts

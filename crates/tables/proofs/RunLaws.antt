@@ -8,7 +8,7 @@ use Rattle.types.specs.declared.ballot.Ballot.{Ballot}
 use Rattle.codec.specs.Spelling.{Spells}
 use Rattle.listening.specs.declared.configured.Configured.{Configured}
 use Rattle.tables.specs.Listeners.{HeardRows}
-use Rattle.tables.specs.TableLines.{AreOwn, ArePut, Asks, AsksNone, Backs, Begins, Decodes, Hands, Prints, Puts, Takes, Tells}
+use Rattle.tables.specs.TableLines.{AreOwn, ArePut, Asks, AsksNone, Backs, Begins, Decodes, Hands, Prints, PutsRow, Takes, TellsListener}
 
 -- what holds of a word holds of what prints that word
 pub said : {P E : Type 0} (view : P → Option Bytes) (word : Option Bytes) (holds : Option Bytes → Type 0) (r : Result P E)
@@ -20,16 +20,16 @@ pub same_number : (a b : ℕ) → (a ≢ b → ⊥) → a ≡ b
 same_number a b h = elim (cases_eq a b) [ inl e ↦ e | inr n ↦ absurd (h n) ]
 
 pub told : {P E : Type 0} (view : P → Option Bytes) (r : Result P E) (fields : List Bytes) (h k : HeardRows) (b : Ballot)
-    → Asks fields b → k ≡ h → IfOk r (λ p. Backs h b (view p)) → IfOk r (λ p. Tells (Some h) fields (view p) (Some k))
-told view (Ok p) fields h k b asks same backs = subst (λ n. Tells (Some h) fields (view p) (Some n)) (sym same) (Tells.ask asks backs)
+    → Asks fields b → k ≡ h → IfOk r (λ p. Backs h b (view p)) → IfOk r (λ p. TellsListener (Some h) fields (view p) (Some k))
+told view (Ok p) fields h k b asks same backs = subst (λ n. TellsListener (Some h) fields (view p) (Some n)) (sym same) (TellsListener.ask asks backs)
 told view (Err x) fields h k b asks same backs = tt
 
-pub began : (fields : List Bytes) (c : Configured) (h : HeardRows) → h ≡ record { configured = c; rows = [] } → Begins fields c → Tells None fields None (Some h)
-began fields c h new begins = subst (λ k. Tells None fields None (Some k)) (sym new) (Tells.itself begins)
+pub began : (fields : List Bytes) (c : Configured) (h : HeardRows) → h ≡ record { configured = c; rows = [] } → Begins fields c → TellsListener None fields None (Some h)
+began fields c h new begins = subst (λ k. TellsListener None fields None (Some k)) (sym new) (TellsListener.itself begins)
 
 pub was_put : {P E : Type 0} (view : P → Option Bytes) (r : Result P E) (fields : List Bytes) (h k : HeardRows) (slot : ℕ) (e : Sent)
-    → slot ≡ h.configured.slot → Puts slot fields e → IfOk r (λ p. Takes h e (view p) k) → IfOk r (λ p. Tells (Some h) fields (view p) (Some k))
-was_put view (Ok p) fields h k slot e at puts takes = Tells.put (subst (λ i. Puts i fields e) at puts) takes
+    → slot ≡ h.configured.slot → PutsRow slot fields e → IfOk r (λ p. Takes h e (view p) k) → IfOk r (λ p. TellsListener (Some h) fields (view p) (Some k))
+was_put view (Ok p) fields h k slot e at puts takes = TellsListener.put (subst (λ i. PutsRow i fields e) at puts) takes
 was_put view (Err x) fields h k slot e at puts takes = tt
 
 pub was_decoded : {P E : Type 0} (view : P → Option Bytes) (r : Result P E) (bytes : Bytes) (h k : HeardRows) (e : Sent)
@@ -38,13 +38,13 @@ was_decoded view (Ok p) bytes h k e spells takes = Decodes.envelope e spells tak
 was_decoded view (Err x) bytes h k e spells takes = tt
 
 pub was_handed : {P E : Type 0} (view : P → Option Bytes) (r : Result P E) (fields : List Bytes) (h k : HeardRows) (items bytes : Bytes)
-    → items ≡ bytes → Hands fields items → IfOk r (λ p. Decodes h bytes (view p) k) → IfOk r (λ p. Tells (Some h) fields (view p) (Some k))
-was_handed view (Ok p) fields h k items bytes same hands decodes = Tells.env (subst (Hands fields) same hands) decodes
+    → items ≡ bytes → Hands fields items → IfOk r (λ p. Decodes h bytes (view p) k) → IfOk r (λ p. TellsListener (Some h) fields (view p) (Some k))
+was_handed view (Ok p) fields h k items bytes same hands decodes = TellsListener.env (subst (Hands fields) same hands) decodes
 was_handed view (Err x) fields h k items bytes same hands decodes = tt
 
 pub was_shown : {P E : Type 0} (view : P → Option Bytes) (r : Result P E) (fields : List Bytes) (h : HeardRows)
-    → IfOk r (λ p. Prints h fields (view p)) → IfOk r (λ p. Tells (Some h) fields (view p) (Some h))
-was_shown view (Ok p) fields h prints = Tells.shown prints
+    → IfOk r (λ p. Prints h fields (view p)) → IfOk r (λ p. TellsListener (Some h) fields (view p) (Some h))
+was_shown view (Ok p) fields h prints = TellsListener.shown prints
 was_shown view (Err x) fields h prints = tt
 
 pub asks_two : {A : Type 0} (view : A → Bytes) (fields : List A) → (length fields ≡ 2 → ⊥) → AsksNone (map view fields)

@@ -18,11 +18,11 @@ use Rattle.protocol.specs.Reach.{IsReach}
 use Rattle.protocol.proofs.Verdicts.OneList.{one_list}
 use Rattle.view.proofs.FoundRows.{among_from, among_to}
 use Rattle.tables.specs.Listeners.{HeardRows}
-use Rattle.tables.specs.TableLines.{Asks, Backs, Begins, Decodes, Hands, LinesTellOneThing, Prints, Puts, Takes, fault_text, text_with_name}
+use Rattle.tables.specs.TableLines.{Asks, Backs, Begins, Decodes, Hands, LinesTellOneThing, Prints, PutsRow, Takes, fault_text, text_with_name}
 use Rattle.tables.specs.TableLines.Backs.{yes, no}
 use Rattle.tables.specs.TableLines.Takes.{replaced, stale, other}
 use Rattle.tables.specs.TableLines.Decodes.{envelope, fault}
-use Rattle.tables.specs.TableLines.Tells.{itself, ask, put, env, shown}
+use Rattle.tables.specs.TableLines.TellsListener.{itself, ask, put, env, shown}
 
 -- ---- small laws
 
@@ -53,7 +53,7 @@ asks_once fields a b x y =
     let word : x.0 ≡ y.0 = cc in
     same_some _ a b (ap word_ballot (sym word) ∙ x.2) y.2
 
-puts_once : (slot : ℕ) (fields : List Bytes) (d e : Sent) → Puts slot fields d → Puts slot fields e → d ≡ e
+puts_once : (slot : ℕ) (fields : List Bytes) (d e : Sent) → PutsRow slot fields d → PutsRow slot fields e → d ≡ e
 puts_once slot [] d e x y = absurd x
 puts_once slot (word ∷ []) d e x y = absurd x.1
 puts_once slot (word ∷ sender ∷ []) d e x y = absurd x.1
@@ -78,8 +78,8 @@ hands_bytes (word ∷ digits ∷ field ∷ more) bytes x = absurd x
 
 -- ---- no line asks for two things
 
-asks_no_put : (slot : ℕ) (fields : List Bytes) (b : Ballot) (e : Sent) → Asks fields b → Puts slot fields e → ⊥
-asks_no_put slot fields b e x y = let z = subst (λ fs. Puts slot fs e) x.1 y in z.1
+asks_no_put : (slot : ℕ) (fields : List Bytes) (b : Ballot) (e : Sent) → Asks fields b → PutsRow slot fields e → ⊥
+asks_no_put slot fields b e x y = let z = subst (λ fs. PutsRow slot fs e) x.1 y in z.1
 
 ask_or_env : codes "ask" ≡ codes "env" → ⊥
 ask_or_env e = let first : 97 ≡ 101 = ap (λ (xs : List ℕ). get_or xs 0 0) e in omega (arith, first)
@@ -92,14 +92,14 @@ asks_nothing_shown : (h : HeardRows) (fields : List Bytes) (b : Ballot) (printed
     → Prints h fields printed → ⊥
 asks_nothing_shown h fields b printed x y = subst (λ fs. Prints h fs printed) x.1 y
 
-puts_no_bytes : (slot : ℕ) (fields : List Bytes) (e : Sent) (bytes : Bytes) → Puts slot fields e → Hands fields bytes → ⊥
+puts_no_bytes : (slot : ℕ) (fields : List Bytes) (e : Sent) (bytes : Bytes) → PutsRow slot fields e → Hands fields bytes → ⊥
 puts_no_bytes slot [] e bytes x y = x
 puts_no_bytes slot (word ∷ []) e bytes x y = x.1
 puts_no_bytes slot (word ∷ digits ∷ []) e bytes x y = x.1
 puts_no_bytes slot (word ∷ digits ∷ field ∷ more) e bytes x y = y
 
 puts_nothing_shown : (h : HeardRows) (slot : ℕ) (fields : List Bytes) (e : Sent) (printed : Option Bytes)
-    → Puts slot fields e → Prints h fields printed → ⊥
+    → PutsRow slot fields e → Prints h fields printed → ⊥
 puts_nothing_shown h slot [] e printed x y = x
 puts_nothing_shown h slot (word ∷ []) e printed x y = x.1
 puts_nothing_shown h slot (word ∷ field ∷ more) e printed x y = y

@@ -55,9 +55,9 @@ ArePut slot (sender ∷ slices ∷ statement ∷ []) e = ArePutWords slot sender
 ArePut slot fields e = ⊥
 
 -- `put SENDER SLICES STATEMENT`: the line puts this envelope of the slot
-abbrev pub Puts : ℕ → List Bytes → Sent → Type 0
-Puts slot (word ∷ fields) e = (word ≡ codes "put") × ArePut slot fields e
-Puts slot [] e = ⊥
+abbrev pub PutsRow : ℕ → List Bytes → Sent → Type 0
+PutsRow slot (word ∷ fields) e = (word ≡ codes "put") × ArePut slot fields e
+PutsRow slot [] e = ⊥
 
 -- `env HEX`: the line hands these bytes over
 abbrev pub Hands : List Bytes → Bytes → Type 0
@@ -65,9 +65,9 @@ Hands (word ∷ digits ∷ []) bytes = (word ≡ codes "env") × (octets_in digi
 Hands fields bytes = ⊥
 
 -- `show` or `reach`: the line asks what the listener knows
-abbrev pub Shows : List Bytes → Type 0
-Shows (word ∷ []) = (word ≡ codes "show") ⊎ (word ≡ codes "reach")
-Shows fields = ⊥
+abbrev pub ShowsKnown : List Bytes → Type 0
+ShowsKnown (word ∷ []) = (word ≡ codes "show") ⊎ (word ≡ codes "reach")
+ShowsKnown fields = ⊥
 
 -- ---- what is answered
 
@@ -138,17 +138,17 @@ Prints h fields printed = ⊥
 -- ---- what a line tells
 
 -- what a line tells a listener to print and to become
-pub data Tells : Option HeardRows → List Bytes → Option Bytes → Option HeardRows → Type 0 where
+pub data TellsListener : Option HeardRows → List Bytes → Option Bytes → Option HeardRows → Type 0 where
   itself : {fields : List Bytes} {c : Configured} → Begins fields c
-      → Tells None fields None (Some (record { configured = c; rows = [] }))
+      → TellsListener None fields None (Some (record { configured = c; rows = [] }))
   ask : {h : HeardRows} {fields : List Bytes} {b : Ballot} {printed : Option Bytes} → Asks fields b → Backs h b printed
-      → Tells (Some h) fields printed (Some h)
+      → TellsListener (Some h) fields printed (Some h)
   put : {h k : HeardRows} {fields : List Bytes} {e : Sent} {printed : Option Bytes}
-      → Puts h.configured.slot fields e → Takes h e printed k → Tells (Some h) fields printed (Some k)
+      → PutsRow h.configured.slot fields e → Takes h e printed k → TellsListener (Some h) fields printed (Some k)
   env : {h k : HeardRows} {fields : List Bytes} {bytes : Bytes} {printed : Option Bytes}
-      → Hands fields bytes → Decodes h bytes printed k → Tells (Some h) fields printed (Some k)
+      → Hands fields bytes → Decodes h bytes printed k → TellsListener (Some h) fields printed (Some k)
   shown : {h : HeardRows} {fields : List Bytes} {printed : Option Bytes} → Prints h fields printed
-      → Tells (Some h) fields printed (Some h)
+      → TellsListener (Some h) fields printed (Some h)
 
 -- ---- bad lines
 
@@ -162,25 +162,25 @@ AsksNone fields = (b : Ballot) → Asks fields b → ⊥
 
 -- the line puts no envelope of the slot
 abbrev pub PutsNone : ℕ → List Bytes → Type 0
-PutsNone slot fields = (e : Sent) → ¬ Puts slot fields e
+PutsNone slot fields = (e : Sent) → ¬ PutsRow slot fields e
 
 -- the line hands no bytes over
 abbrev pub HandsNone : List Bytes → Type 0
 HandsNone fields = (bytes : Bytes) → ¬ Hands fields bytes
 
 -- the first line is bad where it begins no listener, any other where it asks for nothing that a listener does
-abbrev pub Refuses : Option HeardRows → List Bytes → Type 0
-Refuses None fields = BeginsNone fields
-Refuses (Some h) fields = AsksNone fields × PutsNone h.configured.slot fields × HandsNone fields × ¬ Shows fields
+abbrev pub RefusesTableLine : Option HeardRows → List Bytes → Type 0
+RefusesTableLine None fields = BeginsNone fields
+RefusesTableLine (Some h) fields = AsksNone fields × PutsNone h.configured.slot fields × HandsNone fields × ¬ ShowsKnown fields
 
 -- no line is both bad and told
-abbrev pub BadLinesAreUntold : Type 0
-BadLinesAreUntold =
-    (old new : Option HeardRows) (fields : List Bytes) (printed : Option Bytes) → Refuses old fields
-    → ¬ Tells old fields printed new
+abbrev pub BadTableLinesAreUntold : Type 0
+BadTableLinesAreUntold =
+    (old new : Option HeardRows) (fields : List Bytes) (printed : Option Bytes) → RefusesTableLine old fields
+    → ¬ TellsListener old fields printed new
 
 -- a line tells one thing: what it prints, and what becomes of the listener
 abbrev pub LinesTellOneThing : Type 0
 LinesTellOneThing =
-    (old new other : Option HeardRows) (fields : List Bytes) (printed said : Option Bytes) → Tells old fields printed new
-    → Tells old fields said other → (printed ≡ said) × (new ≡ other)
+    (old new other : Option HeardRows) (fields : List Bytes) (printed said : Option Bytes) → TellsListener old fields printed new
+    → TellsListener old fields said other → (printed ≡ said) × (new ≡ other)

@@ -5,7 +5,7 @@ ghost use Rattle.std.specs.Prelude.{◌≡◌, ◌≢◌, ◌↔◌, ◌++◌, I
 ghost use Rattle.latest.specs.Senders.{senders};
 ghost use Rattle.types.specs.Statements.{Sent};
 ghost use Rattle.listening.specs.declared.configured.Configured.{Configured};
-ghost use Rattle.tables.specs.TableLines.{AreOwn, AreOwnWords, ArePut, ArePutWords, Asks, AsksNone, Backs, BadLinesAreUntold, Begins, BeginsNone, Decodes, Hands, HandsNone, LinesTellOneThing, Prints, PrintsReach, Puts, PutsNone, Refuses, Shows, Takes, Tells, fault_text, text_of_row, text_of_table, text_with_name, text_with_row, text_with_rows, up_to_next};
+ghost use Rattle.tables.specs.TableLines.{AreOwn, AreOwnWords, ArePut, ArePutWords, Asks, AsksNone, Backs, BadTableLinesAreUntold, Begins, BeginsNone, Decodes, Hands, HandsNone, LinesTellOneThing, Prints, PrintsReach, PutsNone, PutsRow, RefusesTableLine, ShowsKnown, Takes, TellsListener, fault_text, text_of_row, text_of_table, text_with_name, text_with_row, text_with_rows, up_to_next};
 
 use crate::table_listener::{TableListener, Taken};
 use codec::{CodecError, Fault, decode};
@@ -50,11 +50,11 @@ impl TableRun {
 }
 
 impl LineRunner for TableRun {
-    ghost use Rattle.tables.specs.TableLines.{Refuses, Tells};
+    ghost use Rattle.tables.specs.TableLines.{RefusesTableLine, TellsListener};
 
-    ghost tells = { Tells };
+    ghost tells = { TellsListener };
 
-    ghost refuses = { Refuses };
+    ghost refuses = { RefusesTableLine };
 
     fn line(&mut self, alloc: Global, fields: &[&[u8]]) -> Result<Option<String>, LineError> {
         match &mut self.listener {
@@ -132,7 +132,7 @@ fn configured_of(
 
 /// The envelope of a slot that a line puts: `put FROM SLICES STATEMENT`.
 fn envelope_put(alloc: Global, slot: u64, fields: &[&[u8]]) -> Result<Option<Envelope>, AllocError>
-    ensures puts { IfOk result (λ o. IfSome o (λ e. Puts slot (map (λ field. field.now) fields.now) e)) }
+    ensures puts { IfOk result (λ o. IfSome o (λ e. PutsRow slot (map (λ field. field.now) fields.now) e)) }
     ensures none { IfOk result (λ o. IfNone o (PutsNone slot (map (λ field. field.now) fields.now))) }
 {
     let [word, rest @ ..] = fields else {
@@ -195,7 +195,7 @@ fn bytes_handed(alloc: Global, fields: &[&[u8]]) -> Result<Option<Vec<u8>>, Allo
 
 /// The listener that a first line begins.
 fn listener_of(alloc: Global, fields: &[&[u8]]) -> Result<TableListener, LineError>
-    ensures told { IfOk result (λ listener. Tells None (map (λ field. field.now) fields.now) None (Some listener)) }
+    ensures told { IfOk result (λ listener. TellsListener None (map (λ field. field.now) fields.now) None (Some listener)) }
     ensures bad { result ≡ Err LineError.Bad → BeginsNone (map (λ field. field.now) fields.now) }
 {
     match configured_by(alloc, fields) {
@@ -212,8 +212,8 @@ fn run(
     fields: &[&[u8]],
 ) -> Result<Option<String>, LineError>
     ensures told { IfOk result (λ printed.
-        Tells (Some listener.old) (map (λ field. field.now) fields.now) (option_map string_bytes printed) (Some listener.new)) }
-    ensures bad { result ≡ Err LineError.Bad → Refuses (Some listener.old) (map (λ field. field.now) fields.now) }
+        TellsListener (Some listener.old) (map (λ field. field.now) fields.now) (option_map string_bytes printed) (Some listener.new)) }
+    ensures bad { result ≡ Err LineError.Bad → RefusesTableLine (Some listener.old) (map (λ field. field.now) fields.now) }
 {
     match ballot_asked(alloc, fields) {
         Ok(Some(ballot)) => ask(alloc, listener, &ballot),
@@ -229,10 +229,10 @@ fn run_offer(
     fields: &[&[u8]],
 ) -> Result<Option<String>, LineError>
     ensures told { IfOk result (λ printed.
-        Tells (Some listener.old) (map (λ field. field.now) fields.now) (option_map string_bytes printed) (Some listener.new)) }
+        TellsListener (Some listener.old) (map (λ field. field.now) fields.now) (option_map string_bytes printed) (Some listener.new)) }
     ensures bad { result ≡ Err LineError.Bad
         → PutsNone listener.old.configured.slot (map (λ field. field.now) fields.now)
-        × HandsNone (map (λ field. field.now) fields.now) × ¬ Shows (map (λ field. field.now) fields.now) }
+        × HandsNone (map (λ field. field.now) fields.now) × ¬ ShowsKnown (map (λ field. field.now) fields.now) }
 {
     match envelope_put(alloc, listener.slot(), fields) {
         Ok(Some(envelope)) => offer(alloc, listener, envelope),
@@ -248,9 +248,9 @@ fn run_bytes(
     fields: &[&[u8]],
 ) -> Result<Option<String>, LineError>
     ensures told { IfOk result (λ printed.
-        Tells (Some listener.old) (map (λ field. field.now) fields.now) (option_map string_bytes printed) (Some listener.new)) }
+        TellsListener (Some listener.old) (map (λ field. field.now) fields.now) (option_map string_bytes printed) (Some listener.new)) }
     ensures bad { result ≡ Err LineError.Bad
-        → HandsNone (map (λ field. field.now) fields.now) × ¬ Shows (map (λ field. field.now) fields.now) }
+        → HandsNone (map (λ field. field.now) fields.now) × ¬ ShowsKnown (map (λ field. field.now) fields.now) }
 {
     match bytes_handed(alloc, fields) {
         Ok(Some(bytes)) => offer_bytes(alloc, listener, &bytes),
@@ -267,7 +267,7 @@ fn run_shown(
 ) -> Result<Option<String>, LineError>
     ensures told { IfOk result (λ printed.
         Prints listener.now (map (λ field. field.now) fields.now) (option_map string_bytes printed)) }
-    ensures bad { result ≡ Err LineError.Bad → ¬ Shows (map (λ field. field.now) fields.now) }
+    ensures bad { result ≡ Err LineError.Bad → ¬ ShowsKnown (map (λ field. field.now) fields.now) }
 {
     match fields {
         [word] if is_word(word, b"show") => Ok(show(alloc, listener)?),
@@ -438,7 +438,7 @@ fn push_row(text: &mut String, row: &Envelope) -> Result<(), AllocError>
 /// A law: no line is both bad and told.
 #[tactic(auto, using(crate::proofs::BadLines::bad_lines_are_untold))]
 pub fn bad_lines_are_untold()
-    ensures { BadLinesAreUntold }
+    ensures { BadTableLinesAreUntold }
 {}
 
 /// A law: a line prints one thing, if any, and leaves one listener.

@@ -25,8 +25,8 @@ use Rattle.codec.proofs.EnvelopeLaws.{fault_is, is_read}
 use Rattle.codec.proofs.FieldLaws.{ok_is}
 use Rattle.requests.specs.Lines.{AreSaid, IsRead, saying_in}
 use Rattle.translations.specs.Lines.{line_of_bytes, line_of_words}
-use Rattle.translations.specs.Translations.{DecodesBack, DecodesTo, EncodesAgain, EncodesBack, IsEncoded, IsTold}
-use Rattle.translations.specs.Translations.IsTold.{envelope, fault}
+use Rattle.translations.specs.Translations.{DecodesBack, DecodesTo, EncodesAgain, EncodesBack, IsEncoded, IsTranslated}
+use Rattle.translations.specs.Translations.IsTranslated.{envelope, fault}
 use Rattle.translations.proofs.DigitLaws.{octets_back}
 use Rattle.translations.proofs.FieldLaws.{words_are_fields}
 
@@ -128,7 +128,7 @@ octets_again bytes e spells fits =
     let long : (length (encode_lower bytes) == 1) ≡ false = ne_eqb (length (encode_lower bytes)) 1 (omega (arith, length-encode_with lower_digits bytes)) in
     rw (some, long) (digits_read bytes fits)
 
-told_once : (bytes line : Bytes) (e : Sent) (is_fault : Bool) → Spells bytes e → IsBytes bytes → IsTold bytes is_fault line
+told_once : (bytes line : Bytes) (e : Sent) (is_fault : Bool) → Spells bytes e → IsBytes bytes → IsTranslated bytes is_fault line
     → ◌≡◌ {A = Bool × Bytes} (is_fault, line) (false, line_of_words e)
 told_once bytes line e false spells fits (envelope d spelled) =
     let one : d ≡ e = ok_is d e (sym (is_read bytes d spelled) ∙ is_read bytes e spells) in
@@ -141,7 +141,7 @@ decodes_again : (bytes : Bytes) (e : Sent) → Spells bytes e → IsBytes bytes 
 decodes_again bytes e spells fits (Some (is_fault, line)) (found, read, told) =
     let both : Some found ≡ Some bytes = sym read ∙ octets_again bytes e spells fits in
     let one : found ≡ bytes = cc in
-    ap Some (told_once bytes line e is_fault spells fits (subst (λ bs. IsTold bs is_fault line) one told))
+    ap Some (told_once bytes line e is_fault spells fits (subst (λ bs. IsTranslated bs is_fault line) one told))
 decodes_again bytes e spells fits None none =
     absurd (none (false, line_of_words e) (bytes, octets_again bytes e spells fits, envelope e spells))
 
@@ -159,7 +159,7 @@ decodes_back from slot slices statement bytes line (e, spells, said, are) is fit
   again = subst (EncodesAgain e) (sym is) (encodes_again e bytes spells fits);
 }
 
-pub encodes_back : (bytes digits line : Bytes) (is_fault : Bool) → IsTold bytes is_fault line → octets_in digits ≡ Some bytes → is_fault ≡ false → EncodesBack digits line
+pub encodes_back : (bytes digits line : Bytes) (is_fault : Bool) → IsTranslated bytes is_fault line → octets_in digits ≡ Some bytes → is_fault ≡ false → EncodesBack digits line
 encodes_back bytes digits line false (envelope e spells) read is =
     let fits = octets_fit digits bytes read in
     let some : bytes ≢ [] = λ none. let never : [] ≡ spelling e = sym none ∙ spells.text in cc in

@@ -20,13 +20,13 @@ IsEncoded from slot slices statement line =
     (bytes : Bytes) × AreSaid bytes from slot slices statement × (line ≡ line_of_bytes bytes)
 
 -- the line of the envelope that bytes spell, in words, or of their fault, which is told apart
-pub data IsTold (bytes : Bytes) : Bool → Bytes → Type 0 where
-  envelope : (e : Sent) → Spells bytes e → IsTold bytes false (line_of_words e)
-  fault : (f : Fault) → IsFault bytes f → IsTold bytes true (line_of_fault f)
+pub data IsTranslated (bytes : Bytes) : Bool → Bytes → Type 0 where
+  envelope : (e : Sent) → Spells bytes e → IsTranslated bytes false (line_of_words e)
+  fault : (f : Fault) → IsFault bytes f → IsTranslated bytes true (line_of_fault f)
 
 -- the same of the bytes that a word spells in hexadecimal
 abbrev pub IsDecoded : Bytes → Bool → Bytes → Type 0
-IsDecoded digits is_fault line = (bytes : Bytes) × (octets_in digits ≡ Some bytes) × IsTold bytes is_fault line
+IsDecoded digits is_fault line = (bytes : Bytes) × (octets_in digits ≡ Some bytes) × IsTranslated bytes is_fault line
 
 -- ---- the way back
 

@@ -4,7 +4,7 @@ ghost use Rattle.std.specs.Prelude.{◌≡◌, Bool, IfOk, IfSome, false, option
 ghost use Rattle.requests.specs.Lines.{IsRead};
 ghost use Rattle.scripts.specs.Script.{Bytes};
 ghost use Rattle.translations.specs.Lines.{line_of_words};
-ghost use Rattle.translations.specs.Translations.{EncodesBack, IsDecoded, IsTold};
+ghost use Rattle.translations.specs.Translations.{EncodesBack, IsDecoded, IsTranslated};
 
 use crate::faults::line_of_fault;
 use codec::{CodecError, decode};
@@ -37,7 +37,7 @@ pub fn decode_digits(alloc: Global, digits: &[u8]) -> Result<Option<Decoded>, Al
 }
 
 fn told_of(alloc: Global, bytes: &[u8]) -> Result<Decoded, AllocError>
-    ensures { IfOk result (λ d. IsTold bytes.now d.is_fault (string_bytes d.line)) }
+    ensures { IfOk result (λ d. IsTranslated bytes.now d.is_fault (string_bytes d.line)) }
 {
     match decode(alloc, bytes) {
         Ok(envelope) => {

@@ -12,9 +12,9 @@ use Rattle.protocol.specs.Hosts.{Entry}
 use Rattle.protocol.specs.Isolation.{closure, kept_of, outs_of, SameCast}
 use Rattle.protocol.specs.Verdicts.{IsFirstDifference, IsListOf, IsVerdict}
 use Rattle.protocol.proofs.Sets.Contained.{contains_head, contains_tail, contained_cases}
-use Rattle.closure.specs.Announcing.{MemberList, names_of, IsClosureList}
+use Rattle.closure.specs.Announcing.{MemberList, member_names, IsClosureList}
 use Rattle.twoworlds.specs.declared.verdict.Verdict.TheVariants.{InputsDiffer, Same}
-use Rattle.closure.specs.Hosting.{AreAlike}
+use Rattle.closure.specs.Hosting.{AreHostedAlike}
 use Rattle.hoststep.specs.Logs.{Log}
 use Rattle.protocol.specs.Runs.{IsRun}
 use Rattle.protocol.proofs.Runs.KeptWithin.{closure-start}
@@ -106,22 +106,22 @@ isolated_alone one i v cast same u m = absurd (true≢false (sym cast.hosted ∙
 module _ (one other : List HostedNode) (run others : List Entry) (i v : ℕ) where
   module _ (list : MemberList) (c : IsClosureList one i v run list) (hosted : is_some (slices_of one v) ≡ true) where
     abbrev here : Names
-    here = among (names_of list)
+    here = among (member_names list)
 
     set_is : here ≡ closure one i v run
     set_is = fun_ext c.exactly
 
-    cast : AreAlike one other (names_of list) → SameCast (closure one i v run) v one other
+    cast : AreHostedAlike one other (member_names list) → SameCast (closure one i v run) v one other
     cast a = record { hosted = hosted; same = λ u m. a u (c.exactly u ∙ m) }
 
     -- nobody is hosted where a world lacks the network: the node itself is hosted unlike
-    pub never_alone : AreAlike one [] (names_of list) → ⊥
+    pub never_alone : AreHostedAlike one [] (member_names list) → ⊥
     never_alone a = true≢false (sym hosted ∙ ap is_some (a v (c.exactly v ∙ closure-start one i v run)))
 
-    pub judged_inputs : AreAlike one other (names_of list) → (place : ℕ) → IsFirstDifference (kept_of here i run) (kept_of here i others) place → IsVerdictOf one other run others i v (InputsDiffer place)
+    pub judged_inputs : AreHostedAlike one other (member_names list) → (place : ℕ) → IsFirstDifference (kept_of here i run) (kept_of here i others) place → IsVerdictOf one other run others i v (InputsDiffer place)
     judged_inputs a place d = (cast a, subst (λ (R : Names). IsFirstDifference (kept_of R i run) (kept_of R i others) place) set_is d)
 
-    pub judged_same : IsAscending (node_names one) → AreAlike one other (names_of list) → kept_of here i run ≡ kept_of here i others → AreIsolatedRuns one other run others i v → (given : List (ℕ × List Out)) → given ≡ outs_of_each i run (hosted_in here one)
+    pub judged_same : IsAscending (node_names one) → AreHostedAlike one other (member_names list) → kept_of here i run ≡ kept_of here i others → AreIsolatedRuns one other run others i v → (given : List (ℕ × List Out)) → given ≡ outs_of_each i run (hosted_in here one)
         → IsVerdictOf one other run others i v (Same given)
     judged_same up a same isolated given is =
         let R = closure one i v run in
@@ -138,19 +138,19 @@ module _ (one other : List HostedNode) (run others : List Entry) (i v : ℕ) whe
         )
 
 -- ---- verdicts on what two worlds have of a network
-module _ (one : Log) (o : Option Log) (i v : ℕ) (list : MemberList) (c : IsClosureList one.config.nodes i v one.entries list) (hosted : is_some (slices_of one.config.nodes v) ≡ true) (alike : AreAlike one.config.nodes (nodes_in o) (names_of list)) where
-  alike_in : (p : Option Log) → o ≡ p → AreAlike one.config.nodes (nodes_in p) (names_of list)
-  alike_in p q = subst (λ (r : Option Log). AreAlike one.config.nodes (nodes_in r) (names_of list)) q alike
+module _ (one : Log) (o : Option Log) (i v : ℕ) (list : MemberList) (c : IsClosureList one.config.nodes i v one.entries list) (hosted : is_some (slices_of one.config.nodes v) ≡ true) (alike : AreHostedAlike one.config.nodes (nodes_in o) (member_names list)) where
+  alike_in : (p : Option Log) → o ≡ p → AreHostedAlike one.config.nodes (nodes_in p) (member_names list)
+  alike_in p q = subst (λ (r : Option Log). AreHostedAlike one.config.nodes (nodes_in r) (member_names list)) q alike
 
   pub never_without : o ≡ None → ⊥
   never_without q = never_alone one.config.nodes [] one.entries [] i v list c hosted (alike_in None q)
 
   module _ (other : Log) (q : o ≡ Some other) where
-    pub inputs_with : (place : ℕ) → IsFirstDifference (kept_of (among (names_of list)) i one.entries) (kept_of (among (names_of list)) i other.entries) place → IsVerdictOn (Some one) o i v (InputsDiffer place)
+    pub inputs_with : (place : ℕ) → IsFirstDifference (kept_of (among (member_names list)) i one.entries) (kept_of (among (member_names list)) i other.entries) place → IsVerdictOn (Some one) o i v (InputsDiffer place)
     inputs_with place d = subst (λ (r : Option Log). IsVerdictOn (Some one) r i v (InputsDiffer place)) (sym q) (judged_inputs one.config.nodes other.config.nodes one.entries other.entries i v list c hosted (alike_in (Some other) q) place d)
 
-    pub same_with : IsAscending (node_names one.config.nodes) → kept_of (among (names_of list)) i one.entries ≡ kept_of (among (names_of list)) i other.entries → AreIsolated (Some one) o i v
-        → (given : List (ℕ × List Out)) → given ≡ outs_of_each i one.entries (hosted_in (among (names_of list)) one.config.nodes) → IsVerdictOn (Some one) o i v (Same given)
+    pub same_with : IsAscending (node_names one.config.nodes) → kept_of (among (member_names list)) i one.entries ≡ kept_of (among (member_names list)) i other.entries → AreIsolated (Some one) o i v
+        → (given : List (ℕ × List Out)) → given ≡ outs_of_each i one.entries (hosted_in (among (member_names list)) one.config.nodes) → IsVerdictOn (Some one) o i v (Same given)
     same_with up same isolated given is = subst (λ (r : Option Log). IsVerdictOn (Some one) r i v (Same given)) (sym q)
         (judged_same one.config.nodes other.config.nodes one.entries other.entries i v list c hosted up (alike_in (Some other) q) same (subst (λ (r : Option Log). AreIsolated (Some one) r i v) q isolated) given is)
 

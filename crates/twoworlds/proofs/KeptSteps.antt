@@ -13,13 +13,13 @@ use Rattle.protocol.specs.Isolation.{KeptStep, kept_step, kept_of, when_kept}
 use Rattle.protocol.specs.Verdicts.{IsFirstDifference}
 use Rattle.closure.proofs.Places.{at_seam, front_at, rest_at, there_is}
 use Rattle.closure.proofs.SideBySide.{IsAgreed, agreed_at_first, agreed_more, parts_at_end, parts_at_other_end, parts_unlike}
-use Rattle.twoworlds.specs.Steps.{event_at, is_kept, is_kept_in, core, IsNextKept, IsKeptEntry}
+use Rattle.twoworlds.specs.Steps.{event_at, is_kept_step, is_kept_in, core, IsNextKept, IsKeptEntry}
 
 when_is : (b : Bool) (k : KeptStep) → when_kept b k ≡ (if b then Some k else None)
 when_is true k = refl
 when_is false k = refl
 
-kept_is : (R : Names) (i : ℕ) (s : Step) → kept_step R i s ≡ (if is_kept R i s then Some (core s) else None)
+kept_is : (R : Names) (i : ℕ) (s : Step) → kept_step R i s ≡ (if is_kept_step R i s then Some (core s) else None)
 kept_is R i (Opens j) = when_is (j == i) (core (Opens j))
 kept_is R i (Closes j) = when_is (j == i) (core (Closes j))
 kept_is R i (Proposes j u x) = when_is ((j == i) && R u) (core (Proposes j u x))
@@ -37,15 +37,15 @@ is_one : (z w : KeptStep) → Some z ≡ Some w → z ≡ w
 is_one z w e = cc
 
 module _ (R : Names) (i : ℕ) where
-  kept_head : (x : Entry) (xs : List Entry) (b : Bool) → is_kept R i x.event ≡ b → kept_of R i (x ∷ xs) ≡ (if b then core x.event ∷ kept_of R i xs else kept_of R i xs)
+  kept_head : (x : Entry) (xs : List Entry) (b : Bool) → is_kept_step R i x.event ≡ b → kept_of R i (x ∷ xs) ≡ (if b then core x.event ∷ kept_of R i xs else kept_of R i xs)
   unfolding kept_of
   kept_head x xs true e = let k : kept_step R i x.event ≡ Some (core x.event) = kept_is R i x.event ∙ ap (λ b. if b then Some (core x.event) else None) e in rw k refl
   kept_head x xs false e = let k : kept_step R i x.event ≡ None = kept_is R i x.event ∙ ap (λ b. if b then Some (core x.event) else None) e in rw k refl
 
-  pub kept_skip : (run : List Entry) (n : ℕ) (x : Entry) → slice_get run n ≡ Some x → is_kept R i x.event ≡ false → kept_of R i (drop n run) ≡ kept_of R i (drop (n + 1) run)
+  pub kept_skip : (run : List Entry) (n : ℕ) (x : Entry) → slice_get run n ≡ Some x → is_kept_step R i x.event ≡ false → kept_of R i (drop n run) ≡ kept_of R i (drop (n + 1) run)
   kept_skip run n x e h = ap (λ (ys : List Entry). kept_of R i ys) (rest_at run n x e) ∙ kept_head x (drop (n + 1) run) false h
 
-  pub kept_next : (run : List Entry) (from n : ℕ) (x : Entry) → from ≤ n → slice_get run n ≡ Some x → is_kept R i x.event ≡ true → kept_of R i (drop from run) ≡ kept_of R i (drop n run) → IsNextKept R i run from n
+  pub kept_next : (run : List Entry) (from n : ℕ) (x : Entry) → from ≤ n → slice_get run n ≡ Some x → is_kept_step R i x.event ≡ true → kept_of R i (drop from run) ≡ kept_of R i (drop n run) → IsNextKept R i run from n
   kept_next run from n x l e h same = record {
     inside = slice_get_within run n x e;
     after = l;
@@ -61,7 +61,7 @@ module _ (R : Names) (i : ℕ) where
   kept_nothing run n l = ap (λ (ys : List Entry). kept_of R i ys) (drop_all n run l)
 
   -- ---- by number
-  here_is : (run : List Entry) (n : ℕ) (x : Entry) → slice_get run n ≡ Some x → (b : Bool) → is_kept_in R i (event_at run n) ≡ b → is_kept R i x.event ≡ b
+  here_is : (run : List Entry) (n : ℕ) (x : Entry) → slice_get run n ≡ Some x → (b : Bool) → is_kept_in R i (event_at run n) ≡ b → is_kept_step R i x.event ≡ b
   here_is run n x e b h = ap (λ (o : Option Entry). is_kept_in R i (option_map (λ (y : Entry). y.event) o)) (sym e) ∙ h
 
   pub skip_at : (run : List Entry) (n : ℕ) → n < length run → is_kept_in R i (event_at run n) ≡ false → kept_of R i (drop n run) ≡ kept_of R i (drop (n + 1) run)

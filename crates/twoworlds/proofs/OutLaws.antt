@@ -13,7 +13,7 @@ use Rattle.protocol.specs.Networks.Reading.{Read, Fault}
 use Rattle.protocol.specs.Networks.Step.{Opens, Closes, Proposes, Delivers, Hears, NominationTimerFires, BallotTimerFires, Reslices}
 use Rattle.protocol.specs.Hosts.{Entry}
 use Rattle.protocol.specs.Isolation.{is_of, outs_of}
-use Rattle.twoworlds.specs.Steps.{at_slot, event_at, node_in, node_of}
+use Rattle.twoworlds.specs.Steps.{at_slot, event_at, node_in, node_of_step}
 use Rattle.twoworlds.specs.OutLists.{IsNoted, IsNotedAt, outs_of_each}
 use Rattle.twoworlds.specs.OutLists.IsNoted.{nobody, somebody}
 use Rattle.closure.proofs.Places.{front_at, there_is}
@@ -27,7 +27,7 @@ when_at : (b : Bool) (w u : ℕ) → (b && (w == u)) ≡ is_node (at_slot b w) u
 when_at true w u = refl
 when_at false w u = refl
 
-pub is_of_is : (i u : ℕ) (s : Step) → is_of i u s ≡ is_node (node_of i s) u
+pub is_of_is : (i u : ℕ) (s : Step) → is_of i u s ≡ is_node (node_of_step i s) u
 is_of_is i u (Opens j) = refl
 is_of_is i u (Closes j) = refl
 is_of_is i u (Proposes j w x) = when_at (j == i) w u
@@ -89,7 +89,7 @@ each_length i run (u ∷ us) = ap (λ n. suc n) (each_length i run us)
 
 -- ---- where an entry is noted
 
-is_here : (i w u : ℕ) (x : Entry) → node_of i x.event ≡ Some w → is_of i u x.event ≡ (w == u)
+is_here : (i w u : ℕ) (x : Entry) → node_of_step i x.event ≡ Some w → is_of i u x.event ≡ (w == u)
 is_here i w u x e = is_of_is i u x.event ∙ ap (λ (o : Option ℕ). is_node o u) e
 
 rises : (xs : List ℕ) → IsAscending xs → (i j : ℕ) → i ≤ j → j < length xs → get_or xs i 0 ≤ get_or xs j 0
@@ -98,7 +98,7 @@ rises xs up i j h k = elim (cases_lt i j) [
   | inr m ↦ let e : i ≡ j = omega arith in rw e (omega arith)
 ]
 
-pub noted_elsewhere : (i : ℕ) (x : Entry) (list : List ℕ) (old : List (ℕ × List Out)) (w place : ℕ) → node_of i x.event ≡ Some w → IsAscending list → IsBinarySearchResult (λ y. nat_cmp y w) list (Err place) → IsNoted i x list old old
+pub noted_elsewhere : (i : ℕ) (x : Entry) (list : List ℕ) (old : List (ℕ × List Out)) (w place : ℕ) → node_of_step i x.event ≡ Some w → IsAscending list → IsBinarySearchResult (λ y. nat_cmp y w) list (Err place) → IsNoted i x list old old
 noted_elsewhere i x list old w place e up missed =
     let s = searched list w (Err place) missed (rises list up) in
     nobody (λ k u h. is_here i w u x e ∙ ne_eqb w u (λ q.
@@ -106,7 +106,7 @@ noted_elsewhere i x list old w place e up missed =
     let l = slice_get_within list k u h in
     elim (cases_lt k place) [ inl a ↦ let b = s.1 k a in absurd (omega (arith, at, b, q)) | inr a ↦ let b = s.2 k a l in absurd (omega (arith, at, b, q)) ])) refl
 
-pub noted_there : (i : ℕ) (x : Entry) (list : List ℕ) (old new : List (ℕ × List Out)) (w place : ℕ) → node_of i x.event ≡ Some w → IsAscending list → IsBinarySearchResult (λ y. nat_cmp y w) list (Ok place)
+pub noted_there : (i : ℕ) (x : Entry) (list : List ℕ) (old new : List (ℕ × List Out)) (w place : ℕ) → node_of_step i x.event ≡ Some w → IsAscending list → IsBinarySearchResult (λ y. nat_cmp y w) list (Ok place)
     → ((p : ℕ × List Out) → slice_get old place ≡ Some p → new ≡ slice_set old place (p.0, p.1 ++ x.outs)) → IsNoted i x list old new
 noted_there i x list old new w place e up found h =
     let s = searched list w (Ok place) found (rises list up) in
@@ -127,5 +127,5 @@ noted_there i x list old new w place e up found h =
 pub noted_by : (i : ℕ) (run : List Entry) (n : ℕ) (list : List ℕ) (old new : List (ℕ × List Out)) → n < length run → old ≡ outs_of_each i (take n run) list → IsNotedAt i run n list old new → new ≡ outs_of_each i (take (n + 1) run) list
 noted_by i run n list old new l was h = let p = there_is run n l in noted_is i run n p.0 list old new p.1 was (h p.0 p.1)
 
-pub node_is : (i : ℕ) (run : List Entry) (n : ℕ) (x : Entry) (o : Option ℕ) → slice_get run n ≡ Some x → o ≡ node_in i (event_at run n) → node_of i x.event ≡ o
+pub node_is : (i : ℕ) (run : List Entry) (n : ℕ) (x : Entry) (o : Option ℕ) → slice_get run n ≡ Some x → o ≡ node_in i (event_at run n) → node_of_step i x.event ≡ o
 node_is i run n x o e h = ap (λ (y : Option Entry). node_in i (option_map (λ (z : Entry). z.event) y)) (sym e) ∙ sym h

@@ -15,21 +15,21 @@ abbrev pub event_at : List Entry → ℕ → Option Step
 event_at run n = option_map (λ x. x.event) (slice_get run n)
 
 -- a step concerns the members at the slot, and so is kept
-abbrev pub is_kept : Names → ℕ → Step → Bool
-is_kept R i (Opens j) = j == i
-is_kept R i (Closes j) = j == i
-is_kept R i (Proposes j u x) = (j == i) && R u
-is_kept R i (Delivers u size (Read e)) = (e.slot == i) && R u && R e.sender
-is_kept R i (Delivers u size (Fault n)) = false
-is_kept R i (Hears j u from kind k) = (j == i) && R u && R from
-is_kept R i (NominationTimerFires j u r) = (j == i) && R u
-is_kept R i (BallotTimerFires j u n) = (j == i) && R u
-is_kept R i (Reslices j u q) = (j == i) && R u
+abbrev pub is_kept_step : Names → ℕ → Step → Bool
+is_kept_step R i (Opens j) = j == i
+is_kept_step R i (Closes j) = j == i
+is_kept_step R i (Proposes j u x) = (j == i) && R u
+is_kept_step R i (Delivers u size (Read e)) = (e.slot == i) && R u && R e.sender
+is_kept_step R i (Delivers u size (Fault n)) = false
+is_kept_step R i (Hears j u from kind k) = (j == i) && R u && R from
+is_kept_step R i (NominationTimerFires j u r) = (j == i) && R u
+is_kept_step R i (BallotTimerFires j u n) = (j == i) && R u
+is_kept_step R i (Reslices j u q) = (j == i) && R u
 
 -- there is a step, and it is kept
 abbrev pub is_kept_in : Names → ℕ → Option Step → Bool
 is_kept_in R i None = false
-is_kept_in R i (Some s) = is_kept R i s
+is_kept_in R i (Some s) = is_kept_step R i s
 
 -- what is kept of a step that concerns the members
 abbrev pub core : Step → KeptStep
@@ -48,21 +48,21 @@ abbrev pub at_slot : Bool → ℕ → Option ℕ
 at_slot b u = if b then Some u else None
 
 -- the node of a step at the slot; none of an opening or closing, or at another slot
-abbrev pub node_of : ℕ → Step → Option ℕ
-node_of i (Opens j) = None
-node_of i (Closes j) = None
-node_of i (Proposes j u x) = at_slot (j == i) u
-node_of i (Delivers u size (Read e)) = at_slot (e.slot == i) u
-node_of i (Delivers u size (Fault n)) = None
-node_of i (Hears j u from kind k) = at_slot (j == i) u
-node_of i (NominationTimerFires j u r) = at_slot (j == i) u
-node_of i (BallotTimerFires j u n) = at_slot (j == i) u
-node_of i (Reslices j u q) = at_slot (j == i) u
+abbrev pub node_of_step : ℕ → Step → Option ℕ
+node_of_step i (Opens j) = None
+node_of_step i (Closes j) = None
+node_of_step i (Proposes j u x) = at_slot (j == i) u
+node_of_step i (Delivers u size (Read e)) = at_slot (e.slot == i) u
+node_of_step i (Delivers u size (Fault n)) = None
+node_of_step i (Hears j u from kind k) = at_slot (j == i) u
+node_of_step i (NominationTimerFires j u r) = at_slot (j == i) u
+node_of_step i (BallotTimerFires j u n) = at_slot (j == i) u
+node_of_step i (Reslices j u q) = at_slot (j == i) u
 
 -- the node of a step at the slot, where there is a step
 abbrev pub node_in : ℕ → Option Step → Option ℕ
 node_in i None = None
-node_in i (Some s) = node_of i s
+node_in i (Some s) = node_of_step i s
 
 -- the entry with this number is the first from a number on that is kept
 pub record IsNextKept (R : Names) (i : ℕ) (run : List Entry) (from k : ℕ) : Type 0 where
@@ -76,6 +76,6 @@ pub record IsNextKept (R : Names) (i : ℕ) (run : List Entry) (from k : ℕ) : 
 pub record IsKeptEntry (R : Names) (i : ℕ) (run : List Entry) (place k : ℕ) : Type 0 where
   pub entry : Entry
   pub there : slice_get run k ≡ Some entry
-  pub concerns : IsTrue (is_kept R i entry.event)
+  pub concerns : IsTrue (is_kept_step R i entry.event)
   pub before : length (kept_of R i (take k run)) ≡ place
   pub step : slice_get (kept_of R i run) place ≡ kept_step R i entry.event

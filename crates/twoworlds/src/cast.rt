@@ -2,8 +2,8 @@
 
 ghost use Rattle.std.specs.Prelude.{◌≡◌, MatchOption, option_map};
 ghost use Rattle.protocol.specs.Networks.{slices_of};
-ghost use Rattle.closure.specs.Announcing.{names_of};
-ghost use Rattle.closure.specs.Hosting.{AreAlike, IsLeastUnlike};
+ghost use Rattle.closure.specs.Announcing.{member_names};
+ghost use Rattle.closure.specs.Hosting.{AreHostedAlike, IsLeastUnlike};
 ghost use Rattle.twoworlds.specs.Meanings.{nodes_in};
 
 use closure::{Announcements, ClosureList, is_hosted_alike, least_failing};
@@ -18,7 +18,7 @@ pub fn least_unlike<S: Shelf, T: Shelf>(
     other: Option<&Journal<T>>,
     members: &ClosureList,
 ) -> Option<NodeId>
-    ensures { MatchOption result (AreAlike one.now.config.nodes (nodes_in (option_map (λ j. j.now) other.entry)) (names_of members.now)) (λ u. IsLeastUnlike one.now.config.nodes (nodes_in (option_map (λ j. j.now) other.entry)) (names_of members.now) u) }
+    ensures { MatchOption result (AreHostedAlike one.now.config.nodes (nodes_in (option_map (λ j. j.now) other.entry)) (member_names members.now)) (λ u. IsLeastUnlike one.now.config.nodes (nodes_in (option_map (λ j. j.now) other.entry)) (member_names members.now) u) }
 {
     least_failing(members, |name| {
         is_hosted_alike(one.slices(name), slices_in(other, name))

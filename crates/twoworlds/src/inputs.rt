@@ -4,7 +4,7 @@ ghost use Rattle.std.specs.Prelude.{◌≡◌, ◌<◌, ◌≤◌, ◌^◌, [], 
 ghost use Rattle.protocol.specs.Isolation.{kept_of};
 ghost use Rattle.protocol.specs.Sets.{among};
 ghost use Rattle.protocol.specs.Verdicts.{IsFirstDifference};
-ghost use Rattle.closure.specs.Announcing.{names_of};
+ghost use Rattle.closure.specs.Announcing.{member_names};
 ghost use Rattle.twoworlds.specs.Steps.{IsKeptEntry, IsNextKept};
 
 use crate::same_steps::is_same_at;
@@ -20,7 +20,7 @@ pub fn first_difference<S: Shelf, T: Shelf>(
     members: &ClosureList,
     slot: u64,
 ) -> Option<usize>
-    ensures { MatchOption result (kept_of (among (names_of members.now)) slot one.now.entries ≡ kept_of (among (names_of members.now)) slot other.now.entries) (λ place. IsFirstDifference (kept_of (among (names_of members.now)) slot one.now.entries) (kept_of (among (names_of members.now)) slot other.now.entries) place) }
+    ensures { MatchOption result (kept_of (among (member_names members.now)) slot one.now.entries ≡ kept_of (among (member_names members.now)) slot other.now.entries) (λ place. IsFirstDifference (kept_of (among (member_names members.now)) slot one.now.entries) (kept_of (among (member_names members.now)) slot other.now.entries) place) }
 {
     let mut here = 0;
     let mut there = 0;
@@ -50,7 +50,7 @@ fn next_kept<S: Shelf>(
 ) -> Option<usize>
     requires { from ≤ length journal.now.entries }
     ensures fits { length journal.now.entries < 2 ^ 64 }
-    ensures found { MatchOption result (kept_of (among (names_of members.now)) slot (drop from journal.now.entries) ≡ []) (λ k. IsNextKept (among (names_of members.now)) slot journal.now.entries from k) }
+    ensures found { MatchOption result (kept_of (among (member_names members.now)) slot (drop from journal.now.entries) ≡ []) (λ k. IsNextKept (among (member_names members.now)) slot journal.now.entries from k) }
 {
     for number in from..journal.len() {
         if is_kept_at(journal, number, members, slot) {
@@ -72,7 +72,7 @@ pub fn kept_entry<S: Shelf>(
     slot: u64,
     place: usize,
 ) -> Option<usize>
-    ensures { MatchOption result (length (kept_of (among (names_of members.now)) slot journal.now.entries) ≤ place) (λ k. IsKeptEntry (among (names_of members.now)) slot journal.now.entries place k) }
+    ensures { MatchOption result (length (kept_of (among (member_names members.now)) slot journal.now.entries) ≤ place) (λ k. IsKeptEntry (among (member_names members.now)) slot journal.now.entries place k) }
 {
     let mut before = 0;
     for number in 0..journal.len() {

@@ -4,7 +4,7 @@
 
 ghost use Rattle.std.specs.Prelude.{◌≡◌, [], IfOk, OnOk, length, map};
 ghost use Rattle.protocol.specs.Sets.{IsAscending, among};
-ghost use Rattle.closure.specs.Announcing.{names_of};
+ghost use Rattle.closure.specs.Announcing.{member_names};
 ghost use Rattle.twoworlds.specs.OutLists.{IsNotedAt, hosted_in, outs_of_each};
 
 use crate::steps::node_of_entry;
@@ -29,7 +29,7 @@ pub fn hosted_members(
     nodes: &[HostedNode],
     members: &ClosureList,
 ) -> Result<Vec<NodeId>, AllocError>
-    ensures { IfOk result (λ v. v.items ≡ hosted_in (among (names_of members.now)) nodes.now) }
+    ensures { IfOk result (λ v. v.items ≡ hosted_in (among (member_names members.now)) nodes.now) }
 {
     let mut names = Vec::new(alloc);
     for hosted in nodes {

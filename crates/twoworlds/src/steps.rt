@@ -2,9 +2,9 @@
 
 ghost use Rattle.std.specs.Prelude.{◌≡◌};
 ghost use Rattle.protocol.specs.Sets.{among};
-ghost use Rattle.closure.specs.Announcing.{names_of};
+ghost use Rattle.closure.specs.Announcing.{member_names};
 ghost use Rattle.hoststep.specs.Lending.{lent_step};
-ghost use Rattle.twoworlds.specs.Steps.{event_at, is_kept, is_kept_in, node_in, node_of};
+ghost use Rattle.twoworlds.specs.Steps.{event_at, is_kept_in, is_kept_step, node_in, node_of_step};
 
 use closure::ClosureList;
 use envstore::Shelf;
@@ -18,7 +18,7 @@ pub fn is_kept_at<S: Shelf>(
     members: &ClosureList,
     slot: u64,
 ) -> bool
-    ensures { result ≡ is_kept_in (among (names_of members.now)) slot (event_at journal.now.entries number) }
+    ensures { result ≡ is_kept_in (among (member_names members.now)) slot (event_at journal.now.entries number) }
 {
     match journal.event(number) {
         None => false,
@@ -29,7 +29,7 @@ pub fn is_kept_at<S: Shelf>(
 /// Whether a step concerns the members at the slot. It does if it opens or closes the slot, or happens there to a
 /// member, unless it comes from a node that is no member.
 fn is_kept(step: &LentEvent<'_>, members: &ClosureList, slot: u64) -> bool
-    ensures { result ≡ is_kept (among (names_of members.now)) slot (lent_step step.now) }
+    ensures { result ≡ is_kept_step (among (member_names members.now)) slot (lent_step step.now) }
 {
     match step {
         LentEvent::OpenSlot { slot: at } | LentEvent::CloseSlot { slot: at } => *at == slot,
@@ -61,7 +61,7 @@ pub fn node_of_entry<S: Shelf>(journal: &Journal<S>, number: usize, slot: u64) -
 
 /// The node of a step, if it is at the slot and has one.
 fn node_of(step: &LentEvent<'_>, slot: u64) -> Option<NodeId>
-    ensures { result ≡ node_of slot (lent_step step.now) }
+    ensures { result ≡ node_of_step slot (lent_step step.now) }
 {
     let (at, node) = match step {
         LentEvent::OpenSlot { .. } | LentEvent::CloseSlot { .. } => return None,

@@ -1,7 +1,7 @@
 //! What a comparison answers.
 
 ghost use Rattle.std.specs.Prelude.{◌≡◌, ◌++◌, [], OnOk};
-ghost use Rattle.hoststep.specs.Lending.{outs_at};
+ghost use Rattle.hoststep.specs.Lending.{outs_of_entry};
 
 use envstore::Shelf;
 use hoststep::Journal;
@@ -48,7 +48,7 @@ impl MemberOuts {
         journal: &Journal<S>,
         number: usize,
     ) -> Result<(), AllocError>
-        ensures { OnOk result (self.new ≡ (self.old.0, self.old.1 ++ outs_at journal.now.entries number)) }
+        ensures { OnOk result (self.new ≡ (self.old.0, self.old.1 ++ outs_of_entry journal.now.entries number)) }
     {
         journal.push_outs(alloc, number, &mut self.outs)
     }

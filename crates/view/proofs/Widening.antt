@@ -10,7 +10,7 @@ use Rattle.types.specs.declared.statement.Statement.TheVariants.{Nominate, Prepa
 use Rattle.types.specs.Statements.{Sent, kind_of}
 use Rattle.types.specs.Votes.{has_value, same_value}
 use Rattle.protocol.specs.Candidates.{all_with, values_by}
-use Rattle.protocol.specs.Newer.{is_newer, widens}
+use Rattle.protocol.specs.Newer.{is_newer}
 use Rattle.protocol.specs.Newer as Newer
 use Rattle.protocol.specs.Rows.{is_taken, replaces, row, with_row}
 use Rattle.protocol.proofs.Equality.Sameness.{same_value-true}

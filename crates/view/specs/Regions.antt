@@ -30,9 +30,9 @@ abbrev pub row_places : List Sent → Kind → List ℕ → List (Option ℕ)
 row_places table kind nodes = map (λ u. place_of_row table u kind) nodes
 
 -- the places of rows of a kind, as they are found
-abbrev pub places_of_kind : Kind → KindPlaces → List (Option ℕ)
-places_of_kind Nomination p = p.nominations.items
-places_of_kind Kind.Ballot p = p.ballots.items
+abbrev pub row_places_of_kind : Kind → KindPlaces → List (Option ℕ)
+row_places_of_kind Nomination p = p.nominations.items
+row_places_of_kind Kind.Ballot p = p.ballots.items
 
 -- the places of both kinds are those of the rows that these nodes have in a table
 pub record AreRowPlaces (table : List Sent) (nodes : List ℕ) (p : KindPlaces) : Type 0 where

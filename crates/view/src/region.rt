@@ -11,7 +11,7 @@ ghost use Rattle.protocol.specs.Sets.{IsAscending, among};
 ghost use Rattle.compiled.specs.Searching.{AreCompiled};
 ghost use Rattle.latest.specs.Places.{place_of_row};
 ghost use Rattle.view.specs.Forms.{AreAllForms, IsFormerOf, IsFoundWithin};
-ghost use Rattle.view.specs.Regions.{AreRowPlaces, IsChange, IsCopy, IsEntry, IsFormerRegion, IsPlaced, IsRegion, forms_of, places_of_kind, row_places, rows_of};
+ghost use Rattle.view.specs.Regions.{AreRowPlaces, IsChange, IsCopy, IsEntry, IsFormerRegion, IsPlaced, IsRegion, forms_of, row_places, row_places_of_kind, rows_of};
 
 use crate::changing::Extent;
 use crate::forms::{Candidates, Former, SlicesInReach};
@@ -389,7 +389,7 @@ impl Placed {
         table: &'a Rows<'a, S>,
         kind: Kind,
     ) -> ReachedRows<'a, S>
-        requires { places_of_kind kind self.now.rows ≡ row_places table.now kind self.now.nodes.items }
+        requires { row_places_of_kind kind self.now.rows ≡ row_places table.now kind self.now.nodes.items }
         ensures { result ≡ record { nodes = self.now.nodes.items; table = table.now; kind = kind } }
     {
         ReachedRows::in_place(alloc, &self.nodes, self.rows.of(kind), table, kind)
@@ -451,7 +451,7 @@ impl KindPlaces {
     }
 
     fn of(&self, kind: Kind) -> &[RowPlace]
-        ensures { result.now ≡ places_of_kind kind self.now }
+        ensures { result.now ≡ row_places_of_kind kind self.now }
     {
         match kind {
             Kind::Nomination => &self.nominations,

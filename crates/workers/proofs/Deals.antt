@@ -14,11 +14,11 @@ use Rattle.cells.specs.Views.{Knowledge}
 use Rattle.workers.specs.declared.deal.SpareSeats.{SpareSeats}
 use Rattle.workers.specs.declared.worker.Worker.{Worker}
 use Rattle.workers.specs.Sums.{AllPassing, IsPassing, parts_of, weight_put, weight_taken}
-use Rattle.workers.specs.Spares.{AllHave, AllRoomy, IsDealt, IsDealtAll, IsDealtSeat, IsGiven, IsGivenSeat, IsSplit, at_work, on_spares}
+use Rattle.workers.specs.Spares.{HaveSpareSeats, AllRoomy, AreSeatsGivenBack, AreSparesDealt, IsDealtAll, IsDealtSeat, IsGivenSeat, IsSplit, at_work, on_spares}
 use Rattle.workers.proofs.Sums.{weigh-last}
 use Rattle.workers.proofs.Pools.{parts_weigh, put_weighs, taken_weighs}
 
-pub have_at : {S H P : Type 0} → (n : ℕ) (bs : List (SpareSeats S H P)) (k : ℕ) (b : (SpareSeats S H P)) → AllHave n bs → k < length bs → b ≡ get_or bs k b → n ≤ length b.seats.items
+pub have_at : {S H P : Type 0} → (n : ℕ) (bs : List (SpareSeats S H P)) (k : ℕ) (b : (SpareSeats S H P)) → HaveSpareSeats n bs → k < length bs → b ≡ get_or bs k b → n ≤ length b.seats.items
 have_at n bs k b all lt at = subst (λ (s : SpareSeats _ _ _). n ≤ length s.seats.items) (sym at) (all k b lt)
 
 -- dealing a spare seat of each cell
@@ -46,22 +46,22 @@ dealt_to_more k xs ws ys a b w vs all lt at is one =
     let more : suc k ≡ k + 1 = omega arith in
     subst (λ (z : ℕ × List SeatSight). IsDealtTo z.0 xs z.1 (slice_set ys k b)) (λ i. (more i, sym is i)) (dealt_to_suc k xs ws ys a b w all lt at one)
 
-pub dealt_to_end : {S H P : Type 0} → (k : ℕ) (xs : List (SpareSeats S H P)) (ws : List SeatSight) (ys : List (SpareSeats S H P)) → IsDealtTo k xs ws ys → length ys ≤ k → IsDealt xs ws ys
-dealt_to_end {S} {H} {P} zero xs ws [] all le = subst (λ (z : List SeatSight × List (SpareSeats S H P)). IsDealt {S = S} {H = H} {P = P} z.1 z.0 []) (λ i. (sym all.0 i, all.1 i)) tt
+pub dealt_to_end : {S H P : Type 0} → (k : ℕ) (xs : List (SpareSeats S H P)) (ws : List SeatSight) (ys : List (SpareSeats S H P)) → IsDealtTo k xs ws ys → length ys ≤ k → AreSparesDealt xs ws ys
+dealt_to_end {S} {H} {P} zero xs ws [] all le = subst (λ (z : List SeatSight × List (SpareSeats S H P)). AreSparesDealt {S = S} {H = H} {P = P} z.1 z.0 []) (λ i. (sym all.0 i, all.1 i)) tt
 dealt_to_end zero xs ws (y ∷ ys) all le = absurd (omega arith)
 dealt_to_end (suc k) [] ws ys all le = absurd all
 dealt_to_end (suc k) (x ∷ xs) [] ys all le = absurd all
 dealt_to_end (suc k) (x ∷ xs) (w ∷ ws) [] all le = absurd all
 dealt_to_end (suc k) (x ∷ xs) (w ∷ ws) (y ∷ ys) all le = (all.0, dealt_to_end k xs ws ys all.1 (omega arith))
 
-pub dealt_to_at : {S H P : Type 0} → (k : ℕ) (xs : List (SpareSeats S H P)) (ws : List SeatSight) (ys : List (SpareSeats S H P)) (a : (SpareSeats S H P)) → IsDealtTo k xs ws ys → k < length ys → a ≡ get_or ys k a → AllHave 1 xs → 0 < length a.seats.items
-dealt_to_at zero xs ws ys a all lt at have = have_at 1 ys 0 a (subst (AllHave 1) (sym all.1) have) lt at
+pub dealt_to_at : {S H P : Type 0} → (k : ℕ) (xs : List (SpareSeats S H P)) (ws : List SeatSight) (ys : List (SpareSeats S H P)) (a : (SpareSeats S H P)) → IsDealtTo k xs ws ys → k < length ys → a ≡ get_or ys k a → HaveSpareSeats 1 xs → 0 < length a.seats.items
+dealt_to_at zero xs ws ys a all lt at have = have_at 1 ys 0 a (subst (HaveSpareSeats 1) (sym all.1) have) lt at
 dealt_to_at (suc k) [] ws ys a all lt at have = absurd all
 dealt_to_at (suc k) (x ∷ xs) [] ys a all lt at have = absurd all
 dealt_to_at (suc k) (x ∷ xs) (w ∷ ws) [] a all lt at have = absurd all
 dealt_to_at (suc k) (x ∷ xs) (w ∷ ws) (y ∷ ys) a all lt at have = dealt_to_at k xs ws ys a all.1 (omega arith) at (λ i d l. have (suc i) d (omega arith))
 
-pub dealt_len : {S H P : Type 0} → (xs : List (SpareSeats S H P)) (ws : List SeatSight) (ys : List (SpareSeats S H P)) → IsDealt xs ws ys → (length ys ≡ length xs) × (length ws ≡ length xs)
+pub dealt_len : {S H P : Type 0} → (xs : List (SpareSeats S H P)) (ws : List SeatSight) (ys : List (SpareSeats S H P)) → AreSparesDealt xs ws ys → (length ys ≡ length xs) × (length ws ≡ length xs)
 dealt_len [] [] [] all = (refl, refl)
 dealt_len [] [] (b ∷ ys) all = absurd all
 dealt_len [] (w ∷ ws) ys all = absurd all
@@ -69,7 +69,7 @@ dealt_len (a ∷ xs) [] ys all = absurd all
 dealt_len (a ∷ xs) (w ∷ ws) [] all = absurd all
 dealt_len (a ∷ xs) (w ∷ ws) (b ∷ ys) all = let r = dealt_len xs ws ys all.1 in (ap suc r.0, ap suc r.1)
 
-pub dealt_have : {S H P : Type 0} → (n : ℕ) (xs : List (SpareSeats S H P)) (ws : List SeatSight) (ys : List (SpareSeats S H P)) → IsDealt xs ws ys → AllHave (suc n) xs → AllHave n ys
+pub dealt_have : {S H P : Type 0} → (n : ℕ) (xs : List (SpareSeats S H P)) (ws : List SeatSight) (ys : List (SpareSeats S H P)) → AreSparesDealt xs ws ys → HaveSpareSeats (suc n) xs → HaveSpareSeats n ys
 dealt_have n [] [] [] all have = All-nil (λ (s : SpareSeats _ _ _). n ≤ length s.seats.items)
 dealt_have n [] [] (b ∷ ys) all have = absurd all
 dealt_have n [] (w ∷ ws) ys all have = absurd all
@@ -80,10 +80,10 @@ dealt_have n (a ∷ xs) (w ∷ ws) (b ∷ ys) all have =
     (let l : length a.seats.items ≡ length (b.seats.items ++ all.0.spare ∷ []) = ap (λ (l : List SeatSight). length l) all.0.seats in let m = length-append b.seats.items (all.0.spare ∷ []) in let h = have 0 a (omega arith) in omega arith)
     (dealt_have n xs ws ys all.1 (λ k d lt. have (suc k) d (omega arith)))
 
-pub have_less : {S H P : Type 0} → (m n : ℕ) (bs : List (SpareSeats S H P)) → m ≤ n → AllHave n bs → AllHave m bs
+pub have_less : {S H P : Type 0} → (m n : ℕ) (bs : List (SpareSeats S H P)) → m ≤ n → HaveSpareSeats n bs → HaveSpareSeats m bs
 have_less m n bs le all k d lt = omega (arith, le, all k d lt)
 
-pub dealt_sum : {S H P : Type 0} → (f : Knowledge → ℕ) (xs : List (SpareSeats S H P)) (ws : List SeatSight) (ys : List (SpareSeats S H P)) → IsDealt xs ws ys → on_spares f xs ≡ on_spares f ys + weigh (λ (s : SeatSight). f s.me) ws
+pub dealt_sum : {S H P : Type 0} → (f : Knowledge → ℕ) (xs : List (SpareSeats S H P)) (ws : List SeatSight) (ys : List (SpareSeats S H P)) → AreSparesDealt xs ws ys → on_spares f xs ≡ on_spares f ys + weigh (λ (s : SeatSight). f s.me) ws
 dealt_sum f [] [] [] all = refl
 dealt_sum f [] [] (b ∷ ys) all = absurd all
 dealt_sum f [] (w ∷ ws) ys all = absurd all
@@ -96,12 +96,12 @@ dealt_sum f (a ∷ xs) (w ∷ ws) (b ∷ ys) all =
 
 -- one worker after another
 
-pub dealt_all_snoc : {S H P : Type 0} → (before : List (SpareSeats S H P)) (ws : List (Worker S H P)) (mid : List (SpareSeats S H P)) (w : (Worker S H P)) (after : List (SpareSeats S H P)) → IsDealtAll before ws mid → IsDealt mid w.seats.items after → IsDealtAll before (ws ++ w ∷ []) after
-dealt_all_snoc before [] mid w after all one = (after, subst (λ (z : List (SpareSeats _ _ _)). IsDealt z w.seats.items after) all one, refl)
+pub dealt_all_snoc : {S H P : Type 0} → (before : List (SpareSeats S H P)) (ws : List (Worker S H P)) (mid : List (SpareSeats S H P)) (w : (Worker S H P)) (after : List (SpareSeats S H P)) → IsDealtAll before ws mid → AreSparesDealt mid w.seats.items after → IsDealtAll before (ws ++ w ∷ []) after
+dealt_all_snoc before [] mid w after all one = (after, subst (λ (z : List (SpareSeats _ _ _)). AreSparesDealt z w.seats.items after) all one, refl)
 dealt_all_snoc before (x ∷ ws) mid w after all one = (all.0, all.1, dealt_all_snoc all.0 ws mid w after all.2 one)
 
-pub dealt_all_last : {S H P : Type 0} → (before : List (SpareSeats S H P)) (ws : List (Worker S H P)) (w : (Worker S H P)) (after : List (SpareSeats S H P)) → IsDealtAll before (ws ++ w ∷ []) after → (mid : List (SpareSeats S H P)) × IsDealtAll before ws mid × IsDealt mid w.seats.items after
-dealt_all_last before [] w after all = (before, refl, subst (λ (z : List (SpareSeats _ _ _)). IsDealt before w.seats.items z) (sym all.2) all.1)
+pub dealt_all_last : {S H P : Type 0} → (before : List (SpareSeats S H P)) (ws : List (Worker S H P)) (w : (Worker S H P)) (after : List (SpareSeats S H P)) → IsDealtAll before (ws ++ w ∷ []) after → (mid : List (SpareSeats S H P)) × IsDealtAll before ws mid × AreSparesDealt mid w.seats.items after
+dealt_all_last before [] w after all = (before, refl, subst (λ (z : List (SpareSeats _ _ _)). AreSparesDealt before w.seats.items z) (sym all.2) all.1)
 dealt_all_last before (x ∷ ws) w after all =
     let r = dealt_all_last all.0 ws w after all.2 in
     (r.0, (all.0, all.1, r.1), r.2)
@@ -142,7 +142,7 @@ split_more before ws w mid after s is = record {
 
 -- the first walks are those of before, and of the others the seats were given back
 abbrev pub IsGivenFrom : {S H P : Type 0} → List SeatSight → List SeatSight → List (SpareSeats S H P) → List (SpareSeats S H P) → Type 0
-IsGivenFrom [] ws xs ys = IsGiven xs ws ys
+IsGivenFrom [] ws xs ys = AreSeatsGivenBack xs ws ys
 IsGivenFrom (v ∷ vs) [] xs ys = ⊥
 IsGivenFrom (v ∷ vs) (w ∷ ws) [] ys = ⊥
 IsGivenFrom (v ∷ vs) (w ∷ ws) (a ∷ xs) [] = ⊥
@@ -184,7 +184,7 @@ given_from_lt (u ∷ vs) (w ∷ ws) [] ys v all = absurd all
 given_from_lt (u ∷ vs) (w ∷ ws) (x ∷ xs) [] v all = absurd all
 given_from_lt (u ∷ vs) (w ∷ ws) (x ∷ xs) (y ∷ ys) v all = let r = given_from_lt vs ws xs ys v all.2 in omega arith
 
-pub given_sum : {S H P : Type 0} → (f : Knowledge → ℕ) (xs : List (SpareSeats S H P)) (ws : List SeatSight) (ys : List (SpareSeats S H P)) → IsGiven xs ws ys → on_spares f ys ≡ on_spares f xs + weigh (λ (s : SeatSight). f s.me) ws
+pub given_sum : {S H P : Type 0} → (f : Knowledge → ℕ) (xs : List (SpareSeats S H P)) (ws : List SeatSight) (ys : List (SpareSeats S H P)) → AreSeatsGivenBack xs ws ys → on_spares f ys ≡ on_spares f xs + weigh (λ (s : SeatSight). f s.me) ws
 given_sum f [] [] [] all = refl
 given_sum f [] [] (b ∷ ys) all = absurd all
 given_sum f [] (w ∷ ws) ys all = absurd all
@@ -194,7 +194,7 @@ given_sum f (a ∷ xs) (w ∷ ws) (b ∷ ys) all =
     let l = weigh-last (λ (s : SeatSight). f s.me) b.seats.items a.seats.items w all.0.seats in
     let r = given_sum f xs ws ys all.1 in omega arith
 
-pub have_more : {S H P : Type 0} → (n m : ℕ) (bs : List (SpareSeats S H P)) (k : ℕ) (b : (SpareSeats S H P)) → AllHave n (take k bs) → m ≤ n → k < length bs → b ≡ get_or bs k b → m ≤ length b.seats.items → AllHave m (take (k + 1) bs)
+pub have_more : {S H P : Type 0} → (n m : ℕ) (bs : List (SpareSeats S H P)) (k : ℕ) (b : (SpareSeats S H P)) → HaveSpareSeats n (take k bs) → m ≤ n → k < length bs → b ≡ get_or bs k b → m ≤ length b.seats.items → HaveSpareSeats m (take (k + 1) bs)
 have_more n m bs k b all le lt at one =
     All-more (λ (s : SpareSeats _ _ _). m ≤ length s.seats.items) bs k b lt (have_less m n (take k bs) le all) (subst (λ (s : SpareSeats _ _ _). m ≤ length s.seats.items) at one)
 

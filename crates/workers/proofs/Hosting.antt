@@ -7,7 +7,7 @@ use Rattle.protocol.specs.Hosts.{Config}
 use Rattle.cells.specs.Cells.{AllFresh, IsSeatOf}
 use Rattle.cells.specs.Closing.{HasNumber}
 use Rattle.cells.specs.Sights.{CellSight, SeatSight}
-use Rattle.workers.specs.Spares.{IsHosted}
+use Rattle.workers.specs.Spares.{HasAllSeats}
 
 -- each number is a seat's: the first one's, or that of one that is as it was
 numbered : (c : CellSight) (config : Config) (n : ℕ) (a s : SeatSight) (rest : List SeatSight) → AllFresh c.cell config n (a ∷ rest) → length (a ∷ rest) ≡ n
@@ -20,7 +20,7 @@ numbered c config n a s rest fresh many same (suc k) below =
 -- the seats that a cell is opened with are all its seats, also where the first has asked for something since
 pub hosted : (c : CellSight) (config : Config) (n : ℕ) (old : List SeatSight) (s : SeatSight) → 0 < n → c.seats ≡ n → length old ≡ n
     → AllFresh c.cell config n old → All (IsSeatOf c) old → IsSeatOf c s → ((d : SeatSight) → slice_get old 0 ≡ Some d → s.me.number ≡ d.me.number)
-    → IsHosted c (slice_set old 0 s)
+    → HasAllSeats c (slice_set old 0 s)
 hosted c config n [] s some seats many fresh all own same = absurd (omega arith)
 hosted c config n (a ∷ rest) s some seats many fresh all own same = record {
   own = All-cons (IsSeatOf c) s rest own (All-tail (IsSeatOf c) a rest all);
@@ -29,7 +29,7 @@ hosted c config n (a ∷ rest) s some seats many fresh all own same = record {
 }
 
 pub hosted_fresh : (c : CellSight) (config : Config) (n : ℕ) (seats : List SeatSight) → 0 < n → c.seats ≡ n → length seats ≡ n → AllFresh c.cell config n seats
-    → All (IsSeatOf c) seats → IsHosted c seats
+    → All (IsSeatOf c) seats → HasAllSeats c seats
 hosted_fresh c config n [] some seats many fresh all = absurd (omega arith)
 hosted_fresh c config n (a ∷ rest) some seats many fresh all =
     hosted c config n (a ∷ rest) a some seats many fresh all (All-head (IsSeatOf c) a rest all) (λ d e. cc)

@@ -6,7 +6,7 @@ use Rattle.std.specs.Ordering.{nat_cmp}
 use Rattle.std.specs.List.Sorted.{IsBinarySearchResult}
 use Rattle.std.proofs.lemmas.List.Sorted.{searched}
 use Rattle.cells.specs.Sights.{CellSight}
-use Rattle.workers.specs.Numbers.{IsRising, IsNumbered, IsNumberAt, Lacks, number_of}
+use Rattle.workers.specs.Numbers.{IsRising, IsNumbered, IsNumberAt, Lacks, cell_number}
 
 rising_at : (xs : List ℕ) → IsRising xs → (i j : ℕ) → i ≤ j → j < length xs → get_or xs i 0 ≤ get_or xs j 0
 rising_at [] up i j le lt = absurd (omega arith)
@@ -15,7 +15,7 @@ rising_at (x ∷ xs) up zero (suc j) le lt = let a = up.0 j 0 (omega arith) in o
 rising_at (x ∷ xs) up (suc i) zero le lt = absurd (omega arith)
 rising_at (x ∷ xs) up (suc i) (suc j) le lt = rising_at xs up.1 i j (omega arith) (omega arith)
 
-number_there : (cs : List CellSight) (k x : ℕ) → k < length (map number_of cs) → get_or (map number_of cs) k 0 ≡ x → (k < length cs) × IsNumberAt cs k x
+number_there : (cs : List CellSight) (k x : ℕ) → k < length (map cell_number cs) → get_or (map cell_number cs) k 0 ≡ x → (k < length cs) × IsNumberAt cs k x
 number_there [] k x lt is = absurd (omega arith)
 number_there (c ∷ cs) zero x lt is = (omega arith, λ d. is)
 number_there (c ∷ cs) (suc k) x lt is = let r = number_there cs k x (omega arith) is in (omega arith, r.1)
@@ -26,10 +26,10 @@ found ns cs x k numbered result =
     let t = subst (λ (l : List ℕ). (k < length l) × (get_or l k 0 ≡ x)) numbered.0 s in
     number_there cs k x t.0 t.1
 
-lacks_by : (cs : List CellSight) (x i : ℕ) → ((k : ℕ) → k < i → get_or (map number_of cs) k 0 < x) → ((k : ℕ) → i ≤ k → k < length (map number_of cs) → x < get_or (map number_of cs) k 0) → Lacks cs x
+lacks_by : (cs : List CellSight) (x i : ℕ) → ((k : ℕ) → k < i → get_or (map cell_number cs) k 0 < x) → ((k : ℕ) → i ≤ k → k < length (map cell_number cs) → x < get_or (map cell_number cs) k 0) → Lacks cs x
 lacks_by cs x i low high k d lt e =
-    let here : get_or (map number_of cs) k 0 ≡ x = get_or-map number_of cs k d 0 lt ∙ sym e in
-    let within = length-map cs number_of in
+    let here : get_or (map cell_number cs) k 0 ≡ x = get_or-map cell_number cs k d 0 lt ∙ sym e in
+    let within = length-map cs cell_number in
     ⊎_elim (λ (less : k < i). let m = low k less in omega arith) (λ (le : i ≤ k). let m = high k le (omega arith) in omega arith) (cases_lt k i)
 
 -- where a number would stand

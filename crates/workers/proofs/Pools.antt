@@ -12,13 +12,13 @@ use Rattle.work.specs.Queues.{put_by, taken_by, parts_by, parts, AllPasses, IsOf
 use Rattle.work.proofs.Balances.{weigh-append}
 use Rattle.cells.specs.Sights.{CellSight}
 use Rattle.workers.specs.declared.worker.Worker.{Worker}
-use Rattle.workers.specs.Sums.{AllLaterWorkers, AllPassing, AllReady, IsClosed, KeepsSums, IsPassing, IsReady, IsSummed, weight_followed, at_rest, denials_of, weight_done, hand_of, applied_by, refused_by, parts_of, passes_of, weight_put, receipts_of, weight_taken}
+use Rattle.workers.specs.Sums.{AllLaterWorkers, AllPassing, AllReady, AreSumsClosed, KeepsSums, IsPassing, IsReadyWorker, IsSummed, weight_followed, at_rest, denials_of, weight_done, hand_of, applied_count, refused_count, parts_of, passes_of, weight_put, receipts_of, weight_taken}
 use Rattle.workers.specs.Numbers.{IsElsewhere}
 use Rattle.workers.proofs.Pairs.{zip-then}
 use Rattle.workers.proofs.Sums.{all_later_both, all_later_none}
 
-pub ready_at : {S H P : Type 0} → (cs : List CellSight) (q : Option Queue) (ws : List (Worker S H P)) (k : ℕ) (w : (Worker S H P)) → AllReady cs q ws → k < length ws → w ≡ get_or ws k w → IsReady cs q w
-ready_at cs q ws k w all lt at = subst (IsReady cs q) (sym at) (all k w lt)
+pub ready_at : {S H P : Type 0} → (cs : List CellSight) (q : Option Queue) (ws : List (Worker S H P)) (k : ℕ) (w : (Worker S H P)) → AllReady cs q ws → k < length ws → w ≡ get_or ws k w → IsReadyWorker cs q w
+ready_at cs q ws k w all lt at = subst (IsReadyWorker cs q) (sym at) (all k w lt)
 
 -- the passes of the workers
 
@@ -69,7 +69,7 @@ passing_workers : {S H P : Type 0} → (cs : List CellSight) (q : Option Queue) 
 passing_workers cs q [] all = All-nil (λ r. IsPassing q (Some r))
 passing_workers cs q (w ∷ ws) all =
     All-append (λ r. IsPassing q (Some r)) (option_to_list w.pass) (passes_of ws) (passing_one q w.pass (all 0 w (omega arith)).passing)
-    (passing_workers cs q ws (All-tail (IsReady cs q) w ws all))
+    (passing_workers cs q ws (All-tail (IsReadyWorker cs q) w ws all))
 
 pub all_pass : {S H P : Type 0} → (cs : List CellSight) (o : Option Queue) (q : Queue) (ps qs : List (Pass Job Hand)) (ws : List (Worker S H P)) → o ≡ Some q → qs ≡ ps ++ passes_of ws → AllPassing o ps → AllReady cs o ws → AllPasses (IsOf q) qs
 all_pass cs o q ps qs ws some is p r =
@@ -78,7 +78,7 @@ all_pass cs o q ps qs ws some is p r =
 -- workers without passes
 
 pub rest_ready : {S H P : Type 0} → (cs : List CellSight) (q : Option Queue) (ws : List (Worker S H P)) → AllReady cs q ws → AllReady cs None (map at_rest ws)
-rest_ready cs q ws all = All-map (IsReady cs None) at_rest ws (λ k d lt. let r = all k d lt in record { seated = r.seated; passing = tt; past = r.past })
+rest_ready cs q ws all = All-map (IsReadyWorker cs None) at_rest ws (λ k d lt. let r = all k d lt in record { seated = r.seated; passing = tt; past = r.past })
 
 weigh_rest : {S H P : Type 0} → (f : (Worker S H P) → ℕ) (ws : List (Worker S H P)) → weigh f (map at_rest ws) ≡ weigh (λ (w : (Worker S H P)). f (at_rest w)) ws
 weigh_rest f [] = refl
@@ -98,7 +98,7 @@ later_workers_both xs ys zs a b = zip-then _ _ _ (λ (x y z : Worker _ _ _). all
 -- what the first worker does at the end closes the sums of all
 pub closed : {S H P : Type 0} → (cs : List CellSight) (xs zs : List (Worker S H P)) (ps qs : List (Pass Job Hand)) (a c : (Worker S H P)) (left : List Job)
     → 0 < length xs → a ≡ get_or (map at_rest xs) 0 a → zs ≡ slice_set (map at_rest xs) 0 c → qs ≡ ps ++ passes_of xs → ((h : Job → ℕ) → put_by h qs ≡ taken_by h qs + weigh h left)
-    → IsPassing None c.pass → KeepsSums cs left a c → IsClosed cs ps xs zs
+    → IsPassing None c.pass → KeepsSums cs left a c → AreSumsClosed cs ps xs zs
 closed cs [] zs ps qs a c left lt at after all close nc k = absurd (omega arith)
 closed cs (x ∷ xs) zs ps qs a c left lt at after all close nc kept =
     let k : KeepsSums cs left (at_rest x) c = subst (λ (y : (Worker _ _ _)). KeepsSums cs left y c) at kept in
@@ -115,13 +115,13 @@ closed cs (x ∷ xs) zs ps qs a c left lt at after all close nc kept =
           let n = no_put h c.pass nc in
           let n0 = n.0 in let n1 = n.1 in
           let v = close h in omega arith;
-      applied = let s = k.applied in let d = w applied_by in let e = w receipts_of in omega arith;
-      refused = let s = k.refused in let d = w refused_by in let e = w denials_of in omega arith;
+      applied = let s = k.applied in let d = w applied_count in let e = w receipts_of in omega arith;
+      refused = let s = k.refused in let d = w refused_count in let e = w denials_of in omega arith;
       later = subst (AllLaterWorkers (x ∷ xs)) (sym after) (k.later, rest_later xs);
     }
 
 -- all sums of a run
-pub closed_after : {S H P : Type 0} → (cs : List CellSight) (ps : List (Pass Job Hand)) (xs ys zs : List (Worker S H P)) → IsSummed cs xs ys → IsClosed cs ps ys zs → IsClosed cs ps xs zs
+pub closed_after : {S H P : Type 0} → (cs : List CellSight) (ps : List (Pass Job Hand)) (xs ys zs : List (Worker S H P)) → IsSummed cs xs ys → AreSumsClosed cs ps ys zs → AreSumsClosed cs ps xs zs
 closed_after cs ps xs ys zs s e = record {
   lacking = s.lacking ++ e.lacking;
   elsewhere = All-append (IsElsewhere cs) s.lacking e.lacking s.elsewhere e.elsewhere;
@@ -131,9 +131,9 @@ closed_after cs ps xs ys zs s e = record {
   later = later_workers_both xs ys zs s.later e.later;
 }
 
-pub rest_first : {S H P : Type 0} → (cs : List CellSight) (q : Option Queue) (xs ys : List (Worker S H P)) (d : (Worker S H P)) → 0 < length xs → ys ≡ map at_rest xs → AllReady cs q xs → IsReady cs None (get_or ys 0 d)
+pub rest_first : {S H P : Type 0} → (cs : List CellSight) (q : Option Queue) (xs ys : List (Worker S H P)) (d : (Worker S H P)) → 0 < length xs → ys ≡ map at_rest xs → AllReady cs q xs → IsReadyWorker cs None (get_or ys 0 d)
 rest_first cs q [] ys d lt is all = absurd (omega arith)
-rest_first cs q (x ∷ xs) ys d lt is all = subst (λ (l : List (Worker _ _ _)). IsReady cs None (get_or l 0 d)) (sym is) (rest_ready cs q (x ∷ xs) all 0 d (omega arith))
+rest_first cs q (x ∷ xs) ys d lt is all = subst (λ (l : List (Worker _ _ _)). IsReadyWorker cs None (get_or l 0 d)) (sym is) (rest_ready cs q (x ∷ xs) all 0 d (omega arith))
 
 rest_is : {S H P : Type 0} → (xs ys : List (Worker S H P)) (d : (Worker S H P)) → 0 < length xs → ys ≡ map at_rest xs → get_or ys 0 d ≡ get_or (map at_rest xs) 0 (get_or ys 0 d)
 rest_is [] ys d lt is = absurd (omega arith)
@@ -141,6 +141,6 @@ rest_is (x ∷ xs) ys d lt is = ap (λ (l : List (Worker _ _ _)). get_or l 0 d) 
 
 pub closed_by : {S H P : Type 0} → (cs : List CellSight) (xs ys : List (Worker S H P)) (ps qs : List (Pass Job Hand)) (d c : (Worker S H P)) (left : List Job)
     → 0 < length xs → ys ≡ map at_rest xs → qs ≡ ps ++ passes_of xs → ((h : Job → ℕ) → put_by h qs ≡ taken_by h qs + weigh h left)
-    → IsPassing None c.pass → KeepsSums cs left (get_or ys 0 d) c → IsClosed cs ps xs (slice_set ys 0 c)
+    → IsPassing None c.pass → KeepsSums cs left (get_or ys 0 d) c → AreSumsClosed cs ps xs (slice_set ys 0 c)
 closed_by cs xs ys ps qs d c left lt is all close passing kept =
     closed cs xs (slice_set ys 0 c) ps qs (get_or ys 0 d) c left lt (rest_is xs ys d lt is) (ap (λ (l : List (Worker _ _ _)). slice_set l 0 c) is) all close passing kept

@@ -20,14 +20,14 @@ use Rattle.work.proofs.Balances.{weigh-append, weigh-snoc}
 use Rattle.cells.specs.Receipts.{AppliedEvent}
 use Rattle.cells.specs.Views.{Denial}
 use Rattle.cells.specs.Sights.{CellSight}
-use Rattle.cells.specs.Cells.{IsApplied, IsDenial, IsSeatOf}
+use Rattle.cells.specs.Cells.{HasGainedReceipt, IsDenial, IsSeatOf}
 use Rattle.cells.specs.declared.refusal.CellRefusal.{CellRefusal}
 use Rattle.std.proofs.Common.{IfErr, OnOk, Result, Ok, Err, is_ok}
 use Rattle.cells.specs.Sights.{SeatSight}
 use Rattle.workers.specs.declared.worker.Worker.{Worker}
 use Rattle.workers.specs.Numbers.{IsElsewhere, Lacks, IsNumberAt}
-use Rattle.workers.proofs.Pairs.{zip-at, zip-same, zip-set, zip-then}
-use Rattle.workers.specs.Sums.{job, hears, applied_of, refused_of, heard_of, done_by, followed_by, applied_many, refused_many, seat_done, hand_of, IsSeated, AllSeated, IsLater, AllGrown, IsDone, weight_done, weight_followed, weight_put, weight_taken, KeepsSums, with_put, with_taken, AllPast, AllPastBut, IsPast, hear_by, hears_of, hears_from, emission_in, IsThrough, IsSummed, IsReady, IsBusy, IsSameWorker}
+use Rattle.workers.proofs.Pairs.{zip-same, zip-set, zip-then}
+use Rattle.workers.specs.Sums.{AllGrown, AllPast, AllPastBut, AllSeated, IsBusy, IsJobDone, IsLater, IsPast, IsReadyWorker, IsSameWorker, IsSeated, IsSummed, IsThrough, KeepsSums, applied_many, applied_of, done_by, emission_at_mark, followed_by, hand_of, hear_by, heard_of, hears, hears_of_outs, hears_of, job, refused_many, refused_of, weight_done, weight_followed, weight_put, weight_taken, with_put, with_taken}
 use Rattle.work.specs.declared.line.Queue.{Queue}
 use Rattle.std.proofs.Common.{Option, Some, None, ⊎_elim}
 use Rattle.workers.specs.Sums.{IsPassing}
@@ -86,17 +86,17 @@ hears_more e hs k h lt at = sym (hears_of-append e (take k hs) h) ∙ ap (hears_
 
 -- jobs for one out more
 
-emits : (config : Config) (os : List Out) (ns : List ℕ) (o : Out) (e : SlotEmission) → emission_in config.number o (slice_get ns 0) ≡ Some e → hears_from config (o ∷ os) ns ≡ hears_of e config.nodes ++ hears_from config os (drop 1 ns)
+emits : (config : Config) (os : List Out) (ns : List ℕ) (o : Out) (e : SlotEmission) → emission_at_mark config.number o (slice_get ns 0) ≡ Some e → hears_of_outs config (o ∷ os) ns ≡ hears_of e config.nodes ++ hears_of_outs config os (drop 1 ns)
 emits config os ns (ArmNomination r) e is = absurd (cc)
 emits config os ns (ArmBallot n) e is = absurd (cc)
 emits config os ns (Externalized v) e is = absurd (cc)
 emits config os [] (Emit s) e is = absurd (cc)
-emits config os (m ∷ ms) (Emit s) e is = ap (λ x. hears_of x config.nodes ++ hears_from config os ms) (some_same is)
+emits config os (m ∷ ms) (Emit s) e is = ap (λ x. hears_of x config.nodes ++ hears_of_outs config os ms) (some_same is)
   where
     some_same : {X : Type 0} {x y : X} → Some x ≡ Some y → x ≡ y
     some_same e = cc
 
-emits_not : (config : Config) (os : List Out) (ns : List ℕ) (o : Out) → emission_in config.number o (slice_get ns 0) ≡ None → hears_from config (o ∷ os) ns ≡ hears_from config os ns
+emits_not : (config : Config) (os : List Out) (ns : List ℕ) (o : Out) → emission_at_mark config.number o (slice_get ns 0) ≡ None → hears_of_outs config (o ∷ os) ns ≡ hears_of_outs config os ns
 emits_not config os ns (ArmNomination r) is = refl
 emits_not config os ns (ArmBallot n) is = refl
 emits_not config os ns (Externalized v) is = refl
@@ -115,21 +115,21 @@ drop_suc [] (suc k) = refl
 drop_suc (m ∷ ms) zero = refl
 drop_suc (m ∷ ms) (suc k) = drop_suc ms k
 
-pub found_some : (config : Config) (os : List Out) (ms : List ℕ) (index mark : ℕ) (o : Out) (e : SlotEmission) → index < length os → emission_in config.number (get_or os index o) (slice_get ms mark) ≡ Some e
-    → hears_from config (drop index os) (drop mark ms) ≡ hears_of e config.nodes ++ hears_from config (drop (index + 1) os) (drop (mark + 1) ms)
+pub found_some : (config : Config) (os : List Out) (ms : List ℕ) (index mark : ℕ) (o : Out) (e : SlotEmission) → index < length os → emission_at_mark config.number (get_or os index o) (slice_get ms mark) ≡ Some e
+    → hears_of_outs config (drop index os) (drop mark ms) ≡ hears_of e config.nodes ++ hears_of_outs config (drop (index + 1) os) (drop (mark + 1) ms)
 found_some config os ms index mark o e lt is =
     let more : suc mark ≡ mark + 1 = omega arith in
-    at_drop_more (λ l. hears_from config l (drop mark ms)) os index o lt
-    ∙ emits config (drop (index + 1) os) (drop mark ms) (get_or os index o) e (ap (emission_in config.number (get_or os index o)) (sym (get_drop ms mark)) ∙ is)
-    ∙ ap (λ l. hears_of e config.nodes ++ hears_from config (drop (index + 1) os) l) (sym (drop_suc ms mark) ∙ ap (λ k. drop k ms) more)
+    at_drop_more (λ l. hears_of_outs config l (drop mark ms)) os index o lt
+    ∙ emits config (drop (index + 1) os) (drop mark ms) (get_or os index o) e (ap (emission_at_mark config.number (get_or os index o)) (sym (get_drop ms mark)) ∙ is)
+    ∙ ap (λ l. hears_of e config.nodes ++ hears_of_outs config (drop (index + 1) os) l) (sym (drop_suc ms mark) ∙ ap (λ k. drop k ms) more)
 
-pub found_none : (config : Config) (os : List Out) (ms : List ℕ) (index mark : ℕ) (o : Out) → index < length os → emission_in config.number (get_or os index o) (slice_get ms mark) ≡ None
-    → hears_from config (drop index os) (drop mark ms) ≡ hears_from config (drop (index + 1) os) (drop mark ms)
+pub found_none : (config : Config) (os : List Out) (ms : List ℕ) (index mark : ℕ) (o : Out) → index < length os → emission_at_mark config.number (get_or os index o) (slice_get ms mark) ≡ None
+    → hears_of_outs config (drop index os) (drop mark ms) ≡ hears_of_outs config (drop (index + 1) os) (drop mark ms)
 found_none config os ms index mark o lt is =
-    at_drop_more (λ l. hears_from config l (drop mark ms)) os index o lt
-    ∙ emits_not config (drop (index + 1) os) (drop mark ms) (get_or os index o) (ap (emission_in config.number (get_or os index o)) (sym (get_drop ms mark)) ∙ is)
+    at_drop_more (λ l. hears_of_outs config l (drop mark ms)) os index o lt
+    ∙ emits_not config (drop (index + 1) os) (drop mark ms) (get_or os index o) (ap (emission_at_mark config.number (get_or os index o)) (sym (get_drop ms mark)) ∙ is)
 
-pub found_network : (n : ℕ) (o : Out) (m : Option ℕ) (e : SlotEmission) → emission_in n o m ≡ Some e → e.network ≡ n
+pub found_network : (n : ℕ) (o : Out) (m : Option ℕ) (e : SlotEmission) → emission_at_mark n o m ≡ Some e → e.network ≡ n
 found_network n (ArmNomination r) m e is = absurd (cc)
 found_network n (ArmBallot k) m e is = absurd (cc)
 found_network n (Externalized v) m e is = absurd (cc)
@@ -143,10 +143,10 @@ pub number_at : (cs : List CellSight) (k : ℕ) (c : CellSight) (n m : ℕ) → 
 number_at cs k c n m lt at is same = λ d. ap (λ (x : CellSight). x.config.number) (get_or_default cs k d c lt ∙ sym at) ∙ sym (same ∙ is)
 
 -- all outs of the receipt were handed on
-pub hears_whole : (config : Config) (r : AppliedEvent) (index mark : ℕ) (handed : List Job) → length r.outs ≤ index → handed ++ hears_from config (drop index r.outs) (drop mark r.marks) ≡ hears config r → handed ≡ hears config r
+pub hears_whole : (config : Config) (r : AppliedEvent) (index mark : ℕ) (handed : List Job) → length r.outs ≤ index → handed ++ hears_of_outs config (drop index r.outs) (drop mark r.marks) ≡ hears config r → handed ≡ hears config r
 hears_whole config r index mark handed le all =
     sym (append-nil handed)
-    ∙ sym (at_drop_all (λ l. handed ++ hears_from config l (drop mark r.marks)) r.outs index le)
+    ∙ sym (at_drop_all (λ l. handed ++ hears_of_outs config l (drop mark r.marks)) r.outs index le)
     ∙ all
 
 -- past all receipts but one seat's
@@ -170,7 +170,7 @@ followed_same h a b more config place gained le =
 
 pub done_well : (a b : SeatSight) (c : CellSight) (j : Job) (x : AppliedEvent) → c.config.number ≡ j.network → IsSeated c a → IsSeatOf c b → b.let_go ≡ a.let_go → b.me.number ≡ a.me.number
     → x.event ≡ j.event → b.me.receipts ≡ a.me.receipts ++ x ∷ [] → b.me.denials ≡ a.me.denials → b.me.stops ≡ a.me.stops
-    → IsPrefix a.me.seen b.me.seen → (a.me.stopped ≡ true → b.me.stopped ≡ true) → IsDone a b j true
+    → IsPrefix a.me.seen b.me.seen → (a.me.stopped ≡ true → b.me.stopped ≡ true) → IsJobDone a b j true
 done_well a b c j x here seated seat place number event more same stops seen lasting =
     let config : b.me.config ≡ a.me.config = seat.config ∙ sym seated.0.config in
     let n : ℕ = a.me.config.number in
@@ -188,7 +188,7 @@ done_well a b c j x here seated seat place number event more same stops seen las
 
 pub done_ill : (a b : SeatSight) (c : CellSight) (j : Job) (x : Denial) → c.config.number ≡ j.network → IsSeated c a → IsSeatOf c b → b.let_go ≡ a.let_go → b.me.number ≡ a.me.number
     → x.event ≡ j.event → b.me.receipts ≡ a.me.receipts → b.me.denials ≡ a.me.denials ++ x ∷ [] → b.me.stops ≡ a.me.stops
-    → IsPrefix a.me.seen b.me.seen → (a.me.stopped ≡ true → b.me.stopped ≡ true) → IsDone a b j false
+    → IsPrefix a.me.seen b.me.seen → (a.me.stopped ≡ true → b.me.stopped ≡ true) → IsJobDone a b j false
 done_ill a b c j x here seated seat place number event unchanged more stops seen lasting =
     let config : b.me.config ≡ a.me.config = seat.config ∙ sym seated.0.config in
     let same : b.me.receipts ≡ a.me.receipts ++ [] = unchanged ∙ sym (append-nil _) in
@@ -239,7 +239,7 @@ kept_lacking cs a b j lacks seats pass applied refused = record {
 }
 
 -- a job by one seat
-pub kept_done : {S H P : Type 0} → (cs : List CellSight) (a b : (Worker S H P)) (j : Job) (k : ℕ) (old new : SeatSight) (well : Bool) → k < length a.seats.items → old ≡ get_or a.seats.items k old → IsDone old new j well
+pub kept_done : {S H P : Type 0} → (cs : List CellSight) (a b : (Worker S H P)) (j : Job) (k : ℕ) (old new : SeatSight) (well : Bool) → k < length a.seats.items → old ≡ get_or a.seats.items k old → IsJobDone old new j well
     → b.seats.items ≡ slice_set a.seats.items k new → b.pass ≡ a.pass
     → b.applied ≡ a.applied + (if well then 1 else 0) → b.refused ≡ a.refused + (if well then 0 else 1)
     → KeepsSums cs (j ∷ []) a b
@@ -434,17 +434,17 @@ one_handed cs all left now handed j a b c is sum kept one = (
 pub is_seated : {S H P : Type 0} → (cs : List CellSight) (q : Option Queue) (k : ℕ) (w : (Worker S H P)) → IsBusy cs q k w → k < length w.seats.items
 is_seated cs q k w b = let m = AllZip-long IsSeated cs w.seats.items b.seated in let lt = b.there in omega arith
 
-pub busy : {S H P : Type 0} → (cs : List CellSight) (q : Option Queue) (k : ℕ) (w : (Worker S H P)) → k < length cs → IsReady cs q w → IsBusy cs q k w
+pub busy : {S H P : Type 0} → (cs : List CellSight) (q : Option Queue) (k : ℕ) (w : (Worker S H P)) → k < length cs → IsReadyWorker cs q w → IsBusy cs q k w
 busy cs q k w lt r = record { seated = r.seated; passing = r.passing; there = lt; past = λ i d apart. r.past i d }
 
 -- the same seats with another pass
-pub ready_same : {S H P : Type 0} → (cs : List CellSight) (q : Option Queue) (a b : (Worker S H P)) → b.seats ≡ a.seats → IsPassing q b.pass → IsReady cs q a → IsReady cs q b
+pub ready_same : {S H P : Type 0} → (cs : List CellSight) (q : Option Queue) (a b : (Worker S H P)) → b.seats ≡ a.seats → IsPassing q b.pass → IsReadyWorker cs q a → IsReadyWorker cs q b
 ready_same cs q a b seats passing r =
     let items : b.seats.items ≡ a.seats.items = ap (λ v. v.items) seats in
     record { seated = subst (AllSeated cs) (sym items) r.seated; passing = passing; past = subst AllPast (sym items) r.past }
 
 -- the same worker
-pub ready_still : {S H P : Type 0} → (cs : List CellSight) (q : Option Queue) (a b : (Worker S H P)) → IsSameWorker a b → IsReady cs q a → IsReady cs q b
+pub ready_still : {S H P : Type 0} → (cs : List CellSight) (q : Option Queue) (a b : (Worker S H P)) → IsSameWorker a b → IsReadyWorker cs q a → IsReadyWorker cs q b
 ready_still cs q a b same r = record {
   seated = subst (AllSeated cs) (sym same.seats) r.seated;
   passing = subst (IsPassing q) (sym same.pass) r.passing;
@@ -457,7 +457,7 @@ pub same_worker : {S H P : Type 0} → (a b : (Worker S H P)) (k : ℕ) (s t : S
 same_worker a b k s t lt at same seats pass applied refused = record { seats = seats ∙ seats_same a.seats.items k s t lt at same; pass = pass; applied = applied; refused = refused }
 
 -- the seat at one cell had no receipt left
-pub none_left : {S H P : Type 0} → (cs : List CellSight) (q : Option Queue) (k : ℕ) (a b : (Worker S H P)) (s : SeatSight) → IsBusy cs q k a → IsSameWorker a b → s ≡ get_or a.seats.items k s → s.let_go ≡ length s.me.receipts → IsReady cs q b
+pub none_left : {S H P : Type 0} → (cs : List CellSight) (q : Option Queue) (k : ℕ) (a b : (Worker S H P)) (s : SeatSight) → IsBusy cs q k a → IsSameWorker a b → s ≡ get_or a.seats.items k s → s.let_go ≡ length s.me.receipts → IsReadyWorker cs q b
 none_left cs q k a b s busy same at none =
     ready_still cs q a b same (record { seated = busy.seated; passing = busy.passing; past = past_all a.seats.items k s busy.past at (omega arith) })
 
@@ -492,6 +492,6 @@ weigh-turned h xs ys is = ap (weigh h) is ∙ weigh-reverse h xs
 
 -- a job was applied, or refused, as the cell answered
 pub answered : {A : Type 0} (a b : SeatSight) (c : CellSight) (j : Job) (r : Result A CellRefusal) → c.config.number ≡ j.network → IsSeated c a → IsSeatOf c b → b.me.number ≡ a.me.number
-    → OnOk r (IsApplied c j.event a b) → IfErr r (λ x. IsDenial j.event x a b) → IsPrefix a.me.seen b.me.seen → (a.me.stopped ≡ true → b.me.stopped ≡ true) → IsDone a b j (is_ok r)
+    → OnOk r (HasGainedReceipt c j.event a b) → IfErr r (λ x. IsDenial j.event x a b) → IsPrefix a.me.seen b.me.seen → (a.me.stopped ≡ true → b.me.stopped ≡ true) → IsJobDone a b j (is_ok r)
 answered a b c j (Ok x) here seated seat number ok err seen lasting = done_well a b c j _ here seated seat ok.let_go number refl ok.receipts ok.denials ok.stops seen lasting
 answered a b c j (Err x) here seated seat number ok err seen lasting = done_ill a b c j _ here seated seat err.let_go number refl err.receipts err.denials err.stops seen lasting

@@ -21,8 +21,8 @@ use Rattle.cells.specs.Views.{Knowledge}
 use Rattle.workers.specs.declared.deal.SpareSeats.{SpareSeats}
 use Rattle.workers.specs.declared.running.Report.{Report}
 use Rattle.workers.specs.declared.worker.Worker.{Worker}
-use Rattle.workers.specs.Sums.{AllGrown, AllLaterWorkers, AllPast, AllReady, AllSeated, IsClosed, IsPast, IsLater, IsReady, IsSeated, applied_by, weight_followed, followed_by, denials_of, weight_done, heard_of, receipts_of, refused_by, seat_applied, seat_done, seat_heard, seat_refused}
-use Rattle.workers.specs.Spares.{AllFresh, AllGrownSpares, AllHave, AllHold, AllHosted, AllRoomy, IsCounted, IsHosted, IsDealt, IsDealtAll, IsGiven, IsSplit, IsWorked, at_work, on_spares}
+use Rattle.workers.specs.Sums.{AllGrown, AllLaterWorkers, AllPast, AllReady, AllSeated, AreSumsClosed, IsPast, IsLater, IsReadyWorker, IsSeated, applied_count, weight_followed, followed_by, denials_of, weight_done, heard_of, receipts_of, refused_count, seat_applied, seat_done, seat_heard, seat_refused}
+use Rattle.workers.specs.Spares.{NoneHasCounted, AllGrownSpares, HaveSpareSeats, AllHold, HaveAllSeats, AllRoomy, IsCounted, HasAllSeats, AreSparesDealt, IsDealtAll, AreSeatsGivenBack, IsSplit, IsWorked, at_work, on_spares}
 use Rattle.workers.proofs.Pairs.{zip-same, zip-then}
 use Rattle.workers.proofs.Sums.{later_both, later_let_go, later_none}
 use Rattle.workers.proofs.Deals.{dealt_all_sum, dealt_len}
@@ -35,7 +35,7 @@ weigh_more f xs i x lt at = ap (weigh f) (take_more xs i x lt ∙ ap (λ y. take
 abbrev pub AllOwn : {S H P : Type 0} → List CellSight → List (SpareSeats S H P) → Type 0
 AllOwn cs bs = AllZip (λ (c : CellSight) (b : SpareSeats _ _ _). AllSeats (IsSeatOf c) b.seats.items) cs bs
 
-own : {S H P : Type 0} → (cs : List CellSight) (bs : List (SpareSeats S H P)) → AllHosted cs bs → AllOwn cs bs
+own : {S H P : Type 0} → (cs : List CellSight) (bs : List (SpareSeats S H P)) → HaveAllSeats cs bs → AllOwn cs bs
 own [] [] all = tt
 own [] (b ∷ bs) all = absurd all
 own (c ∷ cs) [] all = absurd all
@@ -46,7 +46,7 @@ dealt_past : (c : CellSight) (spare s : SeatSight) → IsSeatOf c spare → s �
 dealt_past c spare s o is =
     subst (λ (t : SeatSight). IsSeated c t × IsPast t) (sym is) ((record { cell = o.cell; config = o.config; seats = o.seats; open_yet = o.open_yet }, omega arith), omega arith)
 
-own_dealt : {S H P : Type 0} → (cs : List CellSight) (xs : List (SpareSeats S H P)) (ws : List SeatSight) (ys : List (SpareSeats S H P)) → AllOwn cs xs → IsDealt xs ws ys → AllOwn cs ys × AllSeated cs ws × AllPast ws
+own_dealt : {S H P : Type 0} → (cs : List CellSight) (xs : List (SpareSeats S H P)) (ws : List SeatSight) (ys : List (SpareSeats S H P)) → AllOwn cs xs → AreSparesDealt xs ws ys → AllOwn cs ys × AllSeated cs ws × AllPast ws
 own_dealt [] [] [] [] o d = (tt, tt, All-nil IsPast)
 own_dealt [] [] [] (y ∷ ys) o d = absurd d
 own_dealt [] [] (w ∷ ws) ys o d = absurd d
@@ -61,12 +61,12 @@ own_dealt (c ∷ cs) (x ∷ xs) (w ∷ ws) (y ∷ ys) o d =
     ((f.0, r.0), (one.0, r.1), All-cons IsPast w ws one.1 r.2)
 
 ready_all : {S H P : Type 0} → (cs : List CellSight) (q : Option Queue) (before : List (SpareSeats S H P)) (ws : List (Worker S H P)) (after : List (SpareSeats S H P)) → AllOwn cs before → AllHold q ws → IsDealtAll before ws after → AllReady cs q ws
-ready_all cs q before [] after o h d = All-nil (IsReady cs q)
+ready_all cs q before [] after o h d = All-nil (IsReadyWorker cs q)
 ready_all cs q before (w ∷ ws) after o h d =
     let r = own_dealt cs before w.seats.items d.0 o d.1 in
-    All-cons (IsReady cs q) w ws (record { seated = r.1; passing = h 0 w (omega arith); past = r.2 }) (ready_all cs q d.0 ws after r.0 (λ k v lt. h (suc k) v (omega arith)) d.2)
+    All-cons (IsReadyWorker cs q) w ws (record { seated = r.1; passing = h 0 w (omega arith); past = r.2 }) (ready_all cs q d.0 ws after r.0 (λ k v lt. h (suc k) v (omega arith)) d.2)
 
-pub dealt_ready : {S H P : Type 0} → (cs : List CellSight) (q : Option Queue) (before : List (SpareSeats S H P)) (ws : List (Worker S H P)) (after : List (SpareSeats S H P)) → AllHosted cs before → AllHold q ws → IsDealtAll before ws after → AllReady cs q ws
+pub dealt_ready : {S H P : Type 0} → (cs : List CellSight) (q : Option Queue) (before : List (SpareSeats S H P)) (ws : List (Worker S H P)) (after : List (SpareSeats S H P)) → HaveAllSeats cs before → AllHold q ws → IsDealtAll before ws after → AllReady cs q ws
 dealt_ready cs q before ws after hosted h d = ready_all cs q before ws after (own cs before hosted) h d
 
 -- seats that have grown
@@ -81,7 +81,7 @@ grown_spares_none bs =
 later_dealt : (spare s t : SeatSight) → s ≡ record spare { let_go = length spare.me.receipts } → IsLater s t → IsLater spare t
 later_dealt spare s t is later = later_both spare s t (subst (IsLater spare) (sym is) (later_let_go spare (length spare.me.receipts))) later
 
-pub given_grown : {S H P : Type 0} → (before : List (SpareSeats S H P)) (ws : List SeatSight) (mid : List (SpareSeats S H P)) (zs : List SeatSight) (cur after : List (SpareSeats S H P)) → IsDealt before ws mid → AllGrownSpares mid cur → AllGrown ws zs → IsGiven cur zs after → AllGrownSpares before after
+pub given_grown : {S H P : Type 0} → (before : List (SpareSeats S H P)) (ws : List SeatSight) (mid : List (SpareSeats S H P)) (zs : List SeatSight) (cur after : List (SpareSeats S H P)) → AreSparesDealt before ws mid → AllGrownSpares mid cur → AllGrown ws zs → AreSeatsGivenBack cur zs after → AllGrownSpares before after
 given_grown [] [] [] [] [] [] d g l b = tt
 given_grown [] [] [] [] [] (a ∷ after) d g l b = absurd b
 given_grown [] [] [] [] (u ∷ cur) after d g l b = absurd g
@@ -101,7 +101,7 @@ given_grown (x ∷ before) (w ∷ ws) (m ∷ mid) (z ∷ zs) (u ∷ cur) (a ∷ 
   given_grown before ws mid zs cur after d.1 g.1 l.1 b.1,
 )
 
-pub grown_roomy : {S H P : Type 0} → (before : List (SpareSeats S H P)) (ws : List SeatSight) (mid cur : List (SpareSeats S H P)) → IsDealt before ws mid → AllGrownSpares mid cur → AllRoomy cur
+pub grown_roomy : {S H P : Type 0} → (before : List (SpareSeats S H P)) (ws : List SeatSight) (mid cur : List (SpareSeats S H P)) → AreSparesDealt before ws mid → AllGrownSpares mid cur → AllRoomy cur
 grown_roomy before ws mid [] d g = All-nil (λ (s : SpareSeats _ _ _). length s.seats.items < vec_capacity s.seats)
 grown_roomy before ws [] (u ∷ cur) d g = absurd g
 grown_roomy [] [] (m ∷ mid) (u ∷ cur) d g = absurd d
@@ -111,7 +111,7 @@ grown_roomy (x ∷ before) (w ∷ ws) (m ∷ mid) (u ∷ cur) d g =
     All-cons (λ (s : SpareSeats _ _ _). length s.seats.items < vec_capacity s.seats) u cur
     (let l = AllZip-long IsLater m.seats.items u.seats.items g.0.0 in let r = d.0.room in let c = g.0.1 in omega arith) (grown_roomy before ws mid cur d.1 g.1)
 
-pub given_many : {S H P : Type 0} → (before : List (SpareSeats S H P)) (ws : List SeatSight) (mid cur : List (SpareSeats S H P)) (zs : List SeatSight) → IsDealt before ws mid → AllGrownSpares mid cur → AllGrown ws zs → length zs ≡ length cur
+pub given_many : {S H P : Type 0} → (before : List (SpareSeats S H P)) (ws : List SeatSight) (mid cur : List (SpareSeats S H P)) (zs : List SeatSight) → AreSparesDealt before ws mid → AllGrownSpares mid cur → AllGrown ws zs → length zs ≡ length cur
 given_many before ws mid cur zs d g l =
     let a = dealt_len before ws mid d in
     let a0 = a.0 in let a1 = a.1 in
@@ -130,7 +130,7 @@ all_given before ws mid cur zs d l none g =
 
 -- sums
 
-fresh_sums : {S H P : Type 0} → (ws : List (Worker S H P)) → AllFresh ws → (weigh applied_by ws ≡ 0) × (weigh refused_by ws ≡ 0)
+fresh_sums : {S H P : Type 0} → (ws : List (Worker S H P)) → NoneHasCounted ws → (weigh applied_count ws ≡ 0) × (weigh refused_count ws ≡ 0)
 fresh_sums [] all = (refl, refl)
 fresh_sums (w ∷ ws) all =
     let r = fresh_sums ws (λ k v lt. all (suc k) v (omega arith)) in
@@ -146,12 +146,12 @@ followed_past h (w ∷ ws) all =
 followed_all : {S H P : Type 0} → (cs : List CellSight) (q : Option Queue) (h : Job → ℕ) (ws : List (Worker S H P)) → AllReady cs q ws → weigh (weight_followed h) ws ≡ at_work (seat_heard h) ws
 followed_all cs q h [] all = refl
 followed_all cs q h (w ∷ ws) all =
-    let r = followed_all cs q h ws (All-tail (IsReady cs q) w ws all) in
-    let e = followed_past h w.seats.items (All-head (IsReady cs q) w ws all).past in omega arith
+    let r = followed_all cs q h ws (All-tail (IsReadyWorker cs q) w ws all) in
+    let e = followed_past h w.seats.items (All-head (IsReadyWorker cs q) w ws all).past in omega arith
 
 pub worked : {S H P : Type 0} → (cs : List CellSight) (q : Option Queue) (xs mid ys : List (SpareSeats S H P)) (ws zs : List (Worker S H P)) (ps qs : List (Pass Job Hand)) (r : Report)
-    → IsDealtAll xs ws mid → ((f : Knowledge → ℕ) → on_spares f ys ≡ on_spares f mid + at_work f zs) → AllFresh ws → IsSplit ps ws qs → AllReady cs q ws → AllReady cs None zs
-    → IsClosed cs qs ws zs → IsCounted zs r → IsWorked cs xs ys (λ h. put_by h ps) (λ h. taken_by h ps) r
+    → IsDealtAll xs ws mid → ((f : Knowledge → ℕ) → on_spares f ys ≡ on_spares f mid + at_work f zs) → NoneHasCounted ws → IsSplit ps ws qs → AllReady cs q ws → AllReady cs None zs
+    → AreSumsClosed cs qs ws zs → IsCounted zs r → IsWorked cs xs ys (λ h. put_by h ps) (λ h. taken_by h ps) r
 worked cs q xs mid ys ws zs ps qs r dealt given fresh split ready rest closed counted =
     let s : (f : Knowledge → ℕ) → on_spares f xs ≡ on_spares f mid + at_work f ws = λ f. dealt_all_sum f xs ws mid dealt in
     let n = fresh_sums ws fresh in
@@ -205,10 +205,10 @@ grown_at xs ys i s g at =
       (AllZip-get_or IsLater xs ys i s s g lt).number ∙ ap (λ (v : SeatSight). v.me.number) (get_or_from_slice_get xs i s s at),
     )
 
-pub hosted_grown : {S H P : Type 0} → (cs : List CellSight) (xs ys : List (SpareSeats S H P)) → AllHosted cs xs → AllGrownSpares xs ys → AllHosted cs ys
+pub hosted_grown : {S H P : Type 0} → (cs : List CellSight) (xs ys : List (SpareSeats S H P)) → HaveAllSeats cs xs → AllGrownSpares xs ys → HaveAllSeats cs ys
 hosted_grown cs xs ys all g =
     zip-then _ _ _
-    (λ (c : CellSight) (x y : SpareSeats _ _ _) (h : IsHosted c x.seats.items) (l : AllGrown x.seats.items y.seats.items × (vec_capacity y.seats ≡ vec_capacity x.seats)). record {
+    (λ (c : CellSight) (x y : SpareSeats _ _ _) (h : HasAllSeats c x.seats.items) (l : AllGrown x.seats.items y.seats.items × (vec_capacity y.seats ≡ vec_capacity x.seats)). record {
       own = own_grown c x.seats.items y.seats.items l.0 h.own;
       some = h.some;
       all = λ k lt. (let n = h.all k lt in let t = grown_at x.seats.items y.seats.items n.0 n.1 l.0 n.2 in (n.0, t.0, t.1, t.2 ∙ n.3));
@@ -223,7 +223,7 @@ has_one : (xs : List SeatSight) (i : ℕ) (s : SeatSight) → slice_get xs i ≡
 has_one [] i s e = absurd (cc)
 has_one (x ∷ xs) i s e = omega arith
 
-pub hosted_have : {S H P : Type 0} → (cs : List CellSight) (bs : List (SpareSeats S H P)) → AllHosted cs bs → AllHave 1 bs
+pub hosted_have : {S H P : Type 0} → (cs : List CellSight) (bs : List (SpareSeats S H P)) → HaveAllSeats cs bs → HaveSpareSeats 1 bs
 hosted_have [] [] all = All-nil (λ (s : SpareSeats _ _ _). 1 ≤ length s.seats.items)
 hosted_have [] (b ∷ bs) all = absurd all
 hosted_have (c ∷ cs) [] all = absurd all

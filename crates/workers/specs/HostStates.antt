@@ -13,13 +13,13 @@ pub record IsSameHostState {S H P : Type 0} (a b : (HostState S H P)) : Type 0 w
   pub queue : b.shared.queue ≡ a.shared.queue
 
 -- there is room for one network more
-pub record HasRoom {S H P : Type 0} (f : (HostState S H P)) : Type 0 where
+pub record HasRoomForCell {S H P : Type 0} (f : (HostState S H P)) : Type 0 where
   pub numbers : vec_len f.shared.numbers < vec_capacity f.shared.numbers
   pub cells : vec_len f.shared.cells < vec_capacity f.shared.cells
   pub spares : vec_len f.spares < vec_capacity f.spares
 
 -- a network stands at the place, and all else is as it was
-pub record IsPut {S H P : Type 0} (a : (HostState S H P)) (place : ℕ) (c : CellSight) (seats : List SeatSight)
+pub record IsNetworkPut {S H P : Type 0} (a : (HostState S H P)) (place : ℕ) (c : CellSight) (seats : List SeatSight)
     (b : (HostState S H P)) : Type 0 where
   pub numbers : b.shared.numbers.items ≡ insert a.shared.numbers.items place c.config.number
   pub cells : b.shared.cells.items ≡ insert a.shared.cells.items place c
@@ -47,7 +47,7 @@ pub record IsRemoved {S H P : Type 0} (a : (HostState S H P)) (c : CellSight) (s
   pub queue : b.shared.queue ≡ a.shared.queue
 
 -- the networks in two parts: the first so many, with the queue, and the others
-pub record AreParts {S H P : Type 0} (a : (HostState S H P)) (count : ℕ) (b c : (HostState S H P)) : Type 0 where
+pub record AreStateParts {S H P : Type 0} (a : (HostState S H P)) (count : ℕ) (b c : (HostState S H P)) : Type 0 where
   pub first_numbers : b.shared.numbers.items ≡ take count a.shared.numbers.items
   pub first_cells : b.shared.cells.items ≡ take count a.shared.cells.items
   pub first_spares : b.spares.items ≡ take count a.spares.items

@@ -3,6 +3,6 @@ use Rattle.std.specs.Prelude.{List}
 use Rattle.cells.specs.Sights.{CellSight, SeatSight}
 
 -- what is seen of a network of the host: its cell, and its seats
-pub record Net : Type 0 where
+pub record NetSight : Type 0 where
   pub cell : CellSight
   pub seats : List SeatSight

@@ -9,19 +9,19 @@ use Rattle.cells.specs.Receipts.{AppliedEvent}
 use Rattle.cells.specs.Views.{Denial}
 use Rattle.cells.specs.Closing.{IsOneHistory, ended_sight}
 use Rattle.cells.specs.Sights.{SeatSight}
-use Rattle.workers.specs.NetSights.{Net}
-use Rattle.workers.specs.Spares.{AllHosted}
+use Rattle.workers.specs.NetSights.{NetSight}
+use Rattle.workers.specs.Spares.{HaveAllSeats}
 use Rattle.workers.specs.Numbers.{IsNumbered}
 use Rattle.workers.specs.Sums.{AllGrown, applied_of, heard_of, refused_of}
 use Rattle.workers.specs.declared.deal.SpareSeats.{SpareSeats}
 use Rattle.workers.specs.declared.host_state.HostState.{HostState}
 use Rattle.workers.specs.declared.running.Report.{Report}
 
-abbrev pub net_number : Net → ℕ
+abbrev pub net_number : NetSight → ℕ
 net_number n = n.cell.config.number
 
 -- the networks of a host, by their cells and their seats
-abbrev pub nets_of : {S H P : Type 0} → List CellSight → List (SpareSeats S H P) → List Net
+abbrev pub nets_of : {S H P : Type 0} → List CellSight → List (SpareSeats S H P) → List NetSight
 nets_of [] bs = []
 nets_of (c ∷ cs) [] = []
 nets_of (c ∷ cs) (b ∷ bs) = record { cell = c; seats = b.seats.items } ∷ nets_of cs bs
@@ -29,45 +29,45 @@ nets_of (c ∷ cs) (b ∷ bs) = record { cell = c; seats = b.seats.items } ∷ n
 -- what a host keeps: the cells in their order, with all seats, at most 4,096, and no queue
 pub record IsHostState {S H P : Type 0} (f : (HostState S H P)) : Type 0 where
   pub numbered : IsNumbered f.shared.numbers.items f.shared.cells.items
-  pub hosted : AllHosted f.shared.cells.items f.spares.items
+  pub hosted : HaveAllSeats f.shared.cells.items f.spares.items
   pub few : length f.shared.cells.items ≤ 4096
   pub closed : f.shared.queue ≡ None
 
 -- the same, with the lists turned around
 pub record IsTurnedState {S H P : Type 0} (f : (HostState S H P)) : Type 0 where
   pub numbered : IsNumbered (reverse f.shared.numbers.items) (reverse f.shared.cells.items)
-  pub hosted : AllHosted (reverse f.shared.cells.items) (reverse f.spares.items)
+  pub hosted : HaveAllSeats (reverse f.shared.cells.items) (reverse f.spares.items)
   pub few : length f.shared.cells.items ≤ 4096
   pub closed : f.shared.queue ≡ None
 
 -- what a host keeps, with its lists turned around, or not: the cells in their order, with all seats, at most 4,096, and
 -- no queue
-abbrev pub IsKept : {S H P : Type 0} → Bool → (HostState S H P) → Type 0
-IsKept true f = IsTurnedState f
-IsKept false f = IsHostState f
+abbrev pub IsKeptState : {S H P : Type 0} → Bool → (HostState S H P) → Type 0
+IsKeptState true f = IsTurnedState f
+IsKeptState false f = IsHostState f
 
 -- the networks of a host whose lists are turned around, or not
-abbrev pub nets_in : {S H P : Type 0} → Bool → (HostState S H P) → List Net
+abbrev pub nets_in : {S H P : Type 0} → Bool → (HostState S H P) → List NetSight
 nets_in true f = nets_of (reverse f.shared.cells.items) (reverse f.spares.items)
 nets_in false f = nets_of f.shared.cells.items f.spares.items
 
 -- the networks with one more, in the place of its number
-abbrev pub nets_with : Net → List Net → List Net
+abbrev pub nets_with : NetSight → List NetSight → List NetSight
 nets_with n [] = n ∷ []
 nets_with n (m ∷ ms) = if nat_lt (net_number m) (net_number n) then m ∷ nets_with n ms else n ∷ m ∷ ms
 
 -- no network has this number
-abbrev pub NoNet : List Net → ℕ → Type 0
+abbrev pub NoNet : List NetSight → ℕ → Type 0
 NoNet [] number = Unit {0}
 NoNet (n ∷ ns) number = (number ≢ net_number n) × NoNet ns number
 
 -- each other network has a greater number than this one
-abbrev pub IsLeast : Net → List Net → Type 0
-IsLeast n [] = Unit {0}
-IsLeast n (m ∷ ms) = (net_number n < net_number m) × IsLeast n ms
+abbrev pub IsLeastNumber : NetSight → List NetSight → Type 0
+IsLeastNumber n [] = Unit {0}
+IsLeastNumber n (m ∷ ms) = (net_number n < net_number m) × IsLeastNumber n ms
 
 -- the journal of a network is one history of its seats
-pub record IsClosedNet (n : Net) (j : Log) (ss : List SeatSight) : Type 0 where
+pub record IsClosedNet (n : NetSight) (j : Log) (ss : List SeatSight) : Type 0 where
   pub config : j.config ≡ n.cell.config
   pub seats : ss ≡ map ended_sight n.seats
   pub history : IsOneHistory n.cell.seats j ss
@@ -85,16 +85,16 @@ over_seats f [] bs = 0
 over_seats f (a ∷ xs) [] = 0
 over_seats f (a ∷ xs) (b ∷ ys) = f a b + over_seats f xs ys
 
-abbrev pub over_nets : (SeatSight → SeatSight → ℕ) → List Net → List Net → ℕ
+abbrev pub over_nets : (SeatSight → SeatSight → ℕ) → List NetSight → List NetSight → ℕ
 over_nets f [] bs = 0
 over_nets f (a ∷ xs) [] = 0
 over_nets f (a ∷ xs) (b ∷ ys) = over_seats f a.seats b.seats + over_nets f xs ys
 
 -- the same networks with the same seats, which have gained receipts and denials
-abbrev pub AllGrownNets : List Net → List Net → Type 0
-AllGrownNets xs ys = AllZip (λ (a b : Net). (b.cell ≡ a.cell) × AllGrown a.seats b.seats) xs ys
+abbrev pub AllGrownNets : List NetSight → List NetSight → Type 0
+AllGrownNets xs ys = AllZip (λ (a b : NetSight). (b.cell ≡ a.cell) × AllGrown a.seats b.seats) xs ys
 
-abbrev pub AllElsewhere : List Net → List Job → Type 0
+abbrev pub AllElsewhere : List NetSight → List Job → Type 0
 AllElsewhere nets js = All (λ (j : Job). NoNet nets j.network) js
 
 -- the events of the receipts and denials that a seat gained, as jobs of its network, weighed
@@ -108,7 +108,7 @@ heard_since h a b = heard_of h a.me.config (receipts_gained a b)
 -- However jobs are weighed: those that came in, and one for each emission that was gained and each other hosted node of
 -- its network, are those that went out, the events that were gained as receipts and as denials, and those of networks
 -- that are not here; and the report has the numbers of these.
-pub record IsDone (xs ys : List Net) (came went : (Job → ℕ) → ℕ) (r : Report) : Type 0 where
+pub record AreJobsDone (xs ys : List NetSight) (came went : (Job → ℕ) → ℕ) (r : Report) : Type 0 where
   pub lacking : List Job
   pub elsewhere : AllElsewhere xs lacking
   pub sum : (h : Job → ℕ)

@@ -4,8 +4,8 @@ use Rattle.std.specs.List.{All}
 use Rattle.work.specs.declared.rule.Job.{Job}
 use Rattle.cells.specs.Sights.{CellSight}
 
-abbrev pub number_of : CellSight → ℕ
-number_of c = c.config.number
+abbrev pub cell_number : CellSight → ℕ
+cell_number c = c.config.number
 
 abbrev pub AllAbove : ℕ → List ℕ → Type 0
 AllAbove n xs = All (λ x. n < x) xs
@@ -17,7 +17,7 @@ IsRising (x ∷ xs) = AllAbove x xs × IsRising xs
 
 -- these are the numbers of the cells, which stand in their order
 abbrev pub IsNumbered : List ℕ → List CellSight → Type 0
-IsNumbered numbers cells = (numbers ≡ map number_of cells) × IsRising numbers
+IsNumbered numbers cells = (numbers ≡ map cell_number cells) × IsRising numbers
 
 -- the number of the cell at a place
 abbrev pub IsNumberAt : List CellSight → ℕ → ℕ → Type 0

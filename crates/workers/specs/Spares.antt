@@ -13,16 +13,16 @@ use Rattle.cells.specs.Closing.{AllSeats, HasNumber}
 use Rattle.cells.specs.Sights.{SeatSight}
 use Rattle.workers.specs.Numbers.{AllLack}
 use Rattle.cells.specs.Views.{Knowledge}
-use Rattle.workers.specs.Sums.{AllGrown, AllPassing, applied_by, refused_by, seat_done, seat_heard, seat_applied, seat_refused, IsPassing, parts_of, weight_put, weight_taken}
+use Rattle.workers.specs.Sums.{AllGrown, AllPassing, applied_count, refused_count, seat_done, seat_heard, seat_applied, seat_refused, IsPassing, parts_of, weight_put, weight_taken}
 use Rattle.workers.specs.declared.deal.SpareSeats.{SpareSeats}
 use Rattle.workers.specs.declared.deal.WorkerRoom.{WorkerRoom}
 use Rattle.workers.specs.declared.deal.Room.{Room}
 use Rattle.workers.specs.declared.running.Report.{Report}
 use Rattle.workers.specs.declared.worker.Worker.{Worker}
 
--- each cell has so many spare seats
-abbrev pub AllHave : {S H P : Type 0} → ℕ → List (SpareSeats S H P) → Type 0
-AllHave n bs = All (λ (b : SpareSeats _ _ _). n ≤ length b.seats.items) bs
+-- each cell has at least N spare seats
+abbrev pub HaveSpareSeats : {S H P : Type 0} → ℕ → List (SpareSeats S H P) → Type 0
+HaveSpareSeats n bs = All (λ (b : SpareSeats _ _ _). n ≤ length b.seats.items) bs
 
 -- beside the spare seats of each cell there is room for one more
 abbrev pub AllRoomy : {S H P : Type 0} → List (SpareSeats S H P) → Type 0
@@ -51,20 +51,20 @@ pub record IsDealtSeat {S H P : Type 0} (a : (SpareSeats S H P)) (s : SeatSight)
   pub room : length b.seats.items < vec_capacity b.seats
 
 -- of each cell the last spare seat was dealt
-abbrev pub IsDealt : {S H P : Type 0} → List (SpareSeats S H P) → List SeatSight → List (SpareSeats S H P) → Type 0
-IsDealt [] [] [] = Unit {0}
-IsDealt [] [] (b ∷ bs) = ⊥
-IsDealt [] (s ∷ ss) bs = ⊥
-IsDealt (a ∷ xs) [] bs = ⊥
-IsDealt (a ∷ xs) (s ∷ ss) [] = ⊥
-IsDealt (a ∷ xs) (s ∷ ss) (b ∷ ys) = IsDealtSeat a s b × IsDealt xs ss ys
+abbrev pub AreSparesDealt : {S H P : Type 0} → List (SpareSeats S H P) → List SeatSight → List (SpareSeats S H P) → Type 0
+AreSparesDealt [] [] [] = Unit {0}
+AreSparesDealt [] [] (b ∷ bs) = ⊥
+AreSparesDealt [] (s ∷ ss) bs = ⊥
+AreSparesDealt (a ∷ xs) [] bs = ⊥
+AreSparesDealt (a ∷ xs) (s ∷ ss) [] = ⊥
+AreSparesDealt (a ∷ xs) (s ∷ ss) (b ∷ ys) = IsDealtSeat a s b × AreSparesDealt xs ss ys
 
 -- one worker after another was dealt a seat at each cell
 abbrev pub IsDealtAll : {S H P : Type 0} → List (SpareSeats S H P) → List (Worker S H P) → List (SpareSeats S H P)
     → Type 0
 IsDealtAll before [] after = after ≡ before
 IsDealtAll before (w ∷ ws) after =
-    (mid : List (SpareSeats _ _ _)) × IsDealt before w.seats.items mid × IsDealtAll mid ws after
+    (mid : List (SpareSeats _ _ _)) × AreSparesDealt before w.seats.items mid × IsDealtAll mid ws after
 
 -- a seat is the last of the spare ones
 pub record IsGivenSeat {S H P : Type 0} (a : (SpareSeats S H P)) (s : SeatSight) (b : (SpareSeats S H P)) : Type 0 where
@@ -72,17 +72,17 @@ pub record IsGivenSeat {S H P : Type 0} (a : (SpareSeats S H P)) (s : SeatSight)
   pub capacity : vec_capacity b.seats ≡ vec_capacity a.seats
 
 -- each seat was given back, as the last spare one of its cell
-abbrev pub IsGiven : {S H P : Type 0} → List (SpareSeats S H P) → List SeatSight → List (SpareSeats S H P) → Type 0
-IsGiven [] [] [] = Unit {0}
-IsGiven [] [] (b ∷ bs) = ⊥
-IsGiven [] (s ∷ ss) bs = ⊥
-IsGiven (a ∷ xs) [] bs = ⊥
-IsGiven (a ∷ xs) (s ∷ ss) [] = ⊥
-IsGiven (a ∷ xs) (s ∷ ss) (b ∷ ys) = IsGivenSeat a s b × IsGiven xs ss ys
+abbrev pub AreSeatsGivenBack : {S H P : Type 0} → List (SpareSeats S H P) → List SeatSight → List (SpareSeats S H P) → Type 0
+AreSeatsGivenBack [] [] [] = Unit {0}
+AreSeatsGivenBack [] [] (b ∷ bs) = ⊥
+AreSeatsGivenBack [] (s ∷ ss) bs = ⊥
+AreSeatsGivenBack (a ∷ xs) [] bs = ⊥
+AreSeatsGivenBack (a ∷ xs) (s ∷ ss) [] = ⊥
+AreSeatsGivenBack (a ∷ xs) (s ∷ ss) (b ∷ ys) = IsGivenSeat a s b × AreSeatsGivenBack xs ss ys
 
 -- no worker has counted anything yet
-abbrev pub AllFresh : {S H P : Type 0} → List (Worker S H P) → Type 0
-AllFresh ws = All (λ (w : Worker _ _ _). (w.applied ≡ 0) × (w.refused ≡ 0)) ws
+abbrev pub NoneHasCounted : {S H P : Type 0} → List (Worker S H P) → Type 0
+NoneHasCounted ws = All (λ (w : Worker _ _ _). (w.applied ≡ 0) × (w.refused ≡ 0)) ws
 
 -- each worker's pass is of this queue
 abbrev pub AllHold : {S H P : Type 0} → Option Queue → List (Worker S H P) → Type 0
@@ -102,14 +102,14 @@ AllGrownSpares xs ys =
     AllZip (λ (a b : SpareSeats _ _ _). AllGrown a.seats.items b.seats.items × (vec_capacity b.seats ≡ vec_capacity a.seats)) xs ys
 
 -- all seats of the cell are there, and no others
-pub record IsHosted (c : CellSight) (seats : List SeatSight) : Type 0 where
+pub record HasAllSeats (c : CellSight) (seats : List SeatSight) : Type 0 where
   pub own : AllSeats (IsSeatOf c) seats
   pub some : 0 < c.seats
   pub all : (k : ℕ) → k < c.seats → HasNumber seats k
 
 -- all seats of each cell are there, and no others
-abbrev pub AllHosted : {S H P : Type 0} → List CellSight → List (SpareSeats S H P) → Type 0
-AllHosted cs bs = AllZip (λ (c : CellSight) (b : SpareSeats _ _ _). IsHosted c b.seats.items) cs bs
+abbrev pub HaveAllSeats : {S H P : Type 0} → List CellSight → List (SpareSeats S H P) → Type 0
+HaveAllSeats cs bs = AllZip (λ (c : CellSight) (b : SpareSeats _ _ _). HasAllSeats c b.seats.items) cs bs
 
 -- all spare seats, weighed
 abbrev pub on_spares : {S H P : Type 0} → (Knowledge → ℕ) → List (SpareSeats S H P) → ℕ
@@ -121,8 +121,8 @@ at_work f ws = weigh (λ (w : (Worker _ _ _)). weigh (λ (s : SeatSight). f s.me
 
 -- a report has what the workers counted
 pub record IsCounted {S H P : Type 0} (ws : List (Worker S H P)) (r : Report) : Type 0 where
-  pub applied : r.applied ≡ weigh applied_by ws
-  pub refused : r.refused ≡ weigh refused_by ws
+  pub applied : r.applied ≡ weigh applied_count ws
+  pub refused : r.refused ≡ weigh refused_count ws
   pub unrun : r.unrun ≡ 0
 
 -- the sum of the seats before and after: what came in and what they were made to hear is what they did, what went out,

@@ -37,29 +37,29 @@ hears_of e [] = []
 hears_of e (h ∷ hs) = hear_by e h ++ hears_of e hs
 
 -- the emission of what was given out, by its mark; none of anything else
-abbrev pub emission_in : ℕ → Out → Option ℕ → Option SlotEmission
-emission_in network (ArmNomination r) m = None
-emission_in network (ArmBallot n) m = None
-emission_in network (Externalized v) m = None
-emission_in network (Emit e) None = None
-emission_in network (Emit e) (Some m) =
+abbrev pub emission_at_mark : ℕ → Out → Option ℕ → Option SlotEmission
+emission_at_mark network (ArmNomination r) m = None
+emission_at_mark network (ArmBallot n) m = None
+emission_at_mark network (Externalized v) m = None
+emission_at_mark network (Emit e) None = None
+emission_at_mark network (Emit e) (Some m) =
     Some (record { network = network; slot = e.slot; from = e.sender; kind = kind_of e.body; number = m })
 
--- for each emission of these outs, with the marks in order
-abbrev pub hears_from : Config → List Out → List ℕ → List Job
-hears_from config [] ms = []
-hears_from config (ArmNomination r ∷ os) ms = hears_from config os ms
-hears_from config (ArmBallot n ∷ os) ms = hears_from config os ms
-hears_from config (Externalized v ∷ os) ms = hears_from config os ms
-hears_from config (Emit e ∷ os) [] = hears_from config os []
-hears_from config (Emit e ∷ os) (m ∷ ms) =
+-- the jobs by which others hear each emission of these outs, whose numbers are the marks, in order
+abbrev pub hears_of_outs : Config → List Out → List ℕ → List Job
+hears_of_outs config [] ms = []
+hears_of_outs config (ArmNomination r ∷ os) ms = hears_of_outs config os ms
+hears_of_outs config (ArmBallot n ∷ os) ms = hears_of_outs config os ms
+hears_of_outs config (Externalized v ∷ os) ms = hears_of_outs config os ms
+hears_of_outs config (Emit e ∷ os) [] = hears_of_outs config os []
+hears_of_outs config (Emit e ∷ os) (m ∷ ms) =
     hears_of (record { network = config.number; slot = e.slot; from = e.sender; kind = kind_of e.body; number = m })
     config.nodes
-    ++ hears_from config os ms
+    ++ hears_of_outs config os ms
 
 -- what a receipt makes the other nodes of its network hear
 abbrev pub hears : Config → AppliedEvent → List Job
-hears config r = hears_from config r.outs r.marks
+hears config r = hears_of_outs config r.outs r.marks
 
 -- the events of the receipts, as jobs of their network, weighed
 abbrev pub applied_of : (Job → ℕ) → Config → List AppliedEvent → ℕ
@@ -77,9 +77,11 @@ heard_of h config rs = weigh (λ (r : AppliedEvent). weigh h (hears config r)) r
 abbrev pub seat_done : (Job → ℕ) → Knowledge → ℕ
 seat_done h v = applied_of h v.config v.receipts + refused_of h v.config v.denials
 
+-- what the receipts of a seat that knows this make others hear, weighed
 abbrev pub seat_heard : (Job → ℕ) → Knowledge → ℕ
 seat_heard h v = heard_of h v.config v.receipts
 
+-- how many receipts and denials it has
 abbrev pub seat_applied : Knowledge → ℕ
 seat_applied v = length v.receipts
 
@@ -89,7 +91,7 @@ seat_refused v = length v.denials
 abbrev pub done_by : (Job → ℕ) → SeatSight → ℕ
 done_by h s = seat_done h s.me
 
--- what the receipts make heard that were let go
+-- what the receipts that were let go make others hear, weighed
 abbrev pub followed_by : (Job → ℕ) → SeatSight → ℕ
 followed_by h s = heard_of h s.me.config (take s.let_go s.me.receipts)
 
@@ -146,12 +148,12 @@ IsPast s = length s.me.receipts ≤ s.let_go
 abbrev pub AllPast : List SeatSight → Type 0
 AllPast ss = All IsPast ss
 
--- all but the one there
+-- each seat but the one at this place has let go of all its receipts
 abbrev pub AllPastBut : ℕ → List SeatSight → Type 0
 AllPastBut k ss = (i : ℕ) (d : SeatSight) → i ≢ k → i < length ss → IsPast (slice_index_or ss i d)
 
 -- a seat has done one job more: applied or refused it
-pub record IsDone (a b : SeatSight) (j : Job) (well : Bool) : Type 0 where
+pub record IsJobDone (a b : SeatSight) (j : Job) (well : Bool) : Type 0 where
   pub later : IsLater a b
   pub sum : (h : Job → ℕ) → done_by h b ≡ done_by h a + h j
   pub followed : (h : Job → ℕ) → followed_by h b ≡ followed_by h a
@@ -204,7 +206,7 @@ IsPassing None (Some p) = ⊥
 IsPassing (Some q) (Some p) = IsOf q p
 
 -- a worker between two jobs: it has a seat in each cell, each of which has let go of all its receipts
-pub record IsReady {S H P : Type 0} (cells : List CellSight) (queue : Option Queue) (w : (Worker S H P)) : Type 0 where
+pub record IsReadyWorker {S H P : Type 0} (cells : List CellSight) (queue : Option Queue) (w : (Worker S H P)) : Type 0 where
   pub seated : AllSeated cells w.seats.items
   pub passing : IsPassing queue w.pass
   pub past : AllPast w.seats.items
@@ -220,12 +222,12 @@ pub record IsBusy {S H P : Type 0} (cells : List CellSight) (queue : Option Queu
 -- a worker at the end of its work: between two jobs, with the sums kept
 pub record IsThrough {S H P : Type 0} (cells : List CellSight) (queue : Option Queue) (a b : (Worker S H P))
     : Type 0 where
-  pub ready : IsReady cells queue b
+  pub ready : IsReadyWorker cells queue b
   pub kept : KeepsSums cells [] a b
 
 -- all these workers are between two jobs
 abbrev pub AllReady : {S H P : Type 0} → List CellSight → Option Queue → List (Worker S H P) → Type 0
-AllReady cells queue ws = All (IsReady cells queue) ws
+AllReady cells queue ws = All (IsReadyWorker cells queue) ws
 
 abbrev pub AllLaterWorkers : {S H P : Type 0} → List (Worker S H P) → List (Worker S H P) → Type 0
 AllLaterWorkers xs ys = AllZip (λ (a b : Worker _ _ _). AllGrown a.seats.items b.seats.items) xs ys
@@ -234,11 +236,12 @@ AllLaterWorkers xs ys = AllZip (λ (a b : Worker _ _ _). AllGrown a.seats.items 
 abbrev pub parts_of : {S H P : Type 0} → (Worker S H P) → ℕ
 parts_of w = (hand_of w.pass).parts
 
-abbrev pub applied_by : {S H P : Type 0} → (Worker S H P) → ℕ
-applied_by w = w.applied
+-- how many events a worker has applied, and how many were refused
+abbrev pub applied_count : {S H P : Type 0} → (Worker S H P) → ℕ
+applied_count w = w.applied
 
-abbrev pub refused_by : {S H P : Type 0} → (Worker S H P) → ℕ
-refused_by w = w.refused
+abbrev pub refused_count : {S H P : Type 0} → (Worker S H P) → ℕ
+refused_count w = w.refused
 
 -- the same sums of all workers
 pub record IsSummed {S H P : Type 0} (cells : List CellSight) (xs ys : List (Worker S H P)) : Type 0 where
@@ -248,8 +251,8 @@ pub record IsSummed {S H P : Type 0} (cells : List CellSight) (xs ys : List (Wor
       → weigh (weight_done h) ys + weigh (weight_put h) ys + weigh h lacking + weigh (weight_followed h) xs
       + weigh (weight_taken h) xs
       ≡ weigh (weight_done h) xs + weigh (weight_put h) xs + weigh (weight_followed h) ys + weigh (weight_taken h) ys
-  pub applied : weigh applied_by ys + weigh receipts_of xs ≡ weigh applied_by xs + weigh receipts_of ys
-  pub refused : weigh refused_by ys + weigh denials_of xs ≡ weigh refused_by xs + weigh denials_of ys + length lacking
+  pub applied : weigh applied_count ys + weigh receipts_of xs ≡ weigh applied_count xs + weigh receipts_of ys
+  pub refused : weigh refused_count ys + weigh denials_of xs ≡ weigh refused_count xs + weigh denials_of ys + length lacking
   pub later : AllLaterWorkers xs ys
   pub parts : weigh parts_of ys ≡ weigh parts_of xs
 
@@ -267,7 +270,7 @@ passes_of [] = []
 passes_of (w ∷ ws) = option_to_list w.pass ++ passes_of ws
 
 -- the same sums of all workers, when the queue is closed and all that it had is done; some passes lay beside them
-pub record IsClosed {S H P : Type 0} (cells : List CellSight) (ps : List (Pass Job Hand)) (xs zs : List (Worker S H P))
+pub record AreSumsClosed {S H P : Type 0} (cells : List CellSight) (ps : List (Pass Job Hand)) (xs zs : List (Worker S H P))
     : Type 0 where
   pub lacking : List Job
   pub elsewhere : AllLack cells lacking
@@ -275,6 +278,6 @@ pub record IsClosed {S H P : Type 0} (cells : List CellSight) (ps : List (Pass J
       → weigh (weight_done h) zs + weigh h lacking + weigh (weight_followed h) xs + weigh (weight_taken h) xs
       + taken_by h ps
       ≡ weigh (weight_done h) xs + weigh (weight_put h) xs + weigh (weight_followed h) zs + put_by h ps
-  pub applied : weigh applied_by zs + weigh receipts_of xs ≡ weigh applied_by xs + weigh receipts_of zs
-  pub refused : weigh refused_by zs + weigh denials_of xs ≡ weigh refused_by xs + weigh denials_of zs + length lacking
+  pub applied : weigh applied_count zs + weigh receipts_of xs ≡ weigh applied_count xs + weigh receipts_of zs
+  pub refused : weigh refused_count zs + weigh denials_of xs ≡ weigh refused_count xs + weigh denials_of zs + length lacking
   pub later : AllLaterWorkers xs zs

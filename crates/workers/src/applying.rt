@@ -2,7 +2,7 @@
 
 ghost use Rattle.std.specs.Prelude.{◌≡◌, ◌<◌, IfErr, IfOk, length, slice_index_or, slice_get};
 ghost use Rattle.types.specs.declared.event.Out.{Out};
-ghost use Rattle.workers.specs.Sums.{IsDone, IsSeated, emission_in};
+ghost use Rattle.workers.specs.Sums.{IsJobDone, IsSeated, emission_at_mark};
 
 use crate::gate::Gate;
 use cells::{Cell, Receipt, Seat};
@@ -32,7 +32,7 @@ pub(crate) fn apply_by<S: Shelf + Drop, H: Wait + Drop, R: Wait, G: Gate>(
     requires seat { IsSeated cell.now seat.old }
     requires job { cell.now.config.number ≡ job.network }
     ensures seat { IsSeated cell.now seat.new }
-    ensures done { IsDone seat.old seat.new job result }
+    ensures done { IsJobDone seat.old seat.new job result }
 {
     gate.before(rt, &job);
     let Job { network, event } = job;
@@ -53,7 +53,7 @@ pub(crate) fn try_apply_by<S: Shelf + Drop, H: Wait + Drop, R: Wait, G: Gate>(
     requires seat { IsSeated cell.now seat.old }
     requires job { cell.now.config.number ≡ job.network }
     ensures seat { IsSeated cell.now seat.new }
-    ensures done { IfOk result (IsDone seat.old seat.new job) }
+    ensures done { IfOk result (IsJobDone seat.old seat.new job) }
     ensures back { IfErr result (λ j. (j ≡ job) × (seat.new ≡ seat.old)) }
 {
     gate.before(rt, &job);
@@ -78,7 +78,7 @@ pub(crate) fn emission_of(
     mark: usize,
 ) -> Option<SlotEmission>
     requires { index < length receipt.now.outs }
-    ensures { (o : Out) → result ≡ emission_in network (slice_index_or receipt.now.outs index o) (slice_get receipt.now.marks mark) }
+    ensures { (o : Out) → result ≡ emission_at_mark network (slice_index_or receipt.now.outs index o) (slice_get receipt.now.marks mark) }
 {
     match &receipt.outs()[index] {
         Out::Emit(envelope) => match receipt.marks().get(mark) {

@@ -1,7 +1,7 @@
 //! Workers before a run: the room that they need.
 
 ghost use Rattle.std.specs.Prelude.{◌≡◌, ◌<◌, ◌≤◌, IfOk, length};
-ghost use Rattle.workers.specs.Spares.{AllHave, IsWorkerRoom};
+ghost use Rattle.workers.specs.Spares.{HaveSpareSeats, IsWorkerRoom};
 
 use crate::deal::{SpareSeats, WorkerRoom, fewest_seats, make_worker_room};
 use crate::host::Host;
@@ -50,10 +50,10 @@ impl<S: Shelf + Drop, H: Wait + Drop> Crew<S, H> {
     /// The room of as many workers as have a pass each, and a seat at each cell.
     pub(crate) fn into_room(self, spares: &[SpareSeats<S, H>], passes: usize) -> WorkerRoom<S, H>
         requires some { 0 < passes }
-        requires seats { AllHave 1 spares.now }
+        requires seats { HaveSpareSeats 1 spares.now }
         requires room { length spares.now ≤ self }
         ensures bound { (0 < length result.rooms.items) × (length result.rooms.items ≤ passes) }
-        ensures seats { AllHave (length result.rooms.items) spares.now }
+        ensures seats { HaveSpareSeats (length result.rooms.items) spares.now }
         ensures room { IsWorkerRoom (length result.rooms.items) (length spares.now) result }
     {
         let Crew {

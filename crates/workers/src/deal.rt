@@ -1,7 +1,7 @@
 //! Seats dealt to workers, and given back.
 
 ghost use Rattle.std.specs.Prelude.{◌≡◌, ◌<◌, ◌≤◌, ◌+◌, IfOk, ◌∷◌, ◌++◌, vec_capacity, vec_len, length, []};
-ghost use Rattle.workers.specs.Spares.{AllFresh, AllHave, AllRoomy, IsWorkerRoom, IsDealt, IsDealtAll, IsDealtSeat, IsGiven, IsSplit};
+ghost use Rattle.workers.specs.Spares.{NoneHasCounted, HaveSpareSeats, AllRoomy, IsWorkerRoom, AreSparesDealt, IsDealtAll, IsDealtSeat, AreSeatsGivenBack, IsSplit};
 ghost use Rattle.cells.specs.Sights.{SeatSight};
 
 use crate::worker::Worker;
@@ -36,9 +36,9 @@ pub(crate) fn fewest_seats<S: Shelf, H: Wait + Drop>(
     most: usize,
 ) -> usize
     requires some { 0 < most }
-    requires seats { AllHave 1 spares.now }
+    requires seats { HaveSpareSeats 1 spares.now }
     ensures bound { (0 < result) × (result ≤ most) }
-    ensures seats { AllHave result spares.now }
+    ensures seats { HaveSpareSeats result spares.now }
 {
     let mut least = most;
     for spare in spares {
@@ -85,9 +85,9 @@ pub(crate) fn deal_one<S: Shelf, H: Wait + Drop>(
     spares: &mut Vec<SpareSeats<S, H>>,
     room: Room<S, H>,
 ) -> Vec<Seat<S, H>>
-    requires seats { AllHave 1 spares.old.items }
+    requires seats { HaveSpareSeats 1 spares.old.items }
     requires room { (room.seats.items ≡ []) × (length spares.old.items ≤ vec_capacity room.seats) }
-    ensures { IsDealt spares.old.items result.items spares.new.items }
+    ensures { AreSparesDealt spares.old.items result.items spares.new.items }
 {
     let Room { mut seats } = room;
     let many = spares.len();
@@ -104,10 +104,10 @@ pub(crate) fn deal<S: Shelf, H: Wait + Drop>(
     worker_room: WorkerRoom<S, H>,
 ) -> Vec<Worker<S, H>>
     requires passes { length worker_room.rooms.items ≤ vec_len passes.old }
-    requires seats { AllHave (length worker_room.rooms.items) spares.old.items }
+    requires seats { HaveSpareSeats (length worker_room.rooms.items) spares.old.items }
     requires worker_room { IsWorkerRoom (length worker_room.rooms.items) (length spares.old.items) worker_room }
     ensures dealt { IsDealtAll spares.old.items result.items spares.new.items }
-    ensures fresh { AllFresh result.items × (length result.items ≡ length worker_room.rooms.items) }
+    ensures fresh { NoneHasCounted result.items × (length result.items ≡ length worker_room.rooms.items) }
     ensures passes { IsSplit passes.old.items result.items passes.new.items }
     ensures room { (vec_len passes.new + length result.items ≡ vec_len passes.old) × (vec_capacity passes.new ≡ vec_capacity passes.old) }
 {
@@ -133,7 +133,7 @@ pub(crate) fn give_back<S: Shelf, H: Wait + Drop>(
 )
     requires room { AllRoomy spares.old.items }
     requires seats { length worker.seats.items ≡ length spares.old.items }
-    ensures { IsGiven spares.old.items worker.seats.items spares.new.items }
+    ensures { AreSeatsGivenBack spares.old.items worker.seats.items spares.new.items }
 {
     let Worker {
         mut seats,

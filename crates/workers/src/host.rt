@@ -1,10 +1,10 @@
 //! The networks of one host.
 
 ghost use Rattle.std.specs.Prelude.{◌≡◌, ◌<◌, ◌≤◌, [], ◌∷◌, ◌++◌, IfErr, IfOk, IfSome, IfNone, OnOk, drop, length, take, Err};
-ghost use Rattle.workers.specs.Spares.{IsHosted};
-ghost use Rattle.workers.specs.NetSights.{Net};
+ghost use Rattle.workers.specs.Spares.{HasAllSeats};
+ghost use Rattle.workers.specs.NetSights.{NetSight};
 ghost use Rattle.workers.specs.Joining.{IsWhyNotJoined};
-ghost use Rattle.workers.specs.Nets.{IsClosedNet, IsLeast, NoNet, nets_with};
+ghost use Rattle.workers.specs.Nets.{IsClosedNet, IsLeastNumber, NoNet, nets_with};
 
 use crate::deal::SpareSeats;
 use crate::host_state::HostState;
@@ -37,17 +37,17 @@ impl<S: Shelf, H: Wait + Drop> Model for Host<S, H> {
     ghost use Rattle.std.specs.Coded.{codes};
     ghost use Rattle.std.specs.Prelude.{List};
     ghost use Rattle.types.specs.Trees.{members_code};
-    ghost use Rattle.workers.specs.NetSights.{Net};
+    ghost use Rattle.workers.specs.NetSights.{NetSight};
 
-    ghost Value = { List Net };
+    ghost Value = { List NetSight };
 
     ghost coded = { Prim.hlevel (codes, members_code) };
 
-    ghost use Rattle.workers.specs.Nets.{IsKept, nets_in};
+    ghost use Rattle.workers.specs.Nets.{IsKeptState, nets_in};
 
     ghost view = { λ h. nets_in h.is_turned h.host_state };
 
-    ghost invariant = { λ h. IsKept h.is_turned h.host_state };
+    ghost invariant = { λ h. IsKeptState h.is_turned h.host_state };
 }
 
 impl<S: Shelf + Drop, H: Wait + Drop> Host<S, H> {
@@ -85,7 +85,7 @@ impl<S: Shelf + Drop, H: Wait + Drop> Host<S, H> {
         cell: Cell<S, H>,
         seats: Vec<Seat<S, H>>,
     ) -> Result<(), (NotJoined, Cell<S, H>, Vec<Seat<S, H>>)>
-        requires { IsHosted cell seats.items }
+        requires { HasAllSeats cell seats.items }
         ensures ok { OnOk result (self.new ≡ nets_with (record { cell = cell; seats = seats.items }) self.old) }
         ensures fresh { OnOk result (NoNet self.old cell.config.number × (length self.old < 4096)) }
         ensures why { IfErr result (λ r. IsWhyNotJoined self.old cell.config.number r.0) }
@@ -119,7 +119,7 @@ impl<S: Shelf + Drop, H: Wait + Drop> Host<S, H> {
     /// back.
     pub fn close_next<R: Wait>(&mut self, rt: &R) -> Option<(Journal<S>, Vec<Seat<S, H>>)>
         ensures none { IfNone result ((self.old ≡ []) × (self.new ≡ [])) }
-        ensures closed { IfSome result (λ r. (net : Net) × (self.old ≡ net ∷ self.new) × IsLeast net self.new × IsClosedNet net r.0 r.1.items) }
+        ensures closed { IfSome result (λ r. (net : NetSight) × (self.old ≡ net ∷ self.new) × IsLeastNumber net self.new × IsClosedNet net r.0 r.1.items) }
     {
         self.host_state.turn_to(self.is_turned, true);
         self.is_turned = true;

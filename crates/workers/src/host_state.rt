@@ -1,8 +1,8 @@
 //! The cells of a host, and the seats at them.
 
 ghost use Rattle.std.specs.Prelude.{◌≡◌, ◌<◌, ◌≤◌, ◌∷◌, IfOk, OnErr, length, insert, IsTrue, vec_len, vec_capacity};
-ghost use Rattle.workers.specs.HostStates.{AreParts, HasRoom, IsPut, IsRemoved, IsSameHostState, IsTurned};
-ghost use Rattle.workers.specs.Nets.{IsKept, nets_in};
+ghost use Rattle.workers.specs.HostStates.{AreStateParts, HasRoomForCell, IsNetworkPut, IsRemoved, IsSameHostState, IsTurned};
+ghost use Rattle.workers.specs.Nets.{IsKeptState, nets_in};
 
 use crate::deal::SpareSeats;
 use crate::shared::Shared;
@@ -22,7 +22,7 @@ impl<S: Shelf + Drop, H: Wait + Drop> HostState<S, H> {
     /// Makes room for one network more. `false` says that it is out of memory.
     pub(crate) fn reserve(&mut self) -> bool
         ensures same { IsSameHostState self.old self.new }
-        ensures room { IsTrue result → HasRoom self.new }
+        ensures room { IsTrue result → HasRoomForCell self.new }
     {
         if self.shared.numbers.reserve(1).is_err() {
             return false;
@@ -36,8 +36,8 @@ impl<S: Shelf + Drop, H: Wait + Drop> HostState<S, H> {
     /// A network joins at a place, for which there is room.
     pub(crate) fn put_at(&mut self, place: usize, cell: Cell<S, H>, seats: Vec<Seat<S, H>>)
         requires place { (place ≤ length self.old.shared.numbers.items) × (place ≤ length self.old.shared.cells.items) × (place ≤ length self.old.spares.items) }
-        requires room { HasRoom self.old }
-        ensures { IsPut self.old place cell seats.items self.new }
+        requires room { HasRoomForCell self.old }
+        ensures { IsNetworkPut self.old place cell seats.items self.new }
     {
         let number = cell.config().number();
         let Ok(()) = self.shared.numbers.insert(place, number) else {
@@ -63,8 +63,8 @@ impl<S: Shelf + Drop, H: Wait + Drop> HostState<S, H> {
     /// The networks stand turned around if that is wanted, and not if it is not, from how they stand now. It takes no
     /// memory.
     pub(crate) fn turn_to(&mut self, is_turned: bool, wanted: bool)
-        requires { IsKept is_turned self.old }
-        ensures kept { IsKept wanted self.new }
+        requires { IsKeptState is_turned self.old }
+        ensures kept { IsKeptState wanted self.new }
         ensures nets { nets_in wanted self.new ≡ nets_in is_turned self.old }
     {
         if is_turned != wanted {
@@ -96,7 +96,7 @@ impl<S: Shelf + Drop, H: Wait + Drop> HostState<S, H> {
         count: usize,
     ) -> Result<HostState<S, H>, AllocError>
         requires { (count ≤ length self.old.shared.numbers.items) × (count ≤ length self.old.shared.cells.items) × (count ≤ length self.old.spares.items) }
-        ensures ok { IfOk result (λ r. AreParts self.old count self.new r) }
+        ensures ok { IfOk result (λ r. AreStateParts self.old count self.new r) }
         ensures err { OnErr result (IsSameHostState self.old self.new) }
     {
         let mut numbers = Vec::new(alloc);

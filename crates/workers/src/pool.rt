@@ -6,7 +6,7 @@ ghost use Rattle.work.specs.Hands.{all_parts, weigh};
 ghost use Rattle.work.specs.Queues.{parts_by};
 ghost use Rattle.work.specs.declared.line.Queue.{Queue};
 ghost use Rattle.workers.specs.Numbers.{IsNumbered};
-ghost use Rattle.workers.specs.Sums.{AllPassing, AllReady, IsClosed, IsReady, IsThrough, at_rest, parts_of, passes_of};
+ghost use Rattle.workers.specs.Sums.{AllPassing, AllReady, AreSumsClosed, IsReadyWorker, IsThrough, at_rest, parts_of, passes_of};
 ghost use Rattle.workers.specs.declared.worker.Worker.{Worker};
 
 use crate::gate::Gate;
@@ -40,7 +40,7 @@ where
         workers,
         count,
         &|_, w: &mut Worker<S, H>|
-            requires { IsNumbered shared.now.numbers.items shared.now.cells.items × IsReady shared.now.cells.items shared.now.queue w.old }
+            requires { IsNumbered shared.now.numbers.items shared.now.cells.items × IsReadyWorker shared.now.cells.items shared.now.queue w.old }
             ensures { IsThrough shared.entry.now.cells.items shared.entry.now.queue w.old w.new }
         { w.work(&Workplace { rt, shared, gate }) },
     );
@@ -85,7 +85,7 @@ fn finish<S: Shelf + Drop, H: Wait + Drop, R: Wait, G: Gate>(
     requires room { vec_len passes + length workers.old ≤ vec_capacity passes }
     ensures shared { (shared.new.numbers ≡ shared.old.numbers) × (shared.new.cells ≡ shared.old.cells) × (shared.new.queue ≡ None) }
     ensures ready { AllReady shared.old.cells.items None workers.new }
-    ensures closed { IsClosed shared.old.cells.items passes.items workers.old workers.new }
+    ensures closed { AreSumsClosed shared.old.cells.items passes.items workers.old workers.new }
 {
     collect(workers, &mut passes);
     let Some(queue) = shared.queue.take() else {
@@ -112,7 +112,7 @@ where
     requires room { vec_len passes + length workers.old ≤ vec_capacity passes }
     ensures shared { (shared.new.numbers ≡ shared.old.numbers) × (shared.new.cells ≡ shared.old.cells) × (shared.new.queue ≡ None) }
     ensures ready { AllReady shared.old.cells.items None workers.new }
-    ensures closed { IsClosed shared.old.cells.items passes.items workers.old workers.new }
+    ensures closed { AreSumsClosed shared.old.cells.items passes.items workers.old workers.new }
 {
     start(rt, shared, workers, gate);
     finish(rt, shared, workers, passes, gate);

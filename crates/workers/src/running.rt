@@ -6,8 +6,8 @@ ghost use Rattle.work.specs.Hands.{all_parts};
 ghost use Rattle.work.specs.Queues.{AllPasses, IsOf, parts_by, put_by, taken_by};
 ghost use Rattle.work.specs.declared.line.Queue.{Queue};
 ghost use Rattle.work.specs.declared.rule.Job.{Job};
-ghost use Rattle.workers.specs.Spares.{AllGrownSpares, AllHave, AllHosted, IsCounted, IsWorkerRoom, IsWorked};
-ghost use Rattle.workers.specs.Nets.{AllGrownNets, IsDone};
+ghost use Rattle.workers.specs.Spares.{AllGrownSpares, HaveSpareSeats, HaveAllSeats, IsCounted, IsWorkerRoom, IsWorked};
+ghost use Rattle.workers.specs.Nets.{AllGrownNets, AreJobsDone};
 ghost use Rattle.workers.specs.Numbers.{IsNumbered};
 ghost use Rattle.workers.specs.Sums.{AllPassing};
 
@@ -91,11 +91,11 @@ fn run_workers<
 where
     S::Place: Send,
     requires order { IsNumbered host_state.old.shared.numbers.items host_state.old.shared.cells.items }
-    requires hosted { AllHosted host_state.old.shared.cells.items host_state.old.spares.items }
+    requires hosted { HaveAllSeats host_state.old.shared.cells.items host_state.old.spares.items }
     requires there { (q : Queue) × (host_state.old.shared.queue ≡ Some q) }
     requires queue { AllPassing host_state.old.shared.queue passes.items × (parts_by passes.items ≡ all_parts) }
     requires room { length worker_room.rooms.items ≤ vec_len passes }
-    requires worker_room { (0 < length worker_room.rooms.items) × AllHave (length worker_room.rooms.items) host_state.old.spares.items × IsWorkerRoom (length worker_room.rooms.items) (length host_state.old.spares.items) worker_room }
+    requires worker_room { (0 < length worker_room.rooms.items) × HaveSpareSeats (length worker_room.rooms.items) host_state.old.spares.items × IsWorkerRoom (length worker_room.rooms.items) (length host_state.old.spares.items) worker_room }
     ensures shared { (host_state.new.shared.numbers ≡ host_state.old.shared.numbers) × (host_state.new.shared.cells ≡ host_state.old.shared.cells) × (host_state.new.shared.queue ≡ None) }
     ensures grown { AllGrownSpares host_state.old.spares.items host_state.new.spares.items }
     ensures worked { IsWorked host_state.old.shared.cells.items host_state.old.spares.items host_state.new.spares.items (λ h. put_by h passes.items) (λ h. taken_by h passes.items) result }
@@ -142,7 +142,7 @@ where
     requires room { length host.old ≤ crew }
     requires passes { AllPasses (IsOf queue.0) queue.1.items × (parts_by queue.1.items ≡ all_parts) }
     ensures same { AllGrownNets host.old host.new }
-    ensures done { IsDone host.old host.new (λ h. put_by h queue.1.items) (λ h. taken_by h queue.1.items) result }
+    ensures done { AreJobsDone host.old host.new (λ h. put_by h queue.1.items) (λ h. taken_by h queue.1.items) result }
 {
     let (queue, passes) = queue;
     host.host_state.turn_to(host.is_turned, false);

@@ -4,7 +4,7 @@ ghost use Rattle.std.specs.Prelude.{◌≡◌, ◌<◌, ◌+◌, if◌then◌els
 ghost use Rattle.std.specs.Option.{option_to_list};
 ghost use Rattle.cells.specs.Sights.{CellSight};
 ghost use Rattle.workers.specs.Numbers.{IsNumbered, IsNumberAt};
-ghost use Rattle.workers.specs.Sums.{IsBusy, KeepsSums, IsPassing, IsReady, IsSameWorker, hand_of, hear_by, hears, hears_of, with_put, with_taken};
+ghost use Rattle.workers.specs.Sums.{IsBusy, KeepsSums, IsPassing, IsReadyWorker, IsSameWorker, hand_of, hear_by, hears, hears_of, with_put, with_taken};
 
 use crate::applying::{SlotEmission, apply_by, emission_of, try_apply_by};
 use crate::gate::Gate;
@@ -200,7 +200,7 @@ impl<S: Shelf + Drop, H: Wait + Drop> Worker<S, H> {
     /// call. It ends: each receipt draws an event of the network's budget, which is finite.
     fn follow_receipts<R: Wait, G: Gate>(&mut self, workplace: &Workplace<'_, S, H, R, G>, k: usize)
         requires { IsBusy workplace.now.shared.now.cells.items workplace.now.shared.now.queue k self.old }
-        ensures ready { IsReady workplace.now.shared.now.cells.items workplace.now.shared.now.queue self.new }
+        ensures ready { IsReadyWorker workplace.now.shared.now.cells.items workplace.now.shared.now.queue self.new }
         ensures kept { KeepsSums workplace.now.shared.now.cells.items [] self.old self.new }
     {
         for _ in workplace.rt.forever() {
@@ -219,8 +219,8 @@ impl<S: Shelf + Drop, H: Wait + Drop> Worker<S, H> {
     /// network's cell.
     fn serve<R: Wait, G: Gate>(&mut self, workplace: &Workplace<'_, S, H, R, G>, job: Job)
         requires order { IsNumbered workplace.now.shared.now.numbers.items workplace.now.shared.now.cells.items }
-        requires ready { IsReady workplace.now.shared.now.cells.items workplace.now.shared.now.queue self.old }
-        ensures ready { IsReady workplace.now.shared.now.cells.items workplace.now.shared.now.queue self.new }
+        requires ready { IsReadyWorker workplace.now.shared.now.cells.items workplace.now.shared.now.queue self.old }
+        ensures ready { IsReadyWorker workplace.now.shared.now.cells.items workplace.now.shared.now.queue self.new }
         ensures kept { KeepsSums workplace.now.shared.now.cells.items (job ∷ []) self.old self.new }
     {
         match workplace.shared.find(job.network) {
@@ -240,8 +240,8 @@ impl<S: Shelf + Drop, H: Wait + Drop> Worker<S, H> {
         job: Job,
     ) -> Option<Job>
         requires order { IsNumbered workplace.now.shared.now.numbers.items workplace.now.shared.now.cells.items }
-        requires ready { IsReady workplace.now.shared.now.cells.items workplace.now.shared.now.queue self.old }
-        ensures ready { IsReady workplace.now.shared.now.cells.items workplace.now.shared.now.queue self.new }
+        requires ready { IsReadyWorker workplace.now.shared.now.cells.items workplace.now.shared.now.queue self.old }
+        ensures ready { IsReadyWorker workplace.now.shared.now.cells.items workplace.now.shared.now.queue self.new }
         ensures kept { MatchOption result (KeepsSums workplace.now.shared.now.cells.items (job ∷ []) self.old self.new) (λ j. (j ≡ job) × IsSameWorker self.old self.new) }
     {
         match workplace.shared.find(job.network) {
@@ -262,8 +262,8 @@ impl<S: Shelf + Drop, H: Wait + Drop> Worker<S, H> {
     /// Puts a job behind the others, and lets other threads go on. If it has no place there, it is served.
     fn put_off<R: Wait, G: Gate>(&mut self, workplace: &Workplace<'_, S, H, R, G>, job: Job)
         requires order { IsNumbered workplace.now.shared.now.numbers.items workplace.now.shared.now.cells.items }
-        requires ready { IsReady workplace.now.shared.now.cells.items workplace.now.shared.now.queue self.old }
-        ensures ready { IsReady workplace.now.shared.now.cells.items workplace.now.shared.now.queue self.new }
+        requires ready { IsReadyWorker workplace.now.shared.now.cells.items workplace.now.shared.now.queue self.old }
+        ensures ready { IsReadyWorker workplace.now.shared.now.cells.items workplace.now.shared.now.queue self.new }
         ensures kept { KeepsSums workplace.now.shared.now.cells.items (job ∷ []) self.old self.new }
     {
         match self.put_back(workplace.rt, workplace.shared, job) {
@@ -279,8 +279,8 @@ impl<S: Shelf + Drop, H: Wait + Drop> Worker<S, H> {
         job: Job,
     )
         requires order { IsNumbered workplace.now.shared.now.numbers.items workplace.now.shared.now.cells.items }
-        requires ready { IsReady workplace.now.shared.now.cells.items workplace.now.shared.now.queue self.old }
-        ensures ready { IsReady workplace.now.shared.now.cells.items workplace.now.shared.now.queue self.new }
+        requires ready { IsReadyWorker workplace.now.shared.now.cells.items workplace.now.shared.now.queue self.old }
+        ensures ready { IsReadyWorker workplace.now.shared.now.cells.items workplace.now.shared.now.queue self.new }
         ensures kept { KeepsSums workplace.now.shared.now.cells.items (job ∷ []) self.old self.new }
     {
         match self.try_serve(workplace, job) {
@@ -292,8 +292,8 @@ impl<S: Shelf + Drop, H: Wait + Drop> Worker<S, H> {
     /// Takes and serves jobs until it finds the queue empty.
     pub(crate) fn work<R: Wait, G: Gate>(&mut self, workplace: &Workplace<'_, S, H, R, G>)
         requires order { IsNumbered workplace.now.shared.now.numbers.items workplace.now.shared.now.cells.items }
-        requires ready { IsReady workplace.now.shared.now.cells.items workplace.now.shared.now.queue self.old }
-        ensures ready { IsReady workplace.now.shared.now.cells.items workplace.now.shared.now.queue self.new }
+        requires ready { IsReadyWorker workplace.now.shared.now.cells.items workplace.now.shared.now.queue self.old }
+        ensures ready { IsReadyWorker workplace.now.shared.now.cells.items workplace.now.shared.now.queue self.new }
         ensures kept { KeepsSums workplace.now.shared.now.cells.items [] self.old self.new }
     {
         for _ in workplace.rt.forever() {
@@ -310,8 +310,8 @@ impl<S: Shelf + Drop, H: Wait + Drop> Worker<S, H> {
         mut jobs: Vec<Job>,
     )
         requires order { IsNumbered workplace.now.shared.now.numbers.items workplace.now.shared.now.cells.items }
-        requires ready { IsReady workplace.now.shared.now.cells.items workplace.now.shared.now.queue self.old }
-        ensures ready { IsReady workplace.now.shared.now.cells.items workplace.now.shared.now.queue self.new }
+        requires ready { IsReadyWorker workplace.now.shared.now.cells.items workplace.now.shared.now.queue self.old }
+        ensures ready { IsReadyWorker workplace.now.shared.now.cells.items workplace.now.shared.now.queue self.new }
         ensures kept { KeepsSums workplace.now.shared.now.cells.items jobs.items self.old self.new }
     {
         while let Some(job) = jobs.pop() {

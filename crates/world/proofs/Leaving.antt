@@ -1,19 +1,17 @@
 -- A journal leaves.
-use Rattle.std.proofs.Common.{◌≡◌, ◌∙◌, ◌<◌, ◌≤◌, ◌+◌, ◌==◌, ℕ, zero, suc, Bool, true, false, not, List, [], ◌∷◌, ◌++◌, take, drop, length, get_or, filter, map, Option, Some, None, option_map, if◌then◌else◌, refl, sym, ap, ap₂, subst, arith}
+use Rattle.std.proofs.Common.{◌≡◌, ◌∙◌, ◌<◌, ◌≤◌, ◌+◌, ◌==◌, ℕ, suc, Bool, true, false, not, List, [], ◌∷◌, ◌++◌, take, drop, length, get_or, filter, map, Option, Some, None, option_map, if◌then◌else◌, refl, sym, ap, ap₂, subst, arith}
 use Rattle.std.specs.List.{remove}
 use Rattle.std.proofs.lemmas.Bool.{eqb-true}
 use Rattle.std.proofs.lemmas.Bool.Decides.{nat_tests}
 use Rattle.std.proofs.lemmas.List.{map-append, take-map, drop-map}
 use Rattle.std.proofs.lemmas.List.Edits.{length-remove}
 use Rattle.std.proofs.lemmas.List.Quantifiers.{all_pairs_remove}
-use Rattle.types.specs.declared.event.Event.{Event}
 use Rattle.protocol.specs.Sets.{IsAscending}
-use Rattle.protocol.specs.Hosts.{Config, Entry, History, entries, journal, new_net, steps_of}
-use Rattle.protocol.proofs.Runs.Hosts.{steps_to}
+use Rattle.protocol.specs.Hosts.{Config, History, entries, journal, new_net}
 use Rattle.network.specs.Decoding.{reading}
 use Rattle.configuration.specs.Configs.{index_in}
 use Rattle.hoststep.specs.Logs.{Log}
-use Rattle.world.specs.Worlds.{AreByNumber, AreJournalsOf, log_at, logs_without, numbers_of, without_network}
+use Rattle.world.specs.Worlds.{AreByNumber, AreJournalsOf, history_without, log_at, logs_without, numbers_of}
 use Rattle.world.proofs.Histories.{history-journal, others-left}
 
 -- ---- by place
@@ -110,15 +108,15 @@ configs-left g (l ∷ ls) = go (l.config.number == g) (configs-left g ls)
     go true ih = ih
     go false ih = ap (λ (cs : List Config). l.config ∷ cs) ih
 
-pub history-left : (h : History) (ls : List Log) (g : ℕ) → AreJournalsOf h ls → AreJournalsOf (without_network g h) (logs_without g ls)
+pub history-left : (h : History) (ls : List Log) (g : ℕ) → AreJournalsOf h ls → AreJournalsOf (history_without g h) (logs_without g ls)
 history-left h ls g own_is = record { configs = configs-are; entries = λ j m found. each j m found (g == j) refl }
   where
     configs-are : map (λ k. k.config) (logs_without g ls) ≡ filter (λ c. not (c.number == g)) h.configs
     configs-are = configs-left g ls ∙ ap (λ (cs : List Config). filter (λ c. not (c.number == g)) cs) own_is.configs
 
-    each : (j : ℕ) (m : Log) → log_at (logs_without g ls) j ≡ Some m → (b : Bool) → (g == j) ≡ b → m.entries ≡ entries reading (without_network g h) j
+    each : (j : ℕ) (m : Log) → log_at (logs_without g ls) j ≡ Some m → (b : Bool) → (g == j) ≡ b → m.entries ≡ entries reading (history_without g h) j
     each j m found true y = absurd (let none : None ≡ Some m = sym (at-left g ls j ∙ ap (λ b. if b then None else log_at ls j) y) ∙ found in cc)
     each j m found false y =
         let at : log_at ls j ≡ Some m = sym (at-left g ls j ∙ ap (λ b. if b then None else log_at ls j) y) ∙ found in
         own_is.entries j m at ∙ history-journal h ls j m own_is.configs at ∙ ap (journal (new_net m.config)) (sym (others-left g j h.calls y))
-        ∙ sym (history-journal (without_network g h) (logs_without g ls) j m configs-are found)
+        ∙ sym (history-journal (history_without g h) (logs_without g ls) j m configs-are found)

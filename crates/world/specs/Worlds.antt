@@ -77,8 +77,8 @@ with_history_of c own h = record h {
 }
 
 -- a history where a network is not there, without the events that named it
-abbrev pub without_network : ℕ → History → History
-without_network g h = record {
+abbrev pub history_without : ℕ → History → History
+history_without g h = record {
   configs = filter (λ c. not (c.number == g)) h.configs;
   calls = filter (λ x. not (x.0 == g)) h.calls;
 }

@@ -3,7 +3,7 @@
 ghost use Rattle.std.specs.Prelude.{◌≡◌, ◌<◌, ◌≢◌, [], Err, IfErr, None, Ok, OnErr, OnOk, Some, ◌∷◌, length, option_map};
 ghost use Rattle.protocol.specs.Hosts.{History};
 ghost use Rattle.types.specs.declared.event.Refusal.TheVariants.{NoMemory};
-ghost use Rattle.world.specs.Worlds.{IsAnswered, IsNotAdded, IsPlaceOf, AreJournalsOf, with_history_of, and_then, with_new_network, without_network, log_at, logs_with, logs_without};
+ghost use Rattle.world.specs.Worlds.{IsAnswered, IsNotAdded, IsPlaceOf, AreJournalsOf, with_history_of, and_then, with_new_network, history_without, log_at, logs_with, logs_without};
 
 use configuration::NetConfig;
 use envstore::Shelf;
@@ -117,7 +117,7 @@ impl<S: Shelf> World<S> {
     pub fn remove(&mut self, number: u32) -> Option<Journal<S>>
         ensures which { result ≡ log_at self.old number }
         ensures rest { self.new ≡ logs_without number self.old }
-        ensures history { (h : History) → AreJournalsOf h self.old → AreJournalsOf (without_network number h) self.new }
+        ensures history { (h : History) → AreJournalsOf h self.old → AreJournalsOf (history_without number h) self.new }
     {
         match self.place(number) {
             Ok(at) => Some(self.take_at(at, number)),

@@ -1,11 +1,11 @@
-//! What the seats of a cell do.
+//! How a cell is opened and closed, and what its seats do.
 
 ghost use Rattle.std.specs.Prelude.{◌≡◌, ◌≤◌, ◌<◌, ◌↔◌, false, true, length, IfOk, IfErr, IfSome, OnOk, Err, ℕ, IsTrue, map, replicate, []};
 ghost use Rattle.std.specs.List.{All};
 ghost use mathlib.Core.List.{IsPrefix};
 ghost use Rattle.crossbeam_queue.specs.Passes.{view, IsSamePass, IsPassOf};
 ghost use Rattle.cells.specs.declared.refusal.CellRefusal.TheVariants.{Closed};
-ghost use Rattle.cells.specs.Cells.{AllFresh, IsApplied, IsDenial, IsSameButSeen, IsSeatOf, IsStopped};
+ghost use Rattle.cells.specs.Cells.{AllFresh, HasGainedReceipt, IsDenial, IsSameButSeen, IsSeatOf, IsStopped};
 ghost use Rattle.cells.specs.Closing.{AllSeats, HasNumber, ended_sight, Gathered, IsOneHistory};
 ghost use Rattle.cells.specs.Publishing.{IsToldBut, decisions_known};
 ghost use Rattle.cells.specs.Rule.{closer_of, note_of, with_note, IsKnownAtEnd};
@@ -250,7 +250,7 @@ impl<S: Shelf + Drop, H: Wait + Drop> Cell<S, H> {
         ensures number { seat.new.me.number ≡ seat.old.me.number }
         ensures seen { IsPrefix seat.old.me.seen seat.new.me.seen }
         ensures lasting { seat.old.me.stopped ≡ true → seat.new.me.stopped ≡ true }
-        ensures ok { OnOk result (IsApplied self.now event seat.old seat.new) }
+        ensures ok { OnOk result (HasGainedReceipt self.now event seat.old seat.new) }
         ensures err { IfErr result (λ r. IsDenial event r seat.old seat.new) }
         ensures refusal { IfErr result (IsWhy self.now.config seat.new.me.seen seat.new.me.stopped event) }
         ensures closed { (result ≡ Err Closed) ↔ (seat.new.me.stopped ≡ true) }
@@ -280,7 +280,7 @@ impl<S: Shelf + Drop, H: Wait + Drop> Cell<S, H> {
         ensures number { seat.new.me.number ≡ seat.old.me.number }
         ensures seen { IsPrefix seat.old.me.seen seat.new.me.seen }
         ensures lasting { seat.old.me.stopped ≡ true → seat.new.me.stopped ≡ true }
-        ensures ok { IfOk result (λ a. OnOk a (IsApplied self.now event seat.old seat.new)) }
+        ensures ok { IfOk result (λ a. OnOk a (HasGainedReceipt self.now event seat.old seat.new)) }
         ensures err { IfOk result (λ a. IfErr a (λ r. IsDenial event r seat.old seat.new)) }
         ensures refusal { IfOk result (λ a. IfErr a (IsWhy self.now.config seat.new.me.seen seat.new.me.stopped event)) }
         ensures closed { IfOk result (λ a. (a ≡ Err Closed) ↔ (seat.new.me.stopped ≡ true)) }

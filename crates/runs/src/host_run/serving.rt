@@ -7,7 +7,7 @@ ghost use Rattle.types.specs.declared.event.Out.{Out};
 ghost use Rattle.types.specs.declared.event.Refusal.{Refusal};
 ghost use Rattle.world.specs.Worlds.{items_of};
 ghost use Rattle.runs.specs.Followed.{names_at};
-ghost use Rattle.runs.specs.ServedNetworks.{AllIsHeard, AreAllDelivered, AreDelivered, AreTold, IsHeardByOthers, IsHeardOf, IsServed};
+ghost use Rattle.runs.specs.ServedNetworks.{AllIsHeard, AreAllDelivered, AreDelivered, HaveOthersHeard, IsEventServed, IsHeardByOthers, IsHeardOf};
 ghost use Rattle.runs.specs.Settling.{handed_over};
 
 use super::HostRun;
@@ -18,15 +18,15 @@ use std::alloc::{AllocError, Global};
 use types::{Bytes, Event, NodeId, Out, Refusal};
 
 impl HostRun {
-    /// Puts an event to the network of a number. Where that is served, the other nodes hear what it gave out. An error
-    /// says that memory is short, maybe for a hearing.
+    /// Puts an event to the network of a number. If that is served, the other nodes hear what it gave out. An error
+    /// says that it is out of memory, maybe for a hearing.
     pub(super) fn serve(
         &mut self,
         alloc: Global,
         number: u32,
         event: Event,
     ) -> Result<Result<Vec<Out>, Refusal>, AllocError>
-        ensures { IfOk result (λ answer. IsServed number event answer self.old self.new) }
+        ensures { IfOk result (λ answer. IsEventServed number event answer self.old self.new) }
     {
         let answer = self.apply(number, event)?;
         if !self.nets.is_served(number) {
@@ -91,7 +91,7 @@ impl HostRun {
         names: &[NodeId],
         emission: &Emission,
     ) -> Result<(), AllocError>
-        ensures { OnOk result (AreTold number slot emission.now names.now self.old self.new) }
+        ensures { OnOk result (HaveOthersHeard number slot emission.now names.now self.old self.new) }
     {
         for name in names {
             let _refused = self.tell(number, slot, *name, emission)?;
@@ -99,7 +99,8 @@ impl HostRun {
         Ok(())
     }
 
-    /// A node hears an emission, unless it is its own. It may refuse it, but for want of memory, and answers the refusal.
+    /// A node hears an emission, unless it is its own; answers the refusal. One for want of memory is an error: of a
+    /// hearing nothing is printed, so nobody would be told that what later lines show lacks it.
     fn tell(
         &mut self,
         number: u32,
@@ -107,14 +108,15 @@ impl HostRun {
         node: NodeId,
         emission: &Emission,
     ) -> Result<Option<Refusal>, AllocError>
-        ensures { OnOk result (AreTold number slot emission.now (node ∷ []) self.old self.new) }
+        ensures { OnOk result (HaveOthersHeard number slot emission.now (node ∷ []) self.old self.new) }
     {
         let ended = self.hear(number, slot, node, emission)?;
         but_for_memory(ended)?;
         Ok(ended)
     }
 
-    /// Bytes come to all nodes of the network of a number, if it is there: what is answered.
+    /// Bytes come to all nodes of the network of a number: what each answers, in the order of names. If it is not
+    /// there, that refusal is the one answer.
     pub(super) fn deliver_to_all(
         &mut self,
         alloc: Global,
@@ -135,8 +137,8 @@ impl HostRun {
         Ok(answers)
     }
 
-    /// Bytes come to each of these nodes, one after the other, and what is answered is added, in order. An error says that
-    /// memory is short; then they came to some.
+    /// Bytes come to each of these nodes, one after the other, and what is answered is added, in order. An error says
+    /// that it is out of memory; then they may have come to none of them, to some or to all.
     fn deliver_each(
         &mut self,
         alloc: Global,
@@ -163,7 +165,7 @@ impl HostRun {
         node: NodeId,
         bytes: &Bytes,
     ) -> Result<Result<Vec<Out>, Refusal>, AllocError>
-        ensures { IfOk result (λ answer. IsServed number (Deliver node bytes.now) answer self.old self.new) }
+        ensures { IfOk result (λ answer. IsEventServed number (Deliver node bytes.now) answer self.old self.new) }
     {
         let bytes = bytes.try_copy(alloc)?;
         self.serve(alloc, number, Event::Deliver { node, bytes })

@@ -2,7 +2,7 @@ use Rattle.std.proofs.Common.{◌∙◌, sym, subst, ℕ, take, ◌+◌, arith, 
 use Rattle.std.proofs.lemmas.Fn.{says_at}
 use Rattle.std.proofs.lemmas.List.{length-map}
 use Rattle.std.specs.Fn.{FnReturnsAt}
-use Rattle.closure.specs.Announcing.{names_of}
+use Rattle.closure.specs.Announcing.{member_names}
 use Rattle.closure.proofs.LeastNames.{IsLeastSoFar, least_stays, least_moves}
 use Rattle.closure.proofs.Places.{past_end}
 use Rattle.closure.proofs.least.least_failing.Goals as goal
@@ -12,7 +12,7 @@ pub loop-place-preserved : goal.loop-place-preserved
 loop-place-preserved g c =
     let Bad = λ (u : ℕ). FnReturnsAt g.F.Fn c.args.test u false in
     let Good = λ (u : ℕ). FnReturnsAt g.F.Fn c.args.test u true in
-    let list = names_of c.args.members.now in
+    let list = member_names c.args.members.now in
     elim c.match-name.branch [
       | in-Some+then-not-test w ↦
           subst (λ o. IsLeastSoFar Bad Good (take (c.loop-place.place + 1) list) o) (sym (w.least-is ∙ w.lesser-least.ensures))

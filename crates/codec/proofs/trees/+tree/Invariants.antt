@@ -1,7 +1,7 @@
 use Rattle.std.proofs.Common.{◌≡◌, ◌+◌, ◌-◌, ◌*◌, ◌++◌}
 use Rattle.types.specs.Shape.{members_of}
 use Rattle.types.specs.Trees.{names_in}
-use Rattle.codec.specs.Reading.{members_at, inner_at}
+use Rattle.codec.specs.Reading.{member_list_at, inner_at}
 use Rattle.codec.proofs.MemberLoop.{with_front}
 use Rattle.codec.proofs.trees.+tree.Given as goal
 
@@ -16,6 +16,6 @@ decreases-read_set l = 3 * l.levels + 2
 
 abbrev pub invariant-read_members-loop : goal.invariant-read_members-loop
 invariant-read_members-loop l = record {
-  read : with_front (members_of l.members.items) (members_at (inner_at l.levels) (l.count - l.counter) l.seen l.reader) ≡ members_at (inner_at l.levels) l.count l.fn.seen l.fn.reader;
+  read : with_front (members_of l.members.items) (member_list_at (inner_at l.levels) (l.count - l.counter) l.seen l.reader) ≡ member_list_at (inner_at l.levels) l.count l.fn.seen l.fn.reader;
   names : l.seen ≡ l.fn.seen ++ names_in (members_of l.members.items);
 }

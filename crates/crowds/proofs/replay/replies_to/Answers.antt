@@ -5,7 +5,7 @@ use Rattle.types.specs.declared.event.Event.{Event}
 use Rattle.protocol.specs.Hosts.{Config}
 use Rattle.protocol.specs.Submissions.{replied_to}
 use Rattle.hoststep.specs.Logs.{Log}
-use Rattle.crowds.specs.Replies.{reply_of}
+use Rattle.crowds.specs.Replies.{reply_of_answer}
 use Rattle.crowds.specs.Submitted.{concerns_members}
 use Rattle.crowds.proofs.RunsOf.{answers_stay, log_at_first, log_next, log_stays, mark_at, replied_at_first, replied_in_all, replies_next}
 use Rattle.crowds.proofs.replay.replies_to.Goals as goal
@@ -14,7 +14,7 @@ use Rattle.crowds.proofs.replay.replies_to.Goals.{then-number-net+in_ok-reply+in
 pub loop-place-init : goal.loop-place-init
 loop-place-init c = record {
   journal = c.new-journal.ensures ∙ (ap {B = Log} (λ (x : Config). record { config = x; entries = [] }) c.in_ok-try_copy.ensures ∙ sym (log_at_first c.args.submission.now c.args.config.now c.args.net));
-  replies = λ R i m. ap (map reply_of) c.new-replies.ensures.items ∙ sym (replied_at_first c.args.submission.now c.args.net R i);
+  replies = λ R i m. ap (map reply_of_answer) c.new-replies.ensures.items ∙ sym (replied_at_first c.args.submission.now c.args.net R i);
 }
 
 pub loop-place-preserved : goal.loop-place-preserved
@@ -30,7 +30,7 @@ loop-place-preserved c =
           record {
             journal = w.journal-is ∙ log_next h c.args.config.now c.args.net c.requires.declared k x there o c.loop-place.journal c.loop-place.invariant.journal w.in_ok-reply.ensures;
             replies = λ R i m.
-                ap (λ v. map reply_of v.items) w.replies-is
+                ap (λ v. map reply_of_answer v.items) w.replies-is
                 ∙ replies_next h c.args.config.now c.args.net c.requires.declared k x there o c.loop-place.journal c.loop-place.invariant.journal w.in_ok-reply.ensures R i w.is_marked-concerns_members.result
                 (mark_at (concerns_members R i c.args.net) c.args.marks.now h.calls k x w.is_marked-concerns_members.result m there w.is_marked-concerns_members.ensures) _ _ (c.loop-place.invariant.replies R i m) w.in_ok-keep.ensures;
           }
@@ -38,7 +38,7 @@ loop-place-preserved c =
           let o : (x.0 == c.args.net) ≡ false = grind (arith, nat_tests, w.if-number-net.false) in
           record {
             journal = w.journal-is ∙ (c.loop-place.invariant.journal ∙ log_stays h c.args.config.now c.args.net c.requires.declared k x there o);
-            replies = λ R i m. ap (λ v. map reply_of v.items) w.replies-is ∙ (c.loop-place.invariant.replies R i m ∙ ap (replied_to R i) (answers_stay h c.args.config.now c.args.net c.requires.declared k x there o));
+            replies = λ R i m. ap (λ v. map reply_of_answer v.items) w.replies-is ∙ (c.loop-place.invariant.replies R i m ∙ ap (replied_to R i) (answers_stay h c.args.config.now c.args.net c.requires.declared k x there o));
           }
     ]
 

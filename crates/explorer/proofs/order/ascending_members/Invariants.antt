@@ -1,6 +1,6 @@
 use Rattle.std.proofs.Common.{◌≡◌, take}
-use Rattle.closure.specs.Announcing.{names_of}
+use Rattle.closure.specs.Announcing.{member_names}
 use Rattle.explorer.proofs.order.ascending_members.Given as goal
 
 abbrev pub invariant-loop-place : goal.invariant-loop-place
-invariant-loop-place l = l.names.items ≡ take l.place (names_of l.members)
+invariant-loop-place l = l.names.items ≡ take l.place (member_names l.members)

@@ -6,7 +6,7 @@ use Rattle.types.proofs.Weights.{inner_weighs_less}
 use Rattle.protocol.specs.Sets.{among}
 use Rattle.flat_slices.specs.declared.flat_set.FlatMember.{FlatMember}
 use Rattle.flat_slices.specs.declared.flat_set.FlatMember.TheVariants.{Name, Inner}
-use Rattle.flat_slices.specs.Numbers.{Level, numbers_of, levels_in, place_of}
+use Rattle.flat_slices.specs.Numbers.{Level, flat_members, flat_levels, place_of_name}
 use Rattle.flat_slices.proofs.FlatteningLaws.{next_node, next_set, node_within, set_within, node_step, set_step, all_pushed}
 use Rattle.flat_slices.proofs.form.+push_sets.Goals as goal
 use Rattle.flat_slices.proofs.form.+push_sets.Goals.{in-Node+in_ok-push-in-Node, in-Set+in_ok-push-in-Set+in_ok-push_sets-in-Set}
@@ -42,12 +42,12 @@ loop-member-preserved t c =
     let number = c.len-number.result in
     let q = c.args.set.now in
     let kept : Level = record { threshold = q.threshold; members = [] } in
-    let all = numbers_of us (number + 1) q.members in
-    let every = c.args.sets.now.items ++ kept ∷ levels_in us (number + 1) q.members in
-    let after : (length sets ≤ length added) × ((more ++ numbers_of us (length added) (members_of (drop (i + 1) tree)) ≡ all) × (added ++ levels_in us (length added) (members_of (drop (i + 1) tree)) ≡ every)) = elim c.match-member.branch [
+    let all = flat_members us (number + 1) q.members in
+    let every = c.args.sets.now.items ++ kept ∷ flat_levels us (number + 1) q.members in
+    let after : (length sets ≤ length added) × ((more ++ flat_members us (length added) (members_of (drop (i + 1) tree)) ≡ all) × (added ++ flat_levels us (length added) (members_of (drop (i + 1) tree)) ≡ every)) = elim c.match-member.branch [
       | in-Node+in_ok-push-in-Node w ↦
           let next = next_node tree i c.member-item.result w.in-Node.node c.loop-member-test.true c.member-item.is w.in-Node.is in
-          let ms_are : more ≡ ms ++ Name (place_of us w.in-Node.node) ∷ [] =
+          let ms_are : more ≡ ms ++ Name (place_of_name us w.in-Node.node) ∷ [] =
           ap (λ (v : Vec FlatMember Global). v.items) w.members-is ∙ (w.in_ok-push-in-Node.ensures.items ∙ ap (λ p. ms ++ Name p ∷ []) w.place_of.ensures) in
           let sets_are : added ≡ sets = ap (λ (v : Vec Level Global). v.items) w.sets-is in
           node_step us tree i w.in-Node.node all every ms more sets added next ms_are sets_are before.numbers before.pushed

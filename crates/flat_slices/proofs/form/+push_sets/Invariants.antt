@@ -1,6 +1,6 @@
 use Rattle.std.proofs.Common.{◌≡◌, ◌+◌, ◌<◌, [], ◌∷◌, ◌++◌, length, drop}
 use Rattle.types.specs.Shape.{members_of}
-use Rattle.flat_slices.specs.Numbers.{numbers_of, levels_in}
+use Rattle.flat_slices.specs.Numbers.{flat_members, flat_levels}
 use Rattle.flat_slices.proofs.form.+push_sets.Given as goal
 
 abbrev pub decreases-push_sets : goal.decreases-push_sets
@@ -11,8 +11,8 @@ invariant-loop-member l = record {
   shape : members_of l.tree ≡ l.set.members;
   number : l.number ≡ length l.fn.sets.items;
   room : l.number < length l.sets.items;
-  numbers : l.members.items ++ numbers_of l.names (length l.sets.items) (members_of (drop l.member-index l.tree))
-      ≡ numbers_of l.names (l.number + 1) l.set.members;
-  pushed : l.sets.items ++ levels_in l.names (length l.sets.items) (members_of (drop l.member-index l.tree))
-      ≡ l.fn.sets.items ++ record { threshold = l.set.threshold; members = [] } ∷ levels_in l.names (l.number + 1) l.set.members;
+  numbers : l.members.items ++ flat_members l.names (length l.sets.items) (members_of (drop l.member-index l.tree))
+      ≡ flat_members l.names (l.number + 1) l.set.members;
+  pushed : l.sets.items ++ flat_levels l.names (length l.sets.items) (members_of (drop l.member-index l.tree))
+      ≡ l.fn.sets.items ++ record { threshold = l.set.threshold; members = [] } ∷ flat_levels l.names (l.number + 1) l.set.members;
 }

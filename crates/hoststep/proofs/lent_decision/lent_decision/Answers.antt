@@ -1,10 +1,10 @@
 use Rattle.std.proofs.Common.{ℕ, Option, ap, ◌∙◌}
-use Rattle.slot.specs.Filings.{outs_of}
-use Rattle.hoststep.specs.Deciding.{decided_at, values_in}
+use Rattle.slot.specs.Filings.{whole_outs}
+use Rattle.hoststep.specs.Deciding.{decided_at, externalized_values}
 use Rattle.hoststep.proofs.DecidedOnce.{first-is-all}
 use Rattle.hoststep.proofs.lent_decision.lent_decision.Goals as goal
 
 pub returns : goal.returns
 returns g c =
     let is = first-is-all _ _ c.first_value.ensures c.requires.once in
-    c.decision_at.ensures ∙ ap (decided_at c.slot_and_node_of.result) is ∙ ap (λ (at : Option (ℕ × ℕ)). decided_at at (values_in (outs_of c.args.outs.now))) c.slot_and_node_of.ensures
+    c.decision_at.ensures ∙ ap (decided_at c.slot_and_node_of.result) is ∙ ap (λ (at : Option (ℕ × ℕ)). decided_at at (externalized_values (whole_outs c.args.outs.now))) c.slot_and_node_of.ensures

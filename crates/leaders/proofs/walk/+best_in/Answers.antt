@@ -3,7 +3,7 @@ use Rattle.types.specs.Trees.{weight_of, depth_of, member_count, HaveThresholds}
 use Rattle.types.proofs.Weights.{inner_weighs_less}
 use Rattle.slices.proofs.MemberLaws.{member_count_is, inner_keeps_rules}
 use Rattle.protocol.specs.Weights.{Fraction}
-use Rattle.leaders.specs.Walk.{HasRoom}
+use Rattle.leaders.specs.Walk.{HasRoomForLevels}
 use Rattle.leaders.proofs.Room.{has_room, is_small}
 use Rattle.leaders.proofs.walk.+best_in.Goals as goal
 
@@ -36,4 +36,4 @@ best_in-best-requires t c =
     (subst HaveThresholds (sym c.members-members.ensures) c.requires.inner_sets) in
     let d = ap depth_of c.members-members.ensures in
     let room = has_room set.threshold (member_count set.members) (depth_of set.members) (depth_of c.in-Set.inner.members) c.args.outer (omega arith) (omega arith) (omega (arith, r.2, d)) c.requires.room in
-    (omega (arith, w, e, c.decreases), (r.0, (r.1, (subst (λ (f : Fraction). HasRoom f (depth_of c.in-Set.inner.members)) (sym c.loop-member.invariant.weighs) room, c.loop-member.invariant.priority))))
+    (omega (arith, w, e, c.decreases), (r.0, (r.1, (subst (λ (f : Fraction). HasRoomForLevels f (depth_of c.in-Set.inner.members)) (sym c.loop-member.invariant.weighs) room, c.loop-member.invariant.priority))))

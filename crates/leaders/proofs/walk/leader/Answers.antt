@@ -4,7 +4,7 @@ use Rattle.protocol.specs.Weights.{Fraction}
 use Rattle.slices.specs.Weighing.{part_of, whole}
 use Rattle.leaders.specs.Leaders.{IsLeader}
 use Rattle.protocol.specs.Leaders.{beats}
-use Rattle.leaders.specs.Walk.{best_among, is_drawn, HasRoom}
+use Rattle.leaders.specs.Walk.{best_among, is_drawn, HasRoomForLevels}
 use Rattle.leaders.proofs.Room.{whole_has_room}
 use Rattle.leaders.proofs.Choice.{leads}
 use Rattle.leaders.proofs.LeaderLaws.{known, leader_is}
@@ -13,7 +13,7 @@ use Rattle.leaders.proofs.walk.leader.Goals as goal
 pub best_in-requires-clause-room : goal.best_in-requires-clause-room
 best_in-requires-clause-room c =
     let levels = ap (λ (q : Slices). depth_of q.members) c.set.ensures.value in
-    subst (λ (f : Fraction). HasRoom f (depth_of c.set.result.now.members)) (sym c.one.ensures)
+    subst (λ (f : Fraction). HasRoomForLevels f (depth_of c.set.result.now.members)) (sym c.one.ensures)
     (whole_has_room (depth_of c.set.result.now.members) (omega (arith, levels, c.set.ensures.rules.levels)))
 
 pub returns-clause-best : goal.returns-clause-best

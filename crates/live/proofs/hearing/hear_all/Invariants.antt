@@ -1,13 +1,13 @@
 use Rattle.std.proofs.Common.{◌≡◌, ◌^◌, ◌-◌, ◌++◌, List, drop}
 use Rattle.network.specs.Standing.{machine_of}
-use Rattle.live.specs.Serving.{Telling}
+use Rattle.live.specs.Serving.{ToldReply}
 use Rattle.live.specs.Telling.{tellings_of}
 use Rattle.live.proofs.Leading.{ComesTo}
 use Rattle.live.proofs.hearing.hear_all.Given as goal
 
 abbrev pub invariant-loop-at : goal.invariant-loop-at
 invariant-loop-at g l =
-    (told : List Telling) × (tellings_of l.following.told.items ≡ tellings_of l.fn.following.told.items ++ told)
+    (told : List ToldReply) × (tellings_of l.following.told.items ≡ tellings_of l.fn.following.told.items ++ told)
     × ComesTo l.slot l.names l.fn.following.emissions.items (machine_of l.fn.network) (drop l.at l.following.emissions.items) told (machine_of l.network)
     × (l.network.config ≡ l.fn.network.config)
 

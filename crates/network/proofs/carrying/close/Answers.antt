@@ -1,5 +1,5 @@
-use Rattle.network.proofs.Done.{lodged-less}
+use Rattle.network.proofs.Done.{archived-less}
 use Rattle.network.proofs.carrying.close.Goals as goal
 
-pub returns-clause-lodged : goal.returns-clause-lodged
-returns-clause-lodged g c = lodged-less c.args.archive.now c.args.slots.now c.close.new.self c.args.slot_at c.close.ensures c.requires.lodged
+pub returns-clause-archived : goal.returns-clause-archived
+returns-clause-archived g c = archived-less c.args.archive.now c.args.slots.now c.close.new.self c.args.slot_at c.close.ensures c.requires.archived

@@ -2,14 +2,14 @@ use Rattle.std.proofs.Common.{List, IfOk, sym, subst}
 use Rattle.types.specs.declared.event.NodeEvent.{NodeEvent}
 use Rattle.slot.specs.Filings.{event_of}
 use Rattle.network.specs.declared.plan.Deed.{Deed}
-use Rattle.network.specs.Deeds.{envelope_to_file, outs_after}
-use Rattle.network.specs.Doings.{IsAnswer, marks_after, slots_of}
-use Rattle.network.specs.Lodgings.{AreLodged, Lodgings}
+use Rattle.network.specs.Deeds.{envelope_to_file, outs_of_deed}
+use Rattle.network.specs.Doings.{IsDeedAnswer, marks_after, slots_of}
+use Rattle.network.specs.FiledSlots.{AreSlotsFiled, FiledSlot}
 use Rattle.network.proofs.SlotPlaceLaws.{indexed-acted}
 use Rattle.network.proofs.carrying.perform.Goals as goal
 
-pub act-requires-clause-lodged : goal.act-requires-clause-lodged
-act-requires-clause-lodged g c = subst (λ (ss : List Lodgings). AreLodged c.args.archive.now ss) (sym c.slots.view_is) c.requires.lodged
+pub act-requires-clause-archived : goal.act-requires-clause-archived
+act-requires-clause-archived g c = subst (λ (ss : List FiledSlot). AreSlotsFiled c.args.archive.now ss) (sym c.slots.view_is) c.requires.archived
 
 pub invariant_of-slots : goal.invariant_of-slots
 invariant_of-slots g c =
@@ -18,8 +18,8 @@ invariant_of-slots g c =
     indexed-acted c.act.result c.args.terms.now.charge c.in-Act.node_at c.in-Act.slot_at e old c.act.new.slots.items
     c.slots.inside.index c.act.ensures.done c.act.ensures.err c.slots.invariant
 
-pub hand-requires-clause-lodged : goal.hand-requires-clause-lodged
-hand-requires-clause-lodged g c = subst (λ (ss : List Lodgings). AreLodged c.args.archive.now ss) (sym c.slots-in-Hand.view_is) c.requires.lodged
+pub hand-requires-clause-archived : goal.hand-requires-clause-archived
+hand-requires-clause-archived g c = subst (λ (ss : List FiledSlot). AreSlotsFiled c.args.archive.now ss) (sym c.slots-in-Hand.view_is) c.requires.archived
 
 pub invariant_of-slots-in-Hand : goal.invariant_of-slots-in-Hand
 invariant_of-slots-in-Hand g c =
@@ -31,9 +31,9 @@ invariant_of-slots-in-Hand g c =
 pub returns-in-Open-clause-answer : goal.returns-in-Open-clause-answer
 returns-in-Open-clause-answer g c =
     let before = slots_of c.args.slots.now in
-    subst (λ (d : Deed). IfOk c.open.result (IsAnswer (outs_after before d) (marks_after before d) (envelope_to_file d) c.args.terms.now.copies c.args.archive.now)) (sym c.in-Open.is) (c.open.ensures.answer c.args.terms.now.copies)
+    subst (λ (d : Deed). IfOk c.open.result (IsDeedAnswer (outs_of_deed before d) (marks_after before d) (envelope_to_file d) c.args.terms.now.copies c.args.archive.now)) (sym c.in-Open.is) (c.open.ensures.answer c.args.terms.now.copies)
 
 pub returns-in-Close-clause-answer : goal.returns-in-Close-clause-answer
 returns-in-Close-clause-answer g c =
     let before = slots_of c.args.slots.now in
-    subst (λ (d : Deed). IsAnswer (outs_after before d) (marks_after before d) (envelope_to_file d) c.args.terms.now.copies c.args.archive.now c.close.result) (sym c.in-Close.is) (c.close.ensures.answer c.args.terms.now.copies)
+    subst (λ (d : Deed). IsDeedAnswer (outs_of_deed before d) (marks_after before d) (envelope_to_file d) c.args.terms.now.copies c.args.archive.now c.close.result) (sym c.in-Close.is) (c.close.ensures.answer c.args.terms.now.copies)

@@ -1,10 +1,10 @@
 use Rattle.std.proofs.Common.{◌+◌, ◌∷◌, [], length, subst}
 use Rattle.protocol.specs.Networks.{emissions}
-use Rattle.slot.specs.Filings.{outs_of}
+use Rattle.slot.specs.Filings.{whole_outs}
 use Rattle.slot.specs.declared.filed.FiledOut.{FiledOut}
-use Rattle.network.specs.Lodgings.{HaveRoom}
+use Rattle.network.specs.FiledSlots.{HaveRoom}
 use Rattle.network.proofs.emission_log.log_out.Goals as goal
 
 pub returns-in-Emit-clause-room : goal.returns-in-Emit-clause-room
 returns-in-Emit-clause-room g c =
-    λ count h. c.log_emission.ensures.room count (subst (λ (o : FiledOut). HaveRoom (length (emissions (outs_of (o ∷ []))) + count) c.args.emitted.now c.args.places.now c.args.marks.now) c.in-Emit.is h)
+    λ count h. c.log_emission.ensures.room count (subst (λ (o : FiledOut). HaveRoom (length (emissions (whole_outs (o ∷ []))) + count) c.args.emitted.now c.args.places.now c.args.marks.now) c.in-Emit.is h)

@@ -2,8 +2,8 @@ use Rattle.std.proofs.Common.{◌+◌, ◌++◌, ◌∷◌, [], length, drop, su
 use Rattle.envstore.specs.Archives.{sents_of}
 use Rattle.protocol.specs.Networks.{emissions}
 use Rattle.network.specs.Marks.{numbers_by_kind}
-use Rattle.slot.specs.Filings.{outs_of}
-use Rattle.network.specs.Lodgings.{HaveRoom}
+use Rattle.slot.specs.Filings.{whole_outs}
+use Rattle.network.specs.FiledSlots.{HaveRoom}
 use Rattle.network.proofs.NumberedOuts.{emitted-more, marks-more, fewer, room-for}
 use Rattle.network.proofs.emission_log.log_outs.Goals as goal
 
@@ -12,7 +12,7 @@ log_out-requires-clause-room g c =
     let l = c.loop-out in
     let outs = c.args.outs.now in
     let x = c.out-item.result in
-    room-for (length (emissions (outs_of (drop l.out-index outs)))) (length (emissions (outs_of (x ∷ [])))) (length (emissions (outs_of (drop (l.out-index + 1) outs)))) l.emitted l.places l.marks
+    room-for (length (emissions (whole_outs (drop l.out-index outs)))) (length (emissions (whole_outs (x ∷ [])))) (length (emissions (whole_outs (drop (l.out-index + 1) outs)))) l.emitted l.places l.marks
     (fewer outs l.out-index x c.loop-out-test.true c.out-item.is) l.invariant.room
 
 pub loop-out-preserved : goal.loop-out-preserved
@@ -22,9 +22,9 @@ loop-out-preserved g c =
     let outs = c.args.outs.now in
     let x = c.out-item.result in
     record {
-      emitted = emitted-more (sents_of l.emitted.items) (sents_of c.log_out.new.emitted.items) (sents_of c.args.emitted.now.items ++ emissions (outs_of outs)) outs l.out-index x c.loop-out-test.true c.out-item.is c.log_out.ensures.emitted v.emitted;
+      emitted = emitted-more (sents_of l.emitted.items) (sents_of c.log_out.new.emitted.items) (sents_of c.args.emitted.now.items ++ emissions (whole_outs outs)) outs l.out-index x c.loop-out-test.true c.out-item.is c.log_out.ensures.emitted v.emitted;
       places = c.log_out.ensures.places;
-      marks = marks-more (sents_of l.emitted.items) (sents_of c.log_out.new.emitted.items) l.marks.items c.log_out.new.marks.items (c.args.marks.now.items ++ numbers_by_kind (sents_of c.args.emitted.now.items) (emissions (outs_of outs))) outs l.out-index x c.loop-out-test.true c.out-item.is c.log_out.ensures.emitted c.log_out.ensures.marks v.marks;
-      room = c.log_out.ensures.room (length (emissions (outs_of (drop (l.out-index + 1) outs)))) (subst (λ n. HaveRoom n l.emitted l.places l.marks) (fewer outs l.out-index x c.loop-out-test.true c.out-item.is) v.room);
+      marks = marks-more (sents_of l.emitted.items) (sents_of c.log_out.new.emitted.items) l.marks.items c.log_out.new.marks.items (c.args.marks.now.items ++ numbers_by_kind (sents_of c.args.emitted.now.items) (emissions (whole_outs outs))) outs l.out-index x c.loop-out-test.true c.out-item.is c.log_out.ensures.emitted c.log_out.ensures.marks v.marks;
+      room = c.log_out.ensures.room (length (emissions (whole_outs (drop (l.out-index + 1) outs)))) (subst (λ n. HaveRoom n l.emitted l.places l.marks) (fewer outs l.out-index x c.loop-out-test.true c.out-item.is) v.room);
       filed = c.log_out.ensures.filed;
     }

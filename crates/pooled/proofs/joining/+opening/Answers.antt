@@ -3,7 +3,6 @@ use denote.Param.Send.{IsSend, IsSync, arg_send, param_send, sendable}
 use Rattle.std.proofs.Crossing.{crosses}
 use Rattle.std.proofs.Common.{rules, true}
 use Rattle.std.proofs.lemmas.Result.{IfOk-at_ok}
-use Rattle.workers.specs.NetSights.{Net}
 use Rattle.pooled.specs.Opening.{AreReady}
 use Rattle.pooled.specs.contracts.hosting.OpenNetwork as OpenNetwork
 use Rattle.pooled.proofs.Crossing.{answer_send, opened_send, unopened_send}

@@ -1,4 +1,4 @@
-use Rattle.std.proofs.Common.{[], ◌∙◌, arith, rules, zero-add}
+use Rattle.std.proofs.Common.{[], ◌∙◌, rules, zero-add}
 use Rattle.workers.proofs.Sums.{weigh-turned}
 use Rattle.workers.proofs.Worked.{empty}
 use Rattle.pooled.proofs.TurnLaws.{none_done, turn_more, turns_done}

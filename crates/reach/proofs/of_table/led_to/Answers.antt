@@ -1,5 +1,5 @@
 use Rattle.std.proofs.Common.{◌≡◌, ◌+◌, ◌∙◌, ℕ, List, length, ap, sym, subst, arith}
-use Rattle.reach.specs.Sweeps.{Swept, AreNoted, names_in_rows_of, unknown}
+use Rattle.reach.specs.Sweeps.{Swept, AreNamesNoted, names_in_rows_of, unknown}
 use Rattle.reach.specs.Widening.{AreLedTo}
 use Rattle.reach.proofs.Widening.{begins, goes_on, led_to, widening_bound}
 use Rattle.reach.proofs.of_table.led_to.Goals as goal
@@ -7,7 +7,7 @@ use Rattle.reach.proofs.of_table.led_to.Goals as goal
 pub loop-next-init : goal.loop-next-init
 loop-next-init g c =
     begins c.args.table.now c.args.known.now c.args.sender.now c.note_rows_of.new.sweep
-    (subst (λ (s : Swept). AreNoted s c.note_rows_of.new.sweep (unknown c.args.known.now (names_in_rows_of c.args.table.now c.args.sender.now))) c.new-sweep.ensures c.in_ok-note_rows_of.ensures)
+    (subst (λ (s : Swept). AreNamesNoted s c.note_rows_of.new.sweep (unknown c.args.known.now (names_in_rows_of c.args.table.now c.args.sender.now))) c.new-sweep.ensures c.in_ok-note_rows_of.ensures)
 
 pub loop-next-preserved : goal.loop-next-preserved
 loop-next-preserved g c =

@@ -1,6 +1,6 @@
 use Rattle.std.proofs.Common.{ap, refl}
 use Rattle.std.specs.Prelude.{map}
-use Rattle.scripts.specs.Runs.{Passes, Fails}
+use Rattle.scripts.specs.Runs.{Passes, LineFails}
 use Rattle.scripts.proofs.RunLaws.{told_line, refused_line}
 use Rattle.scripts.proofs.run.answer.Goals as goal
 
@@ -20,4 +20,4 @@ returns-in-Ok-None-clause-passes g c =
     Passes.skipped (found.skipped.0 refl)
 
 pub returns-in-Err-clause-fails : goal.returns-in-Err-clause-fails
-returns-in-Err-clause-fails g c e = Fails.no_fields (c.in-Err.ensures.bad cc)
+returns-in-Err-clause-fails g c e = LineFails.no_fields (c.in-Err.ensures.bad cc)

@@ -2,14 +2,14 @@ use Rattle.std.proofs.Common.{rules, arith, ◌≡◌, ◌∙◌, ◌+◌, ◌<�
 use Rattle.std.proofs.lemmas.List.{map-append}
 use Rattle.feed.specs.Served.{reply_of}
 use Rattle.shards.specs.Parts.{AreGathered}
-use Rattle.shards.specs.Sharded.{answers_of}
+use Rattle.shards.specs.Sharded.{waiting_answers}
 use Rattle.shards.specs.declared.shard.Shard.{Shard}
 use Rattle.shards.proofs.Loops.{GatheredSoFar, gathered_more, gathered_now}
 use Rattle.shards.proofs.ShardLaws.{answers_at, answers_set, same_hosts}
 use Rattle.shards.proofs.sharded_host.gather.Goals as goal
 
 pub returns-in_default-clause-gathered : goal.returns-in_default-clause-gathered
-returns-in_default-clause-gathered c = gathered_now c.args.places.now (answers_of c.args.shards.now) c.loop-place.place-index (answers_of c.loop-place.shards) (map reply_of c.loop-place.answers.items) c.loop-place.invariant.0
+returns-in_default-clause-gathered c = gathered_now c.args.places.now (waiting_answers c.args.shards.now) c.loop-place.place-index (waiting_answers c.loop-place.shards) (map reply_of c.loop-place.answers.items) c.loop-place.invariant.0
 
 pub returns-in_default-clause-hosts : goal.returns-in_default-clause-hosts
 returns-in_default-clause-hosts c =
@@ -20,8 +20,8 @@ returns-in_default-clause-hosts c =
 
 pub returns-in_default-push_back-clause-gathered : goal.returns-in_default-push_back-clause-gathered
 returns-in_default-push_back-clause-gathered c =
-    subst (AreGathered c.args.places.now (answers_of c.args.shards.now)) (ap (map reply_of) (sym c.in_default-push_back.ensures.items))
-    (gathered_now c.args.places.now (answers_of c.args.shards.now) c.loop-place.place-index (answers_of c.loop-place.shards) (map reply_of c.loop-place.answers.items) c.loop-place.invariant.0)
+    subst (AreGathered c.args.places.now (waiting_answers c.args.shards.now)) (ap (map reply_of) (sym c.in_default-push_back.ensures.items))
+    (gathered_now c.args.places.now (waiting_answers c.args.shards.now) c.loop-place.place-index (waiting_answers c.loop-place.shards) (map reply_of c.loop-place.answers.items) c.loop-place.invariant.0)
 
 pub returns-in_default-push_back-clause-hosts : goal.returns-in_default-push_back-clause-hosts
 returns-in_default-push_back-clause-hosts c =
@@ -40,14 +40,14 @@ loop-place-preserved c =
     let within : place < length shards = omega (arith, p, long) in
     let items = rw c.in-Some.is at c.pop_front.ensures.items in
     let new : Shard = record { host = (get_or shards place c.index-shards-place.result).host; answers = c.pop_front.new.self } in
-    let more = gathered_more c.args.places.now (answers_of c.args.shards.now) c.loop-place.place-index (answers_of shards) (map reply_of c.loop-place.answers.items) (reply_of c.in-Some.answer) (map reply_of c.pop_front.new.self.items) 0
+    let more = gathered_more c.args.places.now (waiting_answers c.args.shards.now) c.loop-place.place-index (waiting_answers shards) (map reply_of c.loop-place.answers.items) (reply_of c.in-Some.answer) (map reply_of c.pop_front.new.self.items) 0
     c.loop-place.invariant.0 l (answers_at shards place c.index-shards-place.result within ∙ ap (map reply_of) items) in
     let told : map reply_of c.push_back.new.self.items ≡ map reply_of c.loop-place.answers.items ++ reply_of c.in-Some.answer ∷ [] =
     ap (map reply_of) c.in-Ok.ensures.items ∙ map-append reply_of c.loop-place.answers.items (c.in-Some.answer ∷ []) in (
-      subst (λ left. GatheredSoFar c.args.places.now (answers_of c.args.shards.now) (c.loop-place.place-index + 1) left (map reply_of c.push_back.new.self.items)) (sym (answers_set shards place new))
-          (subst (λ rs. GatheredSoFar c.args.places.now (answers_of c.args.shards.now) (c.loop-place.place-index + 1) (set (answers_of shards) place (map reply_of c.pop_front.new.self.items)) rs) (sym told) more),
+      subst (λ left. GatheredSoFar c.args.places.now (waiting_answers c.args.shards.now) (c.loop-place.place-index + 1) left (map reply_of c.push_back.new.self.items)) (sym (answers_set shards place new))
+          (subst (λ rs. GatheredSoFar c.args.places.now (waiting_answers c.args.shards.now) (c.loop-place.place-index + 1) (set (waiting_answers shards) place (map reply_of c.pop_front.new.self.items)) rs) (sym told) more),
       same_hosts shards place new c.index-shards-place.result within refl ∙ c.loop-place.invariant.1,
     )
 
 pub returns-clause-gathered : goal.returns-clause-gathered
-returns-clause-gathered c = gathered_now c.args.places.now (answers_of c.args.shards.now) c.loop-place.place-index (answers_of c.loop-place.shards) (map reply_of c.loop-place.answers.items) c.loop-place.invariant.0
+returns-clause-gathered c = gathered_now c.args.places.now (waiting_answers c.args.shards.now) c.loop-place.place-index (waiting_answers c.loop-place.shards) (map reply_of c.loop-place.answers.items) c.loop-place.invariant.0

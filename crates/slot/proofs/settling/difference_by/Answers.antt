@@ -2,13 +2,13 @@ use Rattle.std.proofs.Common.{◌≡◌, ◌∙◌, unwrap_or, ap, subst}
 use Rattle.types.specs.declared.state.Votes.{Votes}
 use Rattle.drafts.specs.Drafted.{Drafted, after}
 use Rattle.slot.specs.Differences.{IsDifference}
-use Rattle.slot.specs.Stirrings.{part}
+use Rattle.slot.specs.Stirrings.{part_of_pass}
 use Rattle.slot.proofs.settling.difference_by.Goals as goal
 
 pub returns-in-Ok : goal.returns-in-Ok
 returns-in-Ok g c =
     let w = c.args.votes.now in
-    let f = part c.args.rules c.args.context.now.own.now (g.S.Sight.seen c.args.context.now.sight.now) c.args.context.now.inputs.now in
+    let f = part_of_pass c.args.rules c.args.context.now.own.now (g.S.Sight.seen c.args.context.now.sight.now) c.args.context.now.inputs.now in
     let done = c.in-Ok.ensures ∙ ap (after f) c.of-draft.ensures in
     let P : Drafted → Type 0 = λ d. unwrap_or c.into_changed.result d.before ≡ d.now in
     let now : unwrap_or c.into_changed.result w ≡ f w = subst P done c.into_changed.ensures in

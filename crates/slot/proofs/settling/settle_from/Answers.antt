@@ -1,6 +1,6 @@
 use Rattle.std.proofs.Common.{subst}
 use Rattle.slot.specs.Differences.{IsDifference}
-use Rattle.slot.specs.Stirrings.{part}
+use Rattle.slot.specs.Stirrings.{part_of_pass}
 use Rattle.slot.proofs.StirredPasses.{no-arm}
 use Rattle.slot.proofs.settling.settle_from.Goals as goal
 
@@ -8,11 +8,11 @@ pub returns-in_default : goal.returns-in_default
 returns-in_default g c =
     let w = c.args.votes.now in
     let seen = g.S.Sight.seen c.args.context.now.sight.now in
-    let same = subst (IsDifference w (part c.args.stirred c.args.context.now.own.now seen c.args.context.now.inputs.now w)) c.in_default.is c.in_ok-next.ensures in
+    let same = subst (IsDifference w (part_of_pass c.args.stirred c.args.context.now.own.now seen c.args.context.now.inputs.now w)) c.in_default.is c.in_ok-next.ensures in
     no-arm c.args.stirred c.args.context.now.own.now seen c.args.context.now.inputs.now w c.requires.stirs same
 
 pub settle_next-requires-clause-next : goal.settle_next-requires-clause-next
 settle_next-requires-clause-next g c =
     let w = c.args.votes.now in
     let seen = g.S.Sight.seen c.args.context.now.sight.now in
-    subst (IsDifference w (part c.args.stirred c.args.context.now.own.now seen c.args.context.now.inputs.now w)) c.in-Some.is c.in_ok-next.ensures
+    subst (IsDifference w (part_of_pass c.args.stirred c.args.context.now.own.now seen c.args.context.now.inputs.now w)) c.in-Some.is c.in_ok-next.ensures

@@ -1,15 +1,15 @@
 use Rattle.std.proofs.Common.{false, true, sym, subst}
 use Rattle.codec.specs.Answers.{Refuses}
 use Rattle.codec.specs.Grammar.{IsFault}
-use Rattle.translations.specs.Translations.{IsTold}
-use Rattle.translations.specs.Translations.IsTold.{envelope, fault}
+use Rattle.translations.specs.Translations.{IsTranslated}
+use Rattle.translations.specs.Translations.IsTranslated.{envelope, fault}
 use Rattle.translations.proofs.decoding.told_of.Goals as goal
 
 pub returns-in_ok-line-in-Ok : goal.returns-in_ok-line-in-Ok
 returns-in_ok-line-in-Ok c =
-    subst (IsTold c.args.bytes.now false) (sym c.in_ok-line-in-Ok.ensures) (envelope _ c.in-Ok.ensures.found)
+    subst (IsTranslated c.args.bytes.now false) (sym c.in_ok-line-in-Ok.ensures) (envelope _ c.in-Ok.ensures.found)
 
 pub returns-in_ok-line_of_fault-in-Err-Fault : goal.returns-in_ok-line_of_fault-in-Err-Fault
 returns-in_ok-line_of_fault-in-Err-Fault c =
     let shown : IsFault c.args.bytes.now c.in-Err-Fault.fault = subst (Refuses c.args.bytes.now) c.in-Err-Fault.field-0-is c.in-Err-Fault.ensures.fault in
-    subst (IsTold c.args.bytes.now true) (sym c.in_ok-line_of_fault-in-Err-Fault.ensures) (fault c.in-Err-Fault.fault shown)
+    subst (IsTranslated c.args.bytes.now true) (sym c.in_ok-line_of_fault-in-Err-Fault.ensures) (fault c.in-Err-Fault.fault shown)

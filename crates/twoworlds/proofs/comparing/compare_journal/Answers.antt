@@ -2,7 +2,7 @@ use Rattle.std.proofs.Common.{◌≡◌, ◌∙◌, ◌<◌, sym, ap, subst, Lis
 use Rattle.std.proofs.lemmas.List.Kept.{AllPairs-filter}
 use Rattle.protocol.specs.Sets.{IsAscending, among}
 use Rattle.protocol.specs.Networks.{HostedNode, slices_of}
-use Rattle.closure.specs.Announcing.{names_of}
+use Rattle.closure.specs.Announcing.{member_names}
 use Rattle.twoworlds.specs.OutLists.{hosted_in, outs_of_each}
 use Rattle.twoworlds.proofs.Judging.{some_mapped, never_without, inputs_with, same_with}
 use Rattle.twoworlds.proofs.comparing.compare_journal.Goals as goal
@@ -22,13 +22,13 @@ returns-in-Some-first_difference-clause-verdict g c =
 
 pub outs_of_each-requires : goal.outs_of_each-requires
 outs_of_each-requires g c =
-    let R = among (names_of c.in_ok-members.members) in
+    let R = among (member_names c.in_ok-members.members) in
     let nodes_are : c.nodes.result.now ≡ c.args.one.now.config.nodes = c.nodes.ensures.value ∙ ap (λ x. x.nodes) c.config.ensures in
     subst IsAscending (sym (c.deref.ensures.value ∙ (c.in_ok-names.ensures ∙ ap (λ (hs : List HostedNode). hosted_in R hs) nodes_are))) (AllPairs-filter (λ x y. x < y) R (map (λ (h : HostedNode). h.name) c.args.one.now.config.nodes) c.slices.ensures.ascending)
 
 pub returns-clause-verdict : goal.returns-clause-verdict
 returns-clause-verdict g c =
-    let R = among (names_of c.in_ok-members.members) in
+    let R = among (member_names c.in_ok-members.members) in
     let hosted : is_some (slices_of c.args.one.now.config.nodes c.args.node.now) ≡ true =
     sym (ap is_some c.slices.ensures.value) ∙ (some_mapped _ c.slices.result ∙ (c.is_none.ensures ∙ ap not c.if-is_none.false)) in
     let nodes_are : c.nodes.result.now ≡ c.args.one.now.config.nodes = c.nodes.ensures.value ∙ ap (λ x. x.nodes) c.config.ensures in

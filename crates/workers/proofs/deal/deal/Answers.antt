@@ -1,6 +1,6 @@
 use Rattle.std.proofs.Common.{◌≡◌, ◌∷◌, [], List, arith, length, length-append, subst, sym, ap, refl, ◌∙◌, suc, Some, vec_len}
 use Rattle.std.proofs.lemmas.List.Elements.{All-pop, All-push}
-use Rattle.workers.specs.Spares.{AllFresh, AllHave, IsBlank, IsDealtAll, IsSplit}
+use Rattle.workers.specs.Spares.{HaveSpareSeats, IsBlank, IsDealtAll, IsSplit, NoneHasCounted}
 use Rattle.workers.specs.declared.deal.Room.{Room}
 use Rattle.workers.specs.declared.worker.Worker.{Worker}
 use Rattle.workers.proofs.Deals.{dealt_all_snoc, dealt_have, dealt_len, have_less, one_left, split_more}
@@ -38,13 +38,13 @@ loop-room-preserved g c =
     let cap = e.capacity in
     let room = i.9 in (
       subst (λ l. IsDealtAll c.args.spares.now.items l c.deal_one.new.spares.items) (sym e.items) (dealt_all_snoc c.args.spares.now.items was c.loop-room.spares.items w c.deal_one.new.spares.items i.0 c.deal_one.ensures),
-      subst AllFresh (sym e.items) (All-push (λ (v : Worker _ _ _). (v.applied ≡ 0) × (v.refused ≡ 0)) was w i.1 (refl, refl)),
+      subst NoneHasCounted (sym e.items) (All-push (λ (v : Worker _ _ _). (v.applied ≡ 0) × (v.refused ≡ 0)) was w i.1 (refl, refl)),
       omega arith,
       subst (λ l. IsSplit c.args.passes.now.items l c.pop-in-Some.new.self.items) (sym e.items) (split_more c.args.passes.now.items was w c.loop-room.passes.items c.pop-in-Some.new.self.items i.3 c.pop-in-Some.ensures.items),
       omega arith,
       c.pop-in-Some.ensures.capacity ∙ i.5,
       (All-pop (IsBlank m) c.loop-room.rooms.items c.pop.new.self.items (Some c.in-Some.room) c.in-Some.ensures.items i.6).0,
-      dealt_have (length c.pop.new.self.items) c.loop-room.spares.items c.deal_one.result.items c.deal_one.new.spares.items c.deal_one.ensures (subst (λ k. AllHave k c.loop-room.spares.items) more i.7),
+      dealt_have (length c.pop.new.self.items) c.loop-room.spares.items c.deal_one.result.items c.deal_one.new.spares.items c.deal_one.ensures (subst (λ k. HaveSpareSeats k c.loop-room.spares.items) more i.7),
       (dealt_len c.loop-room.spares.items c.deal_one.result.items c.deal_one.new.spares.items c.deal_one.ensures).0 ∙ i.8,
       omega arith,
     )

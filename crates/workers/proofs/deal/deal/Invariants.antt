@@ -1,17 +1,17 @@
 use Rattle.std.proofs.Common.{◌≡◌, ◌≤◌, ◌+◌, length, vec_len, vec_capacity}
-use Rattle.workers.specs.Spares.{AllBlank, AllFresh, AllHave, IsDealtAll, IsSplit}
+use Rattle.workers.specs.Spares.{AllBlank, HaveSpareSeats, IsDealtAll, IsSplit, NoneHasCounted}
 use Rattle.workers.proofs.deal.deal.Given as goal
 
 abbrev pub invariant-loop-room : goal.invariant-loop-room
 invariant-loop-room g l =
     IsDealtAll l.fn.spares.items l.workers.items l.spares.items
-    × AllFresh l.workers.items
+    × NoneHasCounted l.workers.items
     × (length l.workers.items + length l.rooms.items ≡ length l.fn.worker_room.rooms.items)
     × IsSplit l.fn.passes.items l.workers.items l.passes.items
     × (vec_len l.passes + length l.workers.items ≡ vec_len l.fn.passes)
     × (vec_capacity l.passes ≡ vec_capacity l.fn.passes)
     × AllBlank (length l.fn.spares.items) l.rooms.items
-    × AllHave (length l.rooms.items) l.spares.items
+    × HaveSpareSeats (length l.rooms.items) l.spares.items
     × (length l.spares.items ≡ length l.fn.spares.items)
     × (length l.fn.worker_room.rooms.items ≤ vec_capacity l.workers)
 

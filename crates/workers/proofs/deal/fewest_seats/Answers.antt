@@ -1,5 +1,5 @@
 use Rattle.std.proofs.Common.{arith, length, ◌≤◌, subst}
-use Rattle.workers.specs.Spares.{AllHave}
+use Rattle.workers.specs.Spares.{HaveSpareSeats}
 use Rattle.workers.proofs.Deals.{have_at, have_more}
 use Rattle.std.proofs.lemmas.List.{take_all}
 use Rattle.workers.proofs.deal.fewest_seats.Goals as goal
@@ -21,4 +21,4 @@ loop-spare-preserved g c =
 pub returns-clause-seats : goal.returns-clause-seats
 returns-clause-seats g c =
     let le : length c.args.spares.now ≤ c.loop-spare.spare-index = let t = c.loop-spare-test.false in omega arith in
-    subst (AllHave c.loop-spare.least) (take_all c.loop-spare.spare-index c.args.spares.now le) c.loop-spare.invariant.2
+    subst (HaveSpareSeats c.loop-spare.least) (take_all c.loop-spare.spare-index c.args.spares.now le) c.loop-spare.invariant.2

@@ -1,6 +1,6 @@
 use Rattle.std.proofs.Common.{None, subst, sym, ◌∙◌, get_or}
 use Rattle.std.proofs.lemmas.List.Elements.{All-set}
-use Rattle.workers.specs.Sums.{AllReady, IsPassing, IsReady}
+use Rattle.workers.specs.Sums.{AllReady, IsPassing, IsReadyWorker}
 use Rattle.workers.proofs.Pools.{all_pass, closed_by, parts_all, rest_first, rest_ready}
 use Rattle.workers.proofs.pool.finish.Goals as goal
 
@@ -14,13 +14,13 @@ close-left-requires-clause-passes g c =
 
 pub serve_all-requires-clause-ready : goal.serve_all-requires-clause-ready
 serve_all-requires-clause-ready g c =
-    subst (λ q. IsReady c.args.shared.now.cells.items q (get_or c.collect.new.workers 0 c.index-workers-0.result)) (sym c.take.ensures.after)
+    subst (λ q. IsReadyWorker c.args.shared.now.cells.items q (get_or c.collect.new.workers 0 c.index-workers-0.result)) (sym c.take.ensures.after)
     (rest_first c.args.shared.now.cells.items c.args.shared.now.queue c.args.workers.now c.collect.new.workers c.index-workers-0.result c.requires.some c.collect.ensures.rest c.requires.ready)
 
 pub returns-clause-ready : goal.returns-clause-ready
 returns-clause-ready g c =
     let cs = c.args.shared.now.cells.items in
-    All-set (IsReady cs None) c.collect.new.workers 0 c.serve_all.new.self (subst (λ q. IsReady cs q c.serve_all.new.self) c.take.ensures.after c.serve_all.ensures.ready)
+    All-set (IsReadyWorker cs None) c.collect.new.workers 0 c.serve_all.new.self (subst (λ q. IsReadyWorker cs q c.serve_all.new.self) c.take.ensures.after c.serve_all.ensures.ready)
     (subst (AllReady cs None) (sym c.collect.ensures.rest) (rest_ready cs c.args.shared.now.queue c.args.workers.now c.requires.ready))
 
 pub returns-clause-closed : goal.returns-clause-closed

@@ -1,7 +1,7 @@
 use Rattle.std.proofs.Common.{List, refl, sym, subst, ap, ◌∙◌, arith, length}
 use Rattle.std.proofs.lemmas.Slice.Zip.{AllZip-long}
-use Rattle.workers.specs.NetSights.{Net}
-use Rattle.workers.specs.Spares.{AllHave}
+use Rattle.workers.specs.NetSights.{NetSight}
+use Rattle.workers.specs.Spares.{HaveSpareSeats}
 use Rattle.workers.specs.declared.deal.SpareSeats.{SpareSeats}
 use Rattle.workers.proofs.Nets.{done_after, host_state_after, grown_after, nets_len}
 use Rattle.workers.proofs.Worked.{hosted_have}
@@ -9,7 +9,7 @@ use Rattle.workers.proofs.running.run.Goals as goal
 
 pub into_room-worker_room-requires-clause-seats : goal.into_room-worker_room-requires-clause-seats
 into_room-worker_room-requires-clause-seats g c =
-    subst (AllHave 1) (sym c.as_slice.ensures.value) (hosted_have c.turn_to.new.self.shared.cells.items c.turn_to.new.self.spares.items c.turn_to.ensures.kept.hosted)
+    subst (HaveSpareSeats 1) (sym c.as_slice.ensures.value) (hosted_have c.turn_to.new.self.shared.cells.items c.turn_to.new.self.spares.items c.turn_to.ensures.kept.hosted)
 
 pub into_room-worker_room-requires-clause-room : goal.into_room-worker_room-requires-clause-room
 into_room-worker_room-requires-clause-room g c =
@@ -17,7 +17,7 @@ into_room-worker_room-requires-clause-room g c =
     let s = ap (λ (l : List (SpareSeats _ _ _)). length l) c.as_slice.ensures.value in
     let n = nets_len f.shared.cells.items f.spares.items c.turn_to.ensures.kept.hosted in
     let h = AllZip-long _ f.shared.cells.items f.spares.items c.turn_to.ensures.kept.hosted in
-    let v = ap (λ (l : List Net). length l) (c.turn_to.ensures.nets ∙ c.host.view_is) in
+    let v = ap (λ (l : List NetSight). length l) (c.turn_to.ensures.nets ∙ c.host.view_is) in
     let r = c.requires.room in omega arith
 
 pub run_workers-requires-clause-there : goal.run_workers-requires-clause-there

@@ -5,7 +5,7 @@ use Rattle.cells.specs.Sights.{SeatSight}
 use Rattle.cells.specs.Views.{Knowledge}
 use Rattle.workers.specs.declared.worker.Worker.{Worker}
 use Rattle.workers.specs.Spares.{IsCounted, IsDealtAll, at_work, on_spares}
-use Rattle.workers.specs.Sums.{AllLaterWorkers, AllReady, IsClosed, parts_of}
+use Rattle.workers.specs.Sums.{AllLaterWorkers, AllReady, AreSumsClosed, parts_of}
 use Rattle.workers.proofs.Deals.{dealt_all_last, given_sum}
 use Rattle.workers.proofs.Pairs.{zip-last}
 use Rattle.workers.proofs.Sums.{weigh-last}
@@ -80,7 +80,7 @@ returns-clause-worked g c =
     let ys = c.work_through.new.workers in
     let mid = c.deal-workers.new.spares.items in
     let cur = c.loop-worker.host_state.spares.items in
-    let closed : IsClosed cs c.deal-workers.new.passes.items xs ys = subst (λ (l : List (Worker _ _ _)). IsClosed cs c.deal-workers.new.passes.items l ys) c.as_mut_slice.ensures.value c.work_through.ensures.closed in
+    let closed : AreSumsClosed cs c.deal-workers.new.passes.items xs ys = subst (λ (l : List (Worker _ _ _)). AreSumsClosed cs c.deal-workers.new.passes.items l ys) c.as_mut_slice.ensures.value c.work_through.ensures.closed in
     let back = written_back c.deal-workers.result.len xs ys closed.later c.deal-workers.result.ok.0 in
     let none : c.loop-worker.workers.items ≡ [] = empty c.loop-worker.workers.items (let ok = c.loop-worker.workers.ok.0 in let m = c.in_default.ensures.cases.0 in omega arith) in
     let hold = (c.deal-workers.ensures.passes.passing q c.requires.queue.0).1 in

@@ -1,6 +1,6 @@
 use Rattle.std.proofs.Common.{◌≡◌, ◌≤◌, ℕ, length, Some, slice_get, vec_len, vec_capacity}
 use Rattle.crossbeam_queue.specs.Passes.{view, IsPassOf}
-use Rattle.cells.specs.Rule.{after_opening, fresh}
+use Rattle.cells.specs.Rule.{after_opening, new_seat}
 use Rattle.cells.specs.Sights.{SeatSight}
 use Rattle.cells.proofs.cell.Cell.open_with.Given as goal
 
@@ -12,4 +12,4 @@ invariant-loop-number g l =
     IsPassOf l.lock l.opener
     × (view l.opener ≡ record (after_opening l.fn.config l.seats) { made = l.number })
     × (vec_len l.all ≡ l.number) × (length l.all.items ≡ l.number) × (l.seats ≤ vec_capacity l.all)
-    × ((k : ℕ) (s : SeatSight) → slice_get l.all.items k ≡ Some s → (s.cell ≡ l.lock.table.shared.table_id) × (s.me ≡ fresh l.fn.config l.seats k))
+    × ((k : ℕ) (s : SeatSight) → slice_get l.all.items k ≡ Some s → (s.cell ≡ l.lock.table.shared.table_id) × (s.me ≡ new_seat l.fn.config l.seats k))

@@ -1,6 +1,6 @@
 use Rattle.std.proofs.Common.{◌∙◌, ap, sym}
 use Rattle.protocol.specs.Sets.{among}
-use Rattle.closure.specs.Announcing.{MemberList, names_of}
+use Rattle.closure.specs.Announcing.{MemberList, member_names}
 use Rattle.closure.specs.Turns.{with_member}
 use Rattle.closure.proofs.NameLookups.{has_is, added_is, there_is}
 use Rattle.closure.proofs.closure_list.ClosureList.add.Goals as goal
@@ -14,4 +14,4 @@ returns-in_ok-insert c =
 pub returns-else-not-contains_key : goal.returns-else-not-contains_key
 returns-else-not-contains_key c =
     there_is c.args.self.now c.args.name.now c.args.namer
-    (ap (λ (es : MemberList). among (names_of es) c.args.name.now) (sym c.self.view_is) ∙ (sym (has_is c.args.name.now _) ∙ (sym c.contains_key.ensures ∙ c.if-not-contains_key.false)))
+    (ap (λ (es : MemberList). among (member_names es) c.args.name.now) (sym c.self.view_is) ∙ (sym (has_is c.args.name.now _) ∙ (sym c.contains_key.ensures ∙ c.if-not-contains_key.false)))

@@ -1,10 +1,10 @@
-use Rattle.closure.specs.Announcing.{names_of}
+use Rattle.closure.specs.Announcing.{member_names}
 use Rattle.closure.proofs.Gathering.{IsGathered}
 use Rattle.closure.proofs.Walking.{steps_left}
 use Rattle.closure.proofs.turns.Turns.all_names.Given as goal
 
 abbrev pub invariant-loop-next : goal.invariant-loop-next
-invariant-loop-next g l = IsGathered (g.J.Announcements.nodes l.self.journal.now) l.self.slot (g.J.Announcements.entries l.self.journal.now) (names_of l.members) l.node l.next l.names.items
+invariant-loop-next g l = IsGathered (g.J.Announcements.nodes l.self.journal.now) l.self.slot (g.J.Announcements.entries l.self.journal.now) (member_names l.members) l.node l.next l.names.items
 
 abbrev pub decreases-loop-next : goal.decreases-loop-next
 decreases-loop-next g l = steps_left l.next

@@ -1,5 +1,5 @@
 use Rattle.std.proofs.Common.{◌≤◌, ◌∷◌, sym, subst, suc, length, ℕ, List, [], arith}
-use Rattle.closure.specs.Announcing.{AreMembersAt, MemberList, names_of}
+use Rattle.closure.specs.Announcing.{AreMembersAt, MemberList, member_names}
 use Rattle.closure.specs.Announcing.AreMembersAt.{first}
 use Rattle.closure.specs.Turns.{IsReady}
 use Rattle.closure.proofs.ClosureSteps.{all_given, is_closure}
@@ -12,8 +12,8 @@ loop-known-init g c =
     let nodes = g.J.Announcements.nodes c.args.self.now.journal.now in
     let run = g.J.Announcements.entries c.args.self.now.journal.now in (
       subst (λ (list : MemberList). IsSwept nodes c.args.self.now.slot c.args.node.now run list 0) (sym c.in_ok-members.ensures) (swept_at_first nodes c.args.self.now.slot c.args.node.now run),
-      subst (λ (list : MemberList). IsReady nodes c.args.self.now.slot run (names_of list) c.new-ready.result) (sym c.in_ok-members.ensures)
-          (subst (λ (r : List (List ℕ)). IsReady nodes c.args.self.now.slot run (names_of ((c.args.node.now, 0) ∷ [])) r) (sym c.new-ready.ensures) (ready_at_first nodes c.args.self.now.slot run c.args.node.now)),
+      subst (λ (list : MemberList). IsReady nodes c.args.self.now.slot run (member_names list) c.new-ready.result) (sym c.in_ok-members.ensures)
+          (subst (λ (r : List (List ℕ)). IsReady nodes c.args.self.now.slot run (member_names ((c.args.node.now, 0) ∷ [])) r) (sym c.new-ready.ensures) (ready_at_first nodes c.args.self.now.slot run c.args.node.now)),
       subst (λ (list : MemberList). AreMembersAt nodes c.args.self.now.slot c.args.node.now run 0 list) (sym c.in_ok-members.ensures) first,
     )
 

@@ -1,5 +1,5 @@
 use Rattle.std.proofs.Common.{suc, ◌-◌, length}
-use Rattle.closure.specs.Announcing.{AreMembersAt, names_of}
+use Rattle.closure.specs.Announcing.{AreMembersAt, member_names}
 use Rattle.closure.specs.Turns.{IsReady}
 use Rattle.closure.proofs.ClosureSteps.{all_given}
 use Rattle.closure.proofs.Growing.{IsSwept}
@@ -8,7 +8,7 @@ use Rattle.closure.proofs.turns.Turns.closure_of.Given as goal
 abbrev pub invariant-loop-known : goal.invariant-loop-known
 invariant-loop-known g l =
     IsSwept (g.J.Announcements.nodes l.self.journal.now) l.self.slot l.node (g.J.Announcements.entries l.self.journal.now) l.members l.known
-    × IsReady (g.J.Announcements.nodes l.self.journal.now) l.self.slot (g.J.Announcements.entries l.self.journal.now) (names_of l.members) l.ready
+    × IsReady (g.J.Announcements.nodes l.self.journal.now) l.self.slot (g.J.Announcements.entries l.self.journal.now) (member_names l.members) l.ready
     × AreMembersAt (g.J.Announcements.nodes l.self.journal.now) l.self.slot l.node (g.J.Announcements.entries l.self.journal.now) 0 l.members
 
 abbrev pub decreases-loop-known : goal.decreases-loop-known

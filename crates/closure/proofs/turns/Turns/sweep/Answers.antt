@@ -1,6 +1,6 @@
 use Rattle.std.proofs.Common.{◌≡◌, ◌<◌, ◌≤◌, ◌+◌, suc, subst, get_or, slice_get, Some, length, arith}
 use Rattle.std.proofs.lemmas.Option.{slice_get-get_or, slice_get_past}
-use Rattle.closure.specs.Announcing.{AreMembersAt, names_of}
+use Rattle.closure.specs.Announcing.{AreMembersAt, member_names}
 use Rattle.closure.specs.Announcing.AreMembersAt.{turn, again}
 use Rattle.closure.specs.Turns.{lists_after_turn}
 use Rattle.closure.proofs.ClosureSteps.{all_given}
@@ -22,9 +22,9 @@ loop-place-smaller g c =
 pub loop-place-preserved : goal.loop-place-preserved
 loop-place-preserved g c =
     let within : c.loop-place.place < length c.loop-place.members = omega (arith, c.loop-place-test.true, c.len.ensures.value) in
-    let there : slice_get (names_of c.loop-place.members) c.loop-place.place ≡ Some (get_or (names_of c.loop-place.members) c.loop-place.place 0) =
-    slice_get-get_or (names_of c.loop-place.members) c.loop-place.place 0 (omega (arith, within, names_length c.loop-place.members)) in
-    let counted : length c.take.new.ready ≡ length (lists_after_turn c.loop-place.ready c.loop-place.place) = c.in_ok-take.ensures.counted (get_or (names_of c.loop-place.members) c.loop-place.place 0) there in
+    let there : slice_get (member_names c.loop-place.members) c.loop-place.place ≡ Some (get_or (member_names c.loop-place.members) c.loop-place.place 0) =
+    slice_get-get_or (member_names c.loop-place.members) c.loop-place.place 0 (omega (arith, within, names_length c.loop-place.members)) in
+    let counted : length c.take.new.ready ≡ length (lists_after_turn c.loop-place.ready c.loop-place.place) = c.in_ok-take.ensures.counted (get_or (member_names c.loop-place.members) c.loop-place.place 0) there in
     let more : c.loop-place.place < length (lists_after_turn c.loop-place.ready c.loop-place.place) = turned_within c.loop-place.ready c.loop-place.place c.loop-place.invariant.2 in (
       sweeping_goes_on (g.J.Announcements.nodes c.args.self.now.journal.now) c.args.self.now.slot (g.J.Announcements.entries c.args.self.now.journal.now)
           c.args.members.now c.loop-place.members c.take.new.members c.loop-place.place c.requires.chained.0 c.loop-place.invariant.0 within c.requires.chained.1
@@ -34,7 +34,7 @@ loop-place-preserved g c =
       λ v h.
           let next : suc c.loop-place.place ≡ c.loop-place.place + 1 = omega arith in
           subst (λ n. AreMembersAt (g.J.Announcements.nodes c.args.self.now.journal.now) c.args.self.now.slot v (g.J.Announcements.entries c.args.self.now.journal.now) n c.take.new.members) next
-          (turn (c.loop-place.invariant.3 v h) there (c.in_ok-take.ensures.turn (get_or (names_of c.loop-place.members) c.loop-place.place 0) there)),
+          (turn (c.loop-place.invariant.3 v h) there (c.in_ok-take.ensures.turn (get_or (member_names c.loop-place.members) c.loop-place.place 0) there)),
     )
 
 pub returns-clause-settled : goal.returns-clause-settled
@@ -45,4 +45,4 @@ returns-clause-settled g c =
 pub returns-clause-in_turn : goal.returns-clause-in_turn
 returns-clause-in_turn g c = λ v h.
     again (c.loop-place.invariant.3 v h)
-    (slice_get_past (names_of c.loop-place.members) c.loop-place.place (omega (arith, c.loop-place-test.false, c.len.ensures.value, names_length c.loop-place.members)))
+    (slice_get_past (member_names c.loop-place.members) c.loop-place.place (omega (arith, c.loop-place-test.false, c.len.ensures.value, names_length c.loop-place.members)))

@@ -1,5 +1,5 @@
 use Rattle.std.proofs.Common.{ℕ, suc, ◌-◌, ◌≤◌, length}
-use Rattle.closure.specs.Announcing.{AreMembersAt, names_of}
+use Rattle.closure.specs.Announcing.{AreMembersAt, member_names}
 use Rattle.closure.specs.Turns.{IsReady}
 use Rattle.closure.proofs.Growing.{IsSweeping}
 use Rattle.closure.proofs.ClosureSteps.{all_given}
@@ -8,7 +8,7 @@ use Rattle.closure.proofs.turns.Turns.sweep.Given as goal
 abbrev pub invariant-loop-place : goal.invariant-loop-place
 invariant-loop-place g l =
     IsSweeping (g.J.Announcements.nodes l.self.journal.now) l.self.slot (g.J.Announcements.entries l.self.journal.now) l.initial.members l.members l.place
-    × IsReady (g.J.Announcements.nodes l.self.journal.now) l.self.slot (g.J.Announcements.entries l.self.journal.now) (names_of l.members) l.ready
+    × IsReady (g.J.Announcements.nodes l.self.journal.now) l.self.slot (g.J.Announcements.entries l.self.journal.now) (member_names l.members) l.ready
     × (l.place ≤ length l.ready)
     × ((v : ℕ) → AreMembersAt (g.J.Announcements.nodes l.self.journal.now) l.self.slot v (g.J.Announcements.entries l.self.journal.now) 0 l.initial.members
     → AreMembersAt (g.J.Announcements.nodes l.self.journal.now) l.self.slot v (g.J.Announcements.entries l.self.journal.now) l.place l.members)

@@ -1,7 +1,7 @@
 use Rattle.std.proofs.Common.{◌≡◌, ◌∙◌, ◌+◌, ap, sym, subst, ℕ, List, Some, None, refl, length, take, arith}
 use Rattle.std.proofs.lemmas.List.{take_all}
 use Rattle.std.proofs.lemmas.Option.{slice_get_read}
-use Rattle.closure.specs.Announcing.{IsTurn, MemberList, names_of}
+use Rattle.closure.specs.Announcing.{IsTurn, MemberList, member_names}
 use Rattle.closure.specs.Turns.{AreInOrder, IsGiven, AreCovered, NamesAreMembers}
 use Rattle.closure.proofs.Growing.{IsJoining, joining_begins, joining_goes_on, turn_settles, all_held, one_name}
 use Rattle.closure.proofs.Ordering.{IsTurning, turning_begins, turning_goes_on, turn_is_made}
@@ -13,10 +13,10 @@ loop-name-init g c =
     let nodes = g.J.Announcements.nodes c.args.self.now.journal.now in
     let run = g.J.Announcements.entries c.args.self.now.journal.now in
     let given_is : c.deref-name-items.result.now ≡ c.in_ok-given.given.items = c.deref-name-items.ensures.value in
-    let sound = subst (λ (xs : List ℕ). IsGiven nodes c.args.self.now.slot run (names_of c.args.members.now) c.in-Some.node xs) (sym given_is) c.in_ok-given.ensures.given in (
+    let sound = subst (λ (xs : List ℕ). IsGiven nodes c.args.self.now.slot run (member_names c.args.members.now) c.in-Some.node xs) (sym given_is) c.in_ok-given.ensures.given in (
       joining_begins nodes c.args.self.now.slot run c.deref-name-items.result.now c.args.members.now,
-      subst (λ (r : List (List ℕ)). AreCovered nodes c.args.self.now.slot run (names_of c.args.members.now) r c.args.place c.deref-name-items.result.now) (sym c.in_ok-given.ensures.turned)
-          (kept_begins nodes c.args.self.now.slot run (names_of c.args.members.now) c.args.ready.now c.args.place c.in-Some.node c.deref-name-items.result.now c.requires.ready (sym c.in-Some.ensures) c.requires.next sound),
+      subst (λ (r : List (List ℕ)). AreCovered nodes c.args.self.now.slot run (member_names c.args.members.now) r c.args.place c.deref-name-items.result.now) (sym c.in_ok-given.ensures.turned)
+          (kept_begins nodes c.args.self.now.slot run (member_names c.args.members.now) c.args.ready.now c.args.place c.in-Some.node c.deref-name-items.result.now c.requires.ready (sym c.in-Some.ensures) c.requires.next sound),
       refl,
       turning_begins c.args.place c.args.members.now,
     )
@@ -26,7 +26,7 @@ loop-name-preserved g c =
     let nodes = g.J.Announcements.nodes c.args.self.now.journal.now in
     let run = g.J.Announcements.entries c.args.self.now.journal.now in
     let given_is : c.deref-name-items.result.now ≡ c.in_ok-given.given.items = c.deref-name-items.ensures.value in
-    let sound = subst (λ (xs : List ℕ). IsGiven nodes c.args.self.now.slot run (names_of c.args.members.now) c.in-Some.node xs) (sym given_is) c.in_ok-given.ensures.given in (
+    let sound = subst (λ (xs : List ℕ). IsGiven nodes c.args.self.now.slot run (member_names c.args.members.now) c.in-Some.node xs) (sym given_is) c.in_ok-given.ensures.given in (
       subst (λ (xs : MemberList). IsJoining nodes c.args.self.now.slot run c.deref-name-items.result.now c.args.members.now xs (c.loop-name.name-index + 1)) (sym c.in_ok-join.ensures.members)
           (joining_goes_on nodes c.args.self.now.slot run c.deref-name-items.result.now c.args.members.now c.loop-name.members c.args.place c.in-Some.node c.loop-name.name-index c.name-item.result
           c.loop-name.invariant.0 (sym c.in-Some.ensures) sound
@@ -46,11 +46,11 @@ returns-after-loop-name-clause-settled g c = λ w e.
     let nodes = g.J.Announcements.nodes c.args.self.now.journal.now in
     let run = g.J.Announcements.entries c.args.self.now.journal.now in
     let given_is : c.deref-name-items.result.now ≡ c.in_ok-given.given.items = c.deref-name-items.ensures.value in
-    let sound = subst (λ (xs : List ℕ). IsGiven nodes c.args.self.now.slot run (names_of c.args.members.now) c.in-Some.node xs) (sym given_is) c.in_ok-given.ensures.given in
-    let same : c.in-Some.node ≡ w = one_name (names_of c.args.members.now) c.args.place c.in-Some.node w (sym c.in-Some.ensures) e in
+    let sound = subst (λ (xs : List ℕ). IsGiven nodes c.args.self.now.slot run (member_names c.args.members.now) c.in-Some.node xs) (sym given_is) c.in_ok-given.ensures.given in
+    let same : c.in-Some.node ≡ w = one_name (member_names c.args.members.now) c.args.place c.in-Some.node w (sym c.in-Some.ensures) e in
     let whole : c.loop-name.name-index ≡ length c.deref-name-items.result.now = omega arith in
     let way = subst (λ n. IsJoining nodes c.args.self.now.slot run c.deref-name-items.result.now c.args.members.now c.loop-name.members n) whole c.loop-name.invariant.0 in
-    subst (λ x. NamesAreMembers nodes c.args.self.now.slot run (names_of c.loop-name.members) (names_of c.args.members.now) x) same
+    subst (λ x. NamesAreMembers nodes c.args.self.now.slot run (member_names c.loop-name.members) (member_names c.args.members.now) x) same
     (turn_settles nodes c.args.self.now.slot run c.deref-name-items.result.now c.args.members.now c.loop-name.members c.in-Some.node way sound)
 
 pub returns-after-loop-name-clause-ready : goal.returns-after-loop-name-clause-ready
@@ -59,7 +59,7 @@ returns-after-loop-name-clause-ready g c =
     let run = g.J.Announcements.entries c.args.self.now.journal.now in
     let whole : c.loop-name.name-index ≡ length c.deref-name-items.result.now = omega arith in
     let way = subst (λ n. IsJoining nodes c.args.self.now.slot run c.deref-name-items.result.now c.args.members.now c.loop-name.members n) whole c.loop-name.invariant.0 in
-    kept_ends nodes c.args.self.now.slot run (names_of c.loop-name.members) c.loop-name.ready c.args.place c.deref-name-items.result.now c.loop-name.invariant.1
+    kept_ends nodes c.args.self.now.slot run (member_names c.loop-name.members) c.loop-name.ready c.args.place c.deref-name-items.result.now c.loop-name.invariant.1
     (all_held nodes c.args.self.now.slot run c.deref-name-items.result.now c.args.members.now c.loop-name.members way)
 
 pub returns-after-loop-name-clause-counted : goal.returns-after-loop-name-clause-counted
@@ -70,8 +70,8 @@ returns-after-loop-name-clause-turn g c = λ w e.
     let nodes = g.J.Announcements.nodes c.args.self.now.journal.now in
     let run = g.J.Announcements.entries c.args.self.now.journal.now in
     let given_is : c.deref-name-items.result.now ≡ c.in_ok-given.given.items = c.deref-name-items.ensures.value in
-    let sound = subst (λ (xs : List ℕ). IsGiven nodes c.args.self.now.slot run (names_of c.args.members.now) c.in-Some.node xs) (sym given_is) c.in_ok-given.ensures.given in
-    let same : c.in-Some.node ≡ w = one_name (names_of c.args.members.now) c.args.place c.in-Some.node w (sym c.in-Some.ensures) e in
+    let sound = subst (λ (xs : List ℕ). IsGiven nodes c.args.self.now.slot run (member_names c.args.members.now) c.in-Some.node xs) (sym given_is) c.in_ok-given.ensures.given in
+    let same : c.in-Some.node ≡ w = one_name (member_names c.args.members.now) c.args.place c.in-Some.node w (sym c.in-Some.ensures) e in
     let whole : take c.loop-name.name-index c.deref-name-items.result.now ≡ c.deref-name-items.result.now = take_all c.loop-name.name-index c.deref-name-items.result.now (omega arith) in
     subst (λ x. IsTurn nodes c.args.self.now.slot run x c.args.place c.args.members.now c.loop-name.members) same
     (turn_is_made nodes c.args.self.now.slot run c.in-Some.node c.args.place c.args.members.now c.loop-name.members c.deref-name-items.result.now

@@ -1,6 +1,6 @@
 use Rattle.std.proofs.Common.{rules, ◌≡◌, ◌∙◌, true, false, None, is_some, Ok, Err, sym, ap, subst, map}
 use Rattle.configuration.specs.Configs.{index_of_name}
-use Rattle.network.specs.Lodgings.{slot_of}
+use Rattle.network.specs.FiledSlots.{slot_of}
 use Rattle.types.specs.declared.event.Refusal.TheVariants.{SlotNotOpen}
 use Rattle.network.specs.Deeds.{index_of_slot}
 use Rattle.network.specs.Standing.{IsStanding, machine_of}

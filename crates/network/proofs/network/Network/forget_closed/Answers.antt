@@ -1,11 +1,11 @@
 use Rattle.std.proofs.Common.{sym, subst}
 use Rattle.envstore.specs.Archives.{Archived}
-use Rattle.network.specs.Standing.{IsStanding, Standing}
+use Rattle.network.specs.Standing.{IsStanding, FiledMachine}
 use Rattle.network.proofs.Forgetting.{standing-still}
 use Rattle.network.proofs.network.Network.forget_closed.Goals as goal
 
 pub invariant_of-self : goal.invariant_of-self
 invariant_of-self g c =
     let i = c.self.inside in
-    let m : Standing = record { config = i.config; archive = i.archive; slots = i.slots; events = i.events; bytes = i.bytes; opens = i.opens } in
+    let m : FiledMachine = record { config = i.config; archive = i.archive; slots = i.slots; events = i.events; bytes = i.bytes; opens = i.opens } in
     subst (λ (a : Archived). IsStanding (record m { archive = a })) (sym c.let_go.ensures) (standing-still m c.self.invariant)

@@ -1,14 +1,14 @@
 use Rattle.std.proofs.Common.{ap}
 use Rattle.protocol.specs.Networks.{Instance}
-use Rattle.slot.specs.Listening.{Held}
-use Rattle.network.specs.Lodgings.{instance_in}
+use Rattle.slot.specs.Listening.{FiledNode}
+use Rattle.network.specs.FiledSlots.{instance_of_filed}
 use Rattle.network.proofs.HostedAt.{none-read, some-read}
 use Rattle.network.proofs.network.Network.node.Goals as goal
 
 pub returns-in-None-clause-value : goal.returns-in-None-clause-value
 returns-in-None-clause-value g c net stands =
-    none-read (λ p. instance_in p.now) (λ (x : Instance). x.node) c.hosted.result _ (c.hosted.ensures.value net stands) c.in-None.is
+    none-read (λ p. instance_of_filed p.now) (λ (x : Instance). x.node) c.hosted.result _ (c.hosted.ensures.value net stands) c.in-None.is
 
 pub returns-in-Some-clause-value : goal.returns-in-Some-clause-value
 returns-in-Some-clause-value g c net stands =
-    some-read (λ p. instance_in p.now) (λ (x : Instance). x.node) c.hosted.result _ c.in-Some.instance c.node.result.now.node (c.hosted.ensures.value net stands) c.in-Some.is (ap (λ (h : Held). h.node) c.node.ensures)
+    some-read (λ p. instance_of_filed p.now) (λ (x : Instance). x.node) c.hosted.result _ c.in-Some.instance c.node.result.now.node (c.hosted.ensures.value net stands) c.in-Some.is (ap (λ (h : FiledNode). h.node) c.node.ensures)

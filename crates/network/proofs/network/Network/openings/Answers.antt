@@ -2,15 +2,15 @@ use Rattle.std.proofs.Common.{◌∙◌, Option, option_map, sym, ap}
 use Rattle.protocol.specs.Networks.{source}
 use Rattle.protocol.specs.Networks.Step.{Opens, Closes}
 use Rattle.protocol.specs.Rosters.{Roster}
-use Rattle.network.specs.Standing.{Standing}
+use Rattle.network.specs.Standing.{FiledMachine}
 use Rattle.network.proofs.network.Network.openings.Goals as goal
 
 pub returns-in-Some-clause-opens : goal.returns-in-Some-clause-opens
 returns-in-Some-clause-opens g c =
-    let q = ap (λ (m : Standing). m.config.roster) (sym c.self.view_is) ∙ (sym c.roster.ensures ∙ ap (option_map (λ r. r.now)) c.in-Some.is) in
+    let q = ap (λ (m : FiledMachine). m.config.roster) (sym c.self.view_is) ∙ (sym c.roster.ensures ∙ ap (option_map (λ r. r.now)) c.in-Some.is) in
     λ i. (c.in-Some.field-0.now, q, ap (λ (o : Option Roster). source o (Opens i)) q)
 
 pub returns-in-Some-clause-closes : goal.returns-in-Some-clause-closes
 returns-in-Some-clause-closes g c =
-    let q = ap (λ (m : Standing). m.config.roster) (sym c.self.view_is) ∙ (sym c.roster.ensures ∙ ap (option_map (λ r. r.now)) c.in-Some.is) in
+    let q = ap (λ (m : FiledMachine). m.config.roster) (sym c.self.view_is) ∙ (sym c.roster.ensures ∙ ap (option_map (λ r. r.now)) c.in-Some.is) in
     λ i. (c.in-Some.field-0.now, q, ap (λ (o : Option Roster). source o (Closes i)) q)

@@ -1,5 +1,5 @@
 use Rattle.std.proofs.Common.{rules, ◌≡◌, ◌==◌, false, Err, sym, subst}
-use Rattle.network.specs.Lodgings.{seat_of}
+use Rattle.network.specs.FiledSlots.{counted_instance}
 use Rattle.types.specs.declared.event.Refusal.TheVariants.{NoSuchNode, SlotNotOpen}
 use Rattle.protocol.specs.Networks.Step.{Hears}
 use Rattle.network.specs.Deeds.{IsPlan, IsPlannedSurely}
@@ -8,7 +8,7 @@ use Rattle.envstore.specs.declared.filed.Filed.{Filed}
 use Rattle.slot.specs.declared.filed.FiledEvent.TheVariants as events
 use Rattle.network.specs.Standing.{IsStanding, machine_of}
 use Rattle.network.proofs.Handings.{AreTwo, hearing, hears-closed, hears-full, hears-nobody, hears-nothing, hears-nowhere, hears-plan}
-use Rattle.network.proofs.Plans.{seat-there}
+use Rattle.network.proofs.Plans.{instance-there}
 use Rattle.network.proofs.network.Network.plan_hear.Goals as goal
 
 pub returns-in_err-node_at : goal.returns-in_err-node_at
@@ -40,21 +40,21 @@ pub instance-requires : goal.instance-requires
 instance-requires g c =
     let m = c.args.self.now in
     let st : IsStanding m = subst IsStanding c.self.view_is c.self.invariant in
-    let y = seat-there (machine_of m) c.args.slot c.args.emission.now.from c.in_ok-slot_at.slot_at c.in_ok-from_at.from_at st.tidy c.in_ok-slot_at.ensures c.in_ok-from_at.ensures in
+    let y = instance-there (machine_of m) c.args.slot c.args.emission.now.from c.in_ok-slot_at.slot_at c.in_ok-from_at.from_at st.tidy c.in_ok-slot_at.ensures c.in_ok-from_at.ensures in
     (y.1, (y.0, y.2, y.3))
 
 pub returns-in_default : goal.returns-in_default
 returns-in_default g c =
     let a = c.args in
-    let x = hearing a.self.now a.slot a.node.now c.in_ok-node_at.node_at a.emission.now.from c.in_ok-from_at.from_at c.in_ok-slot_at.slot_at a.emission.now.kind a.emission.now.number (seat_of c.instance.result.now) c.emission.result
-    c.self.view_is c.self.invariant c.in_ok-node_at.ensures c.in_ok-from_at.ensures (search rules) c.in_ok-slot_at.ensures c.instance.ensures.seat c.emission.ensures.sent in
+    let x = hearing a.self.now a.slot a.node.now c.in_ok-node_at.node_at a.emission.now.from c.in_ok-from_at.from_at c.in_ok-slot_at.slot_at a.emission.now.kind a.emission.now.number (counted_instance c.instance.result.now) c.emission.result
+    c.self.view_is c.self.invariant c.in_ok-node_at.ensures c.in_ok-from_at.ensures (search rules) c.in_ok-slot_at.ensures c.instance.ensures.counted c.emission.ensures.sent in
     hears-nothing x c.in_default.is
 
 pub returns-in_err-drawn : goal.returns-in_err-drawn
 returns-in_err-drawn g c =
     let a = c.args in
-    let x = hearing a.self.now a.slot a.node.now c.in_ok-node_at.node_at a.emission.now.from c.in_ok-from_at.from_at c.in_ok-slot_at.slot_at a.emission.now.kind a.emission.now.number (seat_of c.instance.result.now) c.emission.result
-    c.self.view_is c.self.invariant c.in_ok-node_at.ensures c.in_ok-from_at.ensures (search rules) c.in_ok-slot_at.ensures c.instance.ensures.seat c.emission.ensures.sent in
+    let x = hearing a.self.now a.slot a.node.now c.in_ok-node_at.node_at a.emission.now.from c.in_ok-from_at.from_at c.in_ok-slot_at.slot_at a.emission.now.kind a.emission.now.number (counted_instance c.instance.result.now) c.emission.result
+    c.self.view_is c.self.invariant c.in_ok-node_at.ensures c.in_ok-from_at.ensures (search rules) c.in_ok-slot_at.ensures c.instance.ensures.counted c.emission.ensures.sent in
     let r = c.in_err-drawn.field-0.0 in
     let e : c.from_residual-in_err-drawn.result ≡ Err r = search rules in
     subst (IsPlannedSurely a.self.now (Hears a.slot a.node.now a.emission.now.from a.emission.now.kind a.emission.now.number)) (sym e)
@@ -63,9 +63,9 @@ returns-in_err-drawn g c =
 pub returns : goal.returns
 returns g c =
     let a = c.args in
-    let x = hearing a.self.now a.slot a.node.now c.in_ok-node_at.node_at a.emission.now.from c.in_ok-from_at.from_at c.in_ok-slot_at.slot_at a.emission.now.kind a.emission.now.number (seat_of c.instance.result.now) c.emission.result
-    c.self.view_is c.self.invariant c.in_ok-node_at.ensures c.in_ok-from_at.ensures (search rules) c.in_ok-slot_at.ensures c.instance.ensures.seat c.emission.ensures.sent in
+    let x = hearing a.self.now a.slot a.node.now c.in_ok-node_at.node_at a.emission.now.from c.in_ok-from_at.from_at c.in_ok-slot_at.slot_at a.emission.now.kind a.emission.now.number (counted_instance c.instance.result.now) c.emission.result
+    c.self.view_is c.self.invariant c.in_ok-node_at.ensures c.in_ok-from_at.ensures (search rules) c.in_ok-slot_at.ensures c.instance.ensures.counted c.emission.ensures.sent in
     let d = c.in_ok-drawn.drawn in
-    let filed = c.in-Some.ensures.filed a.self.now.archive c.instance.ensures.lodged in
+    let filed = c.in-Some.ensures.filed a.self.now.archive c.instance.ensures.archived in
     let plan = hears-plan c.in-Some.emitted d x c.in-Some.is filed (c.in_ok-drawn.ensures.room a.slot c.in_ok-slot_at.ensures) in
     subst (λ (f : Filed). IsPlan a.self.now (Hears a.slot a.node.now a.emission.now.from a.emission.now.kind a.emission.now.number) (record { deed = Act c.in_ok-slot_at.slot_at c.in_ok-node_at.node_at (events.Take f); drawn = d; size = 0 })) (sym c.copy_of.ensures) plan

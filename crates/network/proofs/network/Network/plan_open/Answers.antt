@@ -2,8 +2,8 @@ use Rattle.std.proofs.Common.{rules, ◌≡◌, ◌∙◌, true, false, is_some,
 use Rattle.protocol.specs.Networks.{instances_of_new_slot, source}
 use Rattle.protocol.specs.Networks.Step.{Opens}
 use Rattle.network.specs.Deeds.{IsPlanned, index_of_slot}
-use Rattle.network.specs.Lodgings.{slot_of}
-use Rattle.network.specs.Standing.{Standing, machine_of}
+use Rattle.network.specs.FiledSlots.{slot_of}
+use Rattle.network.specs.Standing.{FiledMachine, machine_of}
 use Rattle.network.proofs.Openings.{none-so, opens-again-so, opens-allowed, opens-full, opens-many, opens-plan}
 use Rattle.network.proofs.Planned.{room-err, room-ok}
 use Rattle.network.proofs.network.Network.plan_open.Goals as goal
@@ -52,4 +52,4 @@ returns-in-Ok g c =
     let none = none-so (index_of_slot (map slot_of (machine_of m).slots) c.args.slot) f in
     let l : not (nat_lt (length m.slots) m.config.budgets.slots) ≡ false = search rules in
     let o = c.in-Ok.ensures in
-    opens-plan m c.args.slot c.openings-drawn.result c.in-Ok.opened none l (room-ok m (λ o. source o (Opens c.args.slot)) c.openings-drawn.result (c.openings-drawn.ensures.opens c.args.slot) c.in_ok-has_room.ensures) o.number (o.instances ∙ ap (λ (x : Standing). instances_of_new_slot x.config.nodes c.args.slot) c.self.view_is) o.lodged o.counts
+    opens-plan m c.args.slot c.openings-drawn.result c.in-Ok.opened none l (room-ok m (λ o. source o (Opens c.args.slot)) c.openings-drawn.result (c.openings-drawn.ensures.opens c.args.slot) c.in_ok-has_room.ensures) o.number (o.instances ∙ ap (λ (x : FiledMachine). instances_of_new_slot x.config.nodes c.args.slot) c.self.view_is) o.archived o.counts

@@ -4,11 +4,11 @@ use Rattle.protocol.specs.Networks.Step.{Proposes}
 use Rattle.slot.specs.declared.filed.FiledEvent.TheVariants as events
 use Rattle.std.specs.Prelude.{List, ℕ}
 use Rattle.network.specs.Deeds.{IsPlanned, IsPlan}
-use Rattle.network.specs.Lodgings.{seat_of}
+use Rattle.network.specs.FiledSlots.{counted_instance}
 use Rattle.network.specs.declared.plan.Deed.TheVariants.{Act}
 use Rattle.network.specs.declared.plan.Plan.{Plan}
 use Rattle.network.specs.Standing.{IsStanding, machine_of}
-use Rattle.network.proofs.Plans.{seat-there}
+use Rattle.network.proofs.Plans.{instance-there}
 use Rattle.network.proofs.Planned.{asks-again, asks-bad, asks-full, asks-nowhere, asks-plan}
 use Rattle.network.proofs.network.Network.plan_propose.Goals as goal
 
@@ -28,7 +28,7 @@ pub instance-requires : goal.instance-requires
 instance-requires g c =
     let m = c.args.self.now in
     let st : IsStanding m = subst IsStanding c.self.view_is c.self.invariant in
-    let y = seat-there (machine_of m) c.args.slot c.args.node.now c.in_ok-spot.spot.slot_at c.in_ok-spot.spot.node_at st.tidy c.in_ok-spot.ensures.slot c.in_ok-spot.ensures.node in
+    let y = instance-there (machine_of m) c.args.slot c.args.node.now c.in_ok-spot.spot.slot_at c.in_ok-spot.spot.node_at st.tidy c.in_ok-spot.ensures.slot c.in_ok-spot.ensures.node in
     (y.1, (y.0, y.2, y.3))
 
 pub returns-then-has_proposal : goal.returns-then-has_proposal
@@ -36,7 +36,7 @@ returns-then-has_proposal g c =
     let m = c.args.self.now in
     let st : IsStanding m = subst IsStanding c.self.view_is c.self.invariant in
     let bad : is_bad_value c.args.value.now ≡ false = search rules in
-    inr (asks-again m c.args.slot c.args.node.now c.args.value.now c.in_ok-spot.spot (seat_of c.instance.result.now) c.has_proposal.result st c.in_ok-spot.ensures c.instance.ensures.seat bad c.has_proposal.ensures c.if-has_proposal.true)
+    inr (asks-again m c.args.slot c.args.node.now c.args.value.now c.in_ok-spot.spot (counted_instance c.instance.result.now) c.has_proposal.result st c.in_ok-spot.ensures c.instance.ensures.counted bad c.has_proposal.ensures c.if-has_proposal.true)
 
 pub own_room-requires-clause-slot : goal.own_room-requires-clause-slot
 own_room-requires-clause-slot g c = (c.args.slot, c.in_ok-spot.ensures.slot)
@@ -49,14 +49,14 @@ returns-in_err-drawn g c =
     let e : c.from_residual-in_err-drawn.result ≡ Err r = search rules in
     let bad : is_bad_value c.args.value.now ≡ false = search rules in
     subst (IsPlanned m (Proposes c.args.slot c.args.node.now c.args.value.now)) (sym e)
-    (inr (asks-full m c.args.slot c.args.node.now c.args.value.now c.in_ok-spot.spot (seat_of c.instance.result.now) c.has_proposal.result r st c.in_ok-spot.ensures c.instance.ensures.seat bad c.has_proposal.ensures c.if-has_proposal.false (c.in_err-drawn.ensures c.args.slot c.in_ok-spot.ensures.slot)))
+    (inr (asks-full m c.args.slot c.args.node.now c.args.value.now c.in_ok-spot.spot (counted_instance c.instance.result.now) c.has_proposal.result r st c.in_ok-spot.ensures c.instance.ensures.counted bad c.has_proposal.ensures c.if-has_proposal.false (c.in_err-drawn.ensures c.args.slot c.in_ok-spot.ensures.slot)))
 
 pub returns-in-Err : goal.returns-in-Err
 returns-in-Err g c =
     let m = c.args.self.now in
     let st : IsStanding m = subst IsStanding c.self.view_is c.self.invariant in
     let bad : is_bad_value c.args.value.now ≡ false = search rules in
-    let plan = asks-plan m c.args.slot c.args.node.now c.args.value.now c.in_ok-spot.spot (seat_of c.instance.result.now) c.has_proposal.result c.in_ok-drawn.drawn st c.in_ok-spot.ensures c.instance.ensures.seat bad c.has_proposal.ensures c.if-has_proposal.false (c.in_ok-drawn.ensures c.args.slot c.in_ok-spot.ensures.slot) in
+    let plan = asks-plan m c.args.slot c.args.node.now c.args.value.now c.in_ok-spot.spot (counted_instance c.instance.result.now) c.has_proposal.result c.in_ok-drawn.drawn st c.in_ok-spot.ensures c.instance.ensures.counted bad c.has_proposal.ensures c.if-has_proposal.false (c.in_ok-drawn.ensures c.args.slot c.in_ok-spot.ensures.slot) in
     inl (refl, inl plan.allowed)
 
 pub returns-in-Ok : goal.returns-in-Ok
@@ -64,6 +64,6 @@ returns-in-Ok g c =
     let m = c.args.self.now in
     let st : IsStanding m = subst IsStanding c.self.view_is c.self.invariant in
     let bad : is_bad_value c.args.value.now ≡ false = search rules in
-    let plan = asks-plan m c.args.slot c.args.node.now c.args.value.now c.in_ok-spot.spot (seat_of c.instance.result.now) c.has_proposal.result c.in_ok-drawn.drawn st c.in_ok-spot.ensures c.instance.ensures.seat bad c.has_proposal.ensures c.if-has_proposal.false (c.in_ok-drawn.ensures c.args.slot c.in_ok-spot.ensures.slot) in
+    let plan = asks-plan m c.args.slot c.args.node.now c.args.value.now c.in_ok-spot.spot (counted_instance c.instance.result.now) c.has_proposal.result c.in_ok-drawn.drawn st c.in_ok-spot.ensures c.instance.ensures.counted bad c.has_proposal.ensures c.if-has_proposal.false (c.in_ok-drawn.ensures c.args.slot c.in_ok-spot.ensures.slot) in
     let e : c.plan_at.result ≡ record { deed = Act c.in_ok-spot.spot.slot_at c.in_ok-spot.spot.node_at (events.Propose c.args.value.now); drawn = c.in_ok-drawn.drawn; size = 0 } = c.plan_at.ensures ∙ ap (λ (x : List ℕ). record { deed = Act c.in_ok-spot.spot.slot_at c.in_ok-spot.spot.node_at (events.Propose x); drawn = c.in_ok-drawn.drawn; size = 0 }) c.in-Ok.ensures in
     subst (λ (p : Plan). IsPlan m (Proposes c.args.slot c.args.node.now c.args.value.now) p) (sym e) plan

@@ -1,8 +1,8 @@
 use Rattle.std.proofs.Common.{ℕ, List, ◌∙◌, map, sym, ap}
 use Rattle.configuration.specs.Configs.{index_in}
 use Rattle.network.specs.Deeds.{index_of_slot}
-use Rattle.network.specs.Lodgings.{slot_of}
-use Rattle.network.specs.Standing.{Standing, machine_of}
+use Rattle.network.specs.FiledSlots.{slot_of}
+use Rattle.network.specs.Standing.{FiledMachine, machine_of}
 use Rattle.network.proofs.SlotPlaceLaws.{numbers-are}
 use Rattle.network.proofs.network.Network.slot_at.Goals as goal
 
@@ -10,4 +10,4 @@ pub returns : goal.returns
 returns g c =
     c.place.ensures
     ∙ ap (λ (ns : List ℕ). index_in ns c.args.slot) (sym (numbers-are c.self.inside.slots))
-    ∙ ap (λ (m : Standing). index_of_slot (map slot_of (machine_of m).slots) c.args.slot) c.self.view_is
+    ∙ ap (λ (m : FiledMachine). index_of_slot (map slot_of (machine_of m).slots) c.args.slot) c.self.view_is

@@ -5,46 +5,46 @@ use Rattle.protocol.specs.Networks.{Instance, emissions, outs_at}
 use Rattle.network.specs.Marks.{numbers_by_kind, emitted_at}
 use Rattle.slot.specs.Filings.{event_of}
 use Rattle.network.specs.Changes.{IsChangedAt}
-use Rattle.network.specs.Charges.{HasRoomFor, IsActed}
-use Rattle.network.specs.Lodgings.{IsGiven, IsLodged, Lodging, Lodgings, instance_in}
-use Rattle.network.proofs.Placed.{placed, stands, got, all-lodged}
+use Rattle.network.specs.Charges.{HasRoomForCharge, IsActed}
+use Rattle.network.specs.FiledSlots.{AreOutsGiven, FiledInstance, FiledSlot, IsInstanceFiled, instance_of_filed}
+use Rattle.network.proofs.Placed.{placed, stands, got, all-archived}
 use Rattle.network.proofs.open_slot.OpenSlot.act.Goals as goal
 
-pub act-requires-clause-lodged : goal.act-requires-clause-lodged
-act-requires-clause-lodged g c =
-    let P = IsLodged c.args.archive.now in
+pub act-requires-clause-archived : goal.act-requires-clause-archived
+act-requires-clause-archived g c =
+    let P = IsInstanceFiled c.args.archive.now in
     let items = c.self.inside.instances.items in
-    let all : All P items = subst (λ (s : Lodgings). All P s.instances) (sym c.self.view_is) c.requires.lodged in
-    let within : c.args.at < length items = subst (λ (s : Lodgings). c.args.at < length s.instances) (sym c.self.view_is) c.requires.at in
+    let all : All P items = subst (λ (s : FiledSlot). All P s.instances) (sym c.self.view_is) c.requires.archived in
+    let within : c.args.at < length items = subst (λ (s : FiledSlot). c.args.at < length s.instances) (sym c.self.view_is) c.requires.at in
     subst P (sym c.index_mut.ensures.value) (All-get_or P items c.args.at c.index_mut.result.now within all)
 
 pub act-requires-clause-room : goal.act-requires-clause-room
 act-requires-clause-room g c =
     let items = c.self.inside.instances.items in
-    let within : c.args.at < length items = subst (λ (s : Lodgings). c.args.at < length s.instances) (sym c.self.view_is) c.requires.at in
-    let room : IfSome (slice_get items c.args.at) (HasRoomFor c.args.terms.now.charge) = subst (λ (s : Lodgings). IfSome (slice_get s.instances c.args.at) (HasRoomFor c.args.terms.now.charge)) (sym c.self.view_is) c.requires.room in
-    subst (λ (o : Option Lodging). IfSome o (HasRoomFor c.args.terms.now.charge)) (stands items c.args.at c.index_mut.result.now within c.index_mut.ensures.value) room
+    let within : c.args.at < length items = subst (λ (s : FiledSlot). c.args.at < length s.instances) (sym c.self.view_is) c.requires.at in
+    let room : IfSome (slice_get items c.args.at) (HasRoomForCharge c.args.terms.now.charge) = subst (λ (s : FiledSlot). IfSome (slice_get s.instances c.args.at) (HasRoomForCharge c.args.terms.now.charge)) (sym c.self.view_is) c.requires.room in
+    subst (λ (o : Option FiledInstance). IfSome o (HasRoomForCharge c.args.terms.now.charge)) (stands items c.args.at c.index_mut.result.now within c.index_mut.ensures.value) room
 
 pub returns-clause-acted : goal.returns-clause-acted
 returns-clause-acted g c =
     let items = c.self.inside.instances.items in
     let e = event_of c.args.event in
-    let within : c.args.at < length items = subst (λ (s : Lodgings). c.args.at < length s.instances) (sym c.self.view_is) c.requires.at in
-    subst (λ (s : Lodgings). OnOk c.act.result (IsChangedAt (IsActed c.args.terms.now.charge e) c.args.at s.instances (set items c.args.at c.act.new.self))) c.self.view_is
+    let within : c.args.at < length items = subst (λ (s : FiledSlot). c.args.at < length s.instances) (sym c.self.view_is) c.requires.at in
+    subst (λ (s : FiledSlot). OnOk c.act.result (IsChangedAt (IsActed c.args.terms.now.charge e) c.args.at s.instances (set items c.args.at c.act.new.self))) c.self.view_is
     (placed c.act.result c.args.terms.now.charge e items c.args.at c.index_mut.result.now c.act.new.self within c.index_mut.ensures.value c.act.ensures.acted)
 
 pub returns-clause-applied : goal.returns-clause-applied
 returns-clause-applied g c =
     let items = c.self.inside.instances.items in
     let e = event_of c.args.event in
-    let within : c.args.at < length items = subst (λ (s : Lodgings). c.args.at < length s.instances) (sym c.self.view_is) c.requires.at in
-    let q : slice_get (map instance_in c.args.self.now.instances) c.args.at ≡ Some (instance_in c.index_mut.result.now) =
-    subst (λ (s : Lodgings). slice_get (map instance_in s.instances) c.args.at ≡ Some (instance_in c.index_mut.result.now)) c.self.view_is (got items c.args.at c.index_mut.result.now within c.index_mut.ensures.value) in
-    subst (λ (o : Option Instance). IfOk c.act.result (IsGiven (outs_at e o) (numbers_by_kind (emitted_at o) (emissions (outs_at e o))) c.args.terms.now.copies)) (sym q) c.act.ensures.applied
+    let within : c.args.at < length items = subst (λ (s : FiledSlot). c.args.at < length s.instances) (sym c.self.view_is) c.requires.at in
+    let q : slice_get (map instance_of_filed c.args.self.now.instances) c.args.at ≡ Some (instance_of_filed c.index_mut.result.now) =
+    subst (λ (s : FiledSlot). slice_get (map instance_of_filed s.instances) c.args.at ≡ Some (instance_of_filed c.index_mut.result.now)) c.self.view_is (got items c.args.at c.index_mut.result.now within c.index_mut.ensures.value) in
+    subst (λ (o : Option Instance). IfOk c.act.result (AreOutsGiven (outs_at e o) (numbers_by_kind (emitted_at o) (emissions (outs_at e o))) c.args.terms.now.copies)) (sym q) c.act.ensures.applied
 
-pub returns-clause-lodged : goal.returns-clause-lodged
-returns-clause-lodged g c =
-    let P = IsLodged c.args.archive.now in
+pub returns-clause-archived : goal.returns-clause-archived
+returns-clause-archived g c =
+    let P = IsInstanceFiled c.args.archive.now in
     let items = c.self.inside.instances.items in
-    let all : All P items = subst (λ (s : Lodgings). All P s.instances) (sym c.self.view_is) c.requires.lodged in
-    all-lodged c.args.archive.now c.act.new.archive items c.args.at c.act.new.self c.act.ensures.kept c.act.ensures.lodged all
+    let all : All P items = subst (λ (s : FiledSlot). All P s.instances) (sym c.self.view_is) c.requires.archived in
+    all-archived c.args.archive.now c.act.new.archive items c.args.at c.act.new.self c.act.ensures.kept c.act.ensures.archived all

@@ -1,6 +1,6 @@
 use Rattle.std.proofs.Common.{◌∙◌, ◌++◌, Bool, Option, Some, sym, ap, ap₂, rules}
 use Rattle.scripts.specs.Script.{Bytes}
-use Rattle.feed.specs.Served.{Reply}
+use Rattle.feed.specs.Served.{LineReply}
 use Rattle.feed.specs.declared.answering.Done.{Done}
 use Rattle.live.specs.Telling.{ending_of, tellings_of}
 use Rattle.serving.specs.Blocks.{block_of}
@@ -11,7 +11,7 @@ pub returns : goal.returns
 returns c =
     let s = c.in_ok-served.served in
     let block : Bool → Bytes = λ b. block_of b c.args.place.line c.args.place.network s.slot (tellings_of s.told.items) (ending_of s) in
-    let reply : Bytes → Option Done → Reply = λ text done. record { text = text; done = done } in (
+    let reply : Bytes → Option Done → LineReply = λ text done. record { text = text; done = done } in (
       Some c.in-Some.network.now,
       ap (λ (l : Live). live_at l c.args.place.network) (sym c.self.view_is) ∙ sym c.in-Some.ensures.value,
       (

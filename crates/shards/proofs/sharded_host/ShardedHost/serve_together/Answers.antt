@@ -3,7 +3,7 @@ use Rattle.std.proofs.lemmas.List.{length-map}
 use Rattle.feed.specs.Reading.{given_of}
 use Rattle.feed.specs.Served.{reply_of}
 use Rattle.shards.specs.Parts.{joined}
-use Rattle.shards.specs.Sharded.{AreAllAnswered, AreShards, hosts_of}
+use Rattle.shards.specs.Sharded.{AreAnsweredUntil, AreShards, hosts_of}
 use Rattle.shards.proofs.ShardLaws.{batch_shards, nothing_answered, together_answered, written}
 use Rattle.shards.proofs.sharded_host.ShardedHost.serve_together.Goals as goal
 
@@ -31,5 +31,5 @@ returns-clause-answered g c =
     let long : length new ≡ length items = c.serve_dealt-answers.ensures.length ∙ ap length c.deref_mut.ensures.value in
     let room : c.self.inside.shards.len ≡ length items = search rules in
     let answered = rw c.deref_mut.ensures.value at c.serve_dealt-answers.ensures.answered in
-    subst (λ xs. AreAllAnswered c.args.self.now (c.args.count + 1) (map given_of c.args.lines.now) (map reply_of c.serve_dealt-answers.result.items) (joined (hosts_of xs))) (sym (written new items c.self.inside.shards.len room long))
+    subst (λ xs. AreAnsweredUntil c.args.self.now (c.args.count + 1) (map given_of c.args.lines.now) (map reply_of c.serve_dealt-answers.result.items) (joined (hosts_of xs))) (sym (written new items c.self.inside.shards.len room long))
     (together_answered items new c.args.self.now _ _ _ c.self.view_is answered)

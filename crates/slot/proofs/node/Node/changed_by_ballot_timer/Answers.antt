@@ -2,7 +2,7 @@ use Rattle.std.proofs.Common.{◌∙◌, ap, arith, sym}
 use Rattle.std.proofs.lemmas.Bool.{false≢true}
 use Rattle.protocol.specs.Nodes.{is_counter_live}
 use Rattle.protocol.proofs.Nodes.Lawful.{timeouts-of-events}
-use Rattle.slot.specs.Listening.{Held}
+use Rattle.slot.specs.Listening.{FiledNode}
 use Rattle.slot.proofs.Answered.{change-counter, change-no_counter, live-below, node_in}
 use Rattle.slot.proofs.Idle.{idle-counter}
 use Rattle.slot.proofs.node.Node.changed_by_ballot_timer.Goals as goal
@@ -25,4 +25,4 @@ returns-clause-changed c =
     change-counter i.listener i.inputs i.votes c.args.self.now.node c.args.counter c.in_ok-changed.changed (ap node_in c.self.view_is) (sym c.is_counter_live.ensures ∙ c.if-not-is_counter_live.false) c.in_ok-changed.ensures
 
 pub returns-in_err-changed-clause-idle : goal.returns-in_err-changed-clause-idle
-returns-in_err-changed-clause-idle c = λ idle. absurd (false≢true (sym (idle-counter c.args.self.now.node c.args.counter idle) ∙ sym (ap (λ (h : Held). is_counter_live h.node c.args.counter) c.self.view_is) ∙ sym c.is_counter_live.ensures ∙ c.if-not-is_counter_live.false))
+returns-in_err-changed-clause-idle c = λ idle. absurd (false≢true (sym (idle-counter c.args.self.now.node c.args.counter idle) ∙ sym (ap (λ (h : FiledNode). is_counter_live h.node c.args.counter) c.self.view_is) ∙ sym c.is_counter_live.ensures ∙ c.if-not-is_counter_live.false))

@@ -1,7 +1,7 @@
 use Rattle.std.proofs.Common.{◌∙◌, ap, sym}
 use Rattle.std.proofs.lemmas.Bool.{false≢true}
 use Rattle.protocol.specs.Nodes.{is_round_live}
-use Rattle.slot.specs.Listening.{Held}
+use Rattle.slot.specs.Listening.{FiledNode}
 use Rattle.slot.proofs.Answered.{change-no_round, change-round, node_in}
 use Rattle.slot.proofs.Idle.{idle-round}
 use Rattle.slot.proofs.node.Node.changed_by_nomination_timer.Goals as goal
@@ -17,4 +17,4 @@ returns-clause-changed c =
     change-round c.configuration.result.now i.listener i.inputs i.votes c.args.self.now.node c.args.round c.in_ok-changed.changed (ap node_in c.self.view_is) (sym c.is_round_live.ensures ∙ c.if-not-is_round_live.false) c.configuration.ensures c.in_ok-changed.ensures
 
 pub returns-in_err-changed-clause-idle : goal.returns-in_err-changed-clause-idle
-returns-in_err-changed-clause-idle c = λ idle. absurd (false≢true (sym (idle-round c.args.self.now.node c.args.round idle) ∙ sym (ap (λ (h : Held). is_round_live h.node c.args.round) c.self.view_is) ∙ sym c.is_round_live.ensures ∙ c.if-not-is_round_live.false))
+returns-in_err-changed-clause-idle c = λ idle. absurd (false≢true (sym (idle-round c.args.self.now.node c.args.round idle) ∙ sym (ap (λ (h : FiledNode). is_round_live h.node c.args.round) c.self.view_is) ∙ sym c.is_round_live.ensures ∙ c.if-not-is_round_live.false))

@@ -4,8 +4,8 @@ use Rattle.protocol.specs.Limits.{ComesOfEvents}
 use Rattle.envstore.specs.Archives.{AreFiled}
 use Rattle.envstore.proofs.Growing.{keeps_all}
 use Rattle.listening.specs.Listening.{ListenerState}
-use Rattle.slot.specs.Listening.{Held, node_of}
-use Rattle.slot.specs.NodeParts.{IsChange}
+use Rattle.slot.specs.Listening.{FiledNode, node_of}
+use Rattle.slot.specs.NodeParts.{IsBeforePasses}
 use Rattle.slot.proofs.Answered.{change-slices, node-after, node_in, outs-after, reached-after}
 use Rattle.slot.proofs.StirredRows.{start-all}
 use Rattle.slot.proofs.node.Node.reslice.Given.{Over}
@@ -13,7 +13,7 @@ use Rattle.slot.proofs.node.Node.reslice.Goals.{After-exchange_slices-old_slices
 use Rattle.slot.proofs.node.Node.reslice.Goals as goal
 
 -- the node with the new slices
-abbrev changed : (g : Over) (c : After-exchange_slices-old_slices g) → IsChange (node_of c.exchange_slices-old_slices.new.self c.self.inside.inputs c.self.inside.votes)
+abbrev changed : (g : Over) (c : After-exchange_slices-old_slices g) → IsBeforePasses (node_of c.exchange_slices-old_slices.new.self c.self.inside.inputs c.self.inside.votes)
 changed g c =
     let i = c.self.inside in
     record {
@@ -47,6 +47,6 @@ returns-in-Ok-clause-outs g c =
 pub returns-in-Ok-clause-rows : goal.returns-in-Ok-clause-rows
 returns-in-Ok-clause-rows g c =
     let i = c.self.inside in
-    let before = subst (λ (h : Held). AreFiled c.args.archive.now h.rows) (sym c.self.view_is) c.requires.rows in
+    let before = subst (λ (h : FiledNode). AreFiled c.args.archive.now h.rows) (sym c.self.view_is) c.requires.rows in
     let kept = keeps_all c.args.archive.now c.answer_anew.new.archive i.listener.table c.answer_anew.ensures.kept before in
     subst (λ (h : ListenerState). AreFiled c.answer_anew.new.archive h.table) (sym (c.answer_anew.ensures.same ∙ c.exchange_slices-old_slices.ensures.now)) kept

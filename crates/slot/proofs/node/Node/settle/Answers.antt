@@ -7,9 +7,9 @@ use Rattle.protocol.specs.Limits.{ComesOfEvents}
 use Rattle.envstore.specs.Archives.{AreFiled}
 use Rattle.envstore.proofs.Growing.{keeps_all}
 use Rattle.listening.specs.Listening.{ListenerState}
-use Rattle.slot.specs.Filings.{outs_of}
-use Rattle.slot.specs.Listening.{Held, node_of}
-use Rattle.slot.specs.NodeParts.{ChangesTo, IsChange}
+use Rattle.slot.specs.Filings.{whole_outs}
+use Rattle.slot.specs.Listening.{FiledNode, node_of}
+use Rattle.slot.specs.NodeParts.{ChangesTo, IsBeforePasses}
 use Rattle.slot.proofs.Answered.{change-of, node-after, node_in, outs-after, reached-after, step-none}
 use Rattle.slot.proofs.Idle.{never}
 use Rattle.slot.proofs.StirredRows.{start-all}
@@ -18,7 +18,7 @@ use Rattle.slot.proofs.node.Node.settle.Goals.{After-self}
 use Rattle.slot.proofs.node.Node.settle.Goals as goal
 
 -- the node with what was set
-abbrev changed : (g : Over) (c : After-self g) (event : NodeEvent) → ChangesTo c.args.self.now.node event c.args.changed → IsChange (node_of c.self.inside.listener c.in-Some.changed.inputs c.in-Some.changed.votes)
+abbrev changed : (g : Over) (c : After-self g) (event : NodeEvent) → ChangesTo c.args.self.now.node event c.args.changed → IsBeforePasses (node_of c.self.inside.listener c.in-Some.changed.inputs c.in-Some.changed.votes)
 changed g c event made = change-of c.self.inside.listener c.self.inside.inputs c.self.inside.votes c.args.self.now.node event c.args.changed c.in-Some.changed (ap node_in c.self.view_is) c.self.invariant c.in-Some.is made
 
 pub answer-requires-clause-start : goal.answer-requires-clause-start
@@ -33,7 +33,7 @@ pub returns-in_default-clause-node : goal.returns-in_default-clause-node
 returns-in_default-clause-node g c = λ event made. sym (ap (λ (p : Node × List Out). p.0) (step-none c.args.self.now.node event c.args.changed c.in_default.is made))
 
 pub returns-in_default-clause-outs : goal.returns-in_default-clause-outs
-returns-in_default-clause-outs g c = λ event made. ap outs_of c.nothing.ensures.outs ∙ sym (ap (λ (p : Node × List Out). p.1) (step-none c.args.self.now.node event c.args.changed c.in_default.is made))
+returns-in_default-clause-outs g c = λ event made. ap whole_outs c.nothing.ensures.outs ∙ sym (ap (λ (p : Node × List Out). p.1) (step-none c.args.self.now.node event c.args.changed c.in_default.is made))
 
 pub returns-in-Ok-clause-node : goal.returns-in-Ok-clause-node
 returns-in-Ok-clause-node g c = λ event made.
@@ -48,7 +48,7 @@ returns-in-Ok-clause-outs g c = λ event made.
 
 pub returns-in-Ok-clause-rows : goal.returns-in-Ok-clause-rows
 returns-in-Ok-clause-rows g c =
-    let before = subst (λ (h : Held). AreFiled c.args.archive.now h.rows) (sym c.self.view_is) c.requires.rows in
+    let before = subst (λ (h : FiledNode). AreFiled c.args.archive.now h.rows) (sym c.self.view_is) c.requires.rows in
     subst (λ (h : ListenerState). AreFiled c.answer.new.archive h.table) (sym c.answer.ensures.same) (keeps_all c.args.archive.now c.answer.new.archive c.self.inside.listener.table c.answer.ensures.kept before)
 
 pub returns-in-Err-clause-idle : goal.returns-in-Err-clause-idle

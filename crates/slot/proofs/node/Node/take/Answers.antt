@@ -8,7 +8,7 @@ use Rattle.protocol.specs.Limits.{ComesOfEvents}
 use Rattle.protocol.specs.Limits.ComesOfEvents.{next}
 use Rattle.listening.specs.Listening.{ListenerState}
 use Rattle.slot.specs.Listening.{AddsRowAlone, node_of}
-use Rattle.slot.specs.Filings.{outs_of}
+use Rattle.slot.specs.Filings.{whole_outs}
 use Rattle.envstore.specs.Archives.{sent_of, sents_of}
 use Rattle.slot.proofs.Answered.{node_in, change-put, node-after, outs-after, reached-after, stale-put}
 use Rattle.slot.proofs.Idle.{idle-stale, never}
@@ -16,7 +16,7 @@ use Rattle.slot.proofs.AddedRows.{row-step}
 use Rattle.latest.specs.declared.table.Put.{Put}
 use Rattle.latest.specs.Puts.{IsPut}
 use Rattle.listening.proofs.Offers.{first-taken, put-takes}
-use Rattle.slot.specs.NodeParts.{IsChange}
+use Rattle.slot.specs.NodeParts.{IsBeforePasses}
 use Rattle.slot.proofs.StirredRows.{start-row}
 use Rattle.slot.proofs.node.Node.take.Given.{Over}
 use Rattle.slot.proofs.node.Node.take.Goals.{In_ok-offer, In-Added}
@@ -41,7 +41,7 @@ pub returns-then-adds_row_alone-clause-node : goal.returns-then-adds_row_alone-c
 returns-then-adds_row_alone-clause-node g c = sym (ap (λ (p : Node × List Out). p.0) (row g (goal.at.returns-then-adds_row_alone-clause-node g c).In_ok-offer))
 
 pub returns-then-adds_row_alone-clause-outs : goal.returns-then-adds_row_alone-clause-outs
-returns-then-adds_row_alone-clause-outs g c = ap outs_of c.nothing.ensures.outs ∙ sym (ap (λ (p : Node × List Out). p.1) (row g (goal.at.returns-then-adds_row_alone-clause-outs g c).In_ok-offer))
+returns-then-adds_row_alone-clause-outs g c = ap whole_outs c.nothing.ensures.outs ∙ sym (ap (λ (p : Node × List Out). p.1) (row g (goal.at.returns-then-adds_row_alone-clause-outs g c).In_ok-offer))
 
 pub returns-in_err-offer-clause-idle : goal.returns-in_err-offer-clause-idle
 returns-in_err-offer-clause-idle g c = λ idle.
@@ -50,7 +50,7 @@ returns-in_err-offer-clause-idle g c = λ idle.
     absurd (false≢true (c.in_err-offer.ensures.idle stale))
 
 -- the node with the row
-abbrev changed : (g : Over) (c : In-Added g) → IsChange (node_of c.put_row-put.new.listener c.self.inside.inputs c.self.inside.votes)
+abbrev changed : (g : Over) (c : In-Added g) → IsBeforePasses (node_of c.put_row-put.new.listener c.self.inside.inputs c.self.inside.votes)
 changed g c =
     let i = c.self.inside in
     record {
@@ -82,7 +82,7 @@ returns-in-Stale-clause-node g c =
 pub returns-in-Stale-clause-outs : goal.returns-in-Stale-clause-outs
 returns-in-Stale-clause-outs g c =
     let i = c.self.inside in
-    ap outs_of c.nothing-in-Stale.ensures.outs ∙ sym (ap (λ (p : Node × List Out). p.1) (stale-put i.listener c.put_row-put.new.listener i.inputs i.votes c.args.self.now.node (sent_of c.args.envelope) c.put_row-put.result.0 (ap node_in c.self.view_is) c.put_row-put.ensures.put c.put_row-put.ensures.same c.in-Stale.is))
+    ap whole_outs c.nothing-in-Stale.ensures.outs ∙ sym (ap (λ (p : Node × List Out). p.1) (stale-put i.listener c.put_row-put.new.listener i.inputs i.votes c.args.self.now.node (sent_of c.args.envelope) c.put_row-put.result.0 (ap node_in c.self.view_is) c.put_row-put.ensures.put c.put_row-put.ensures.same c.in-Stale.is))
 
 pub returns-in-Ok-clause-node : goal.returns-in-Ok-clause-node
 returns-in-Ok-clause-node g c =

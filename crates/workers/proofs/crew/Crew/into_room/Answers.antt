@@ -1,5 +1,5 @@
 use Rattle.std.proofs.Common.{◌≤◌, arith, length, refl, subst, sym}
-use Rattle.workers.specs.Spares.{AllHave}
+use Rattle.workers.specs.Spares.{HaveSpareSeats}
 use Rattle.workers.proofs.Crews.{cut_many, cut_room}
 use Rattle.workers.proofs.crew.Crew.into_room.Goals as goal
 
@@ -19,7 +19,7 @@ returns-clause-seats g c =
     let m = c.min.ensures in let n = c.len.ensures in let ok = r.rooms.ok.0 in
     let few : c.fewest_seats-many.result ≤ length r.rooms.items = omega arith in
     let l = cut_many r (record r { rooms = c.truncate.new.self }) c.fewest_seats-many.result few c.truncate.ensures.items in
-    subst (λ k. AllHave k c.args.spares.now) (sym l) c.fewest_seats-many.ensures.seats
+    subst (λ k. HaveSpareSeats k c.args.spares.now) (sym l) c.fewest_seats-many.ensures.seats
 
 pub returns-clause-room : goal.returns-clause-room
 returns-clause-room g c =

@@ -1,5 +1,5 @@
 use Rattle.std.proofs.Common.{List, ap, drop, take, ◌∙◌}
-use Rattle.workers.specs.NetSights.{Net}
+use Rattle.workers.specs.NetSights.{NetSight}
 use Rattle.workers.proofs.Nets.{parted, parts_fit}
 use Rattle.workers.proofs.host.Host.split_at.Goals as goal
 
@@ -15,6 +15,6 @@ invariant_of-result-in-Ok g c = (parted c.turn_to.new.self c.split_off.new.self 
 pub returns-in-Ok-clause-ok : goal.returns-in-Ok-clause-ok
 returns-in-Ok-clause-ok g c =
     let parts = parted c.turn_to.new.self c.split_off.new.self c.in-Ok.others c.args.count c.turn_to.ensures.kept c.in-Ok.ensures.ok in (
-      parts.2 ∙ ap (λ (ns : List Net). take c.args.count ns) (c.turn_to.ensures.nets ∙ c.self.view_is),
-      parts.3 ∙ ap (λ (ns : List Net). drop c.args.count ns) (c.turn_to.ensures.nets ∙ c.self.view_is),
+      parts.2 ∙ ap (λ (ns : List NetSight). take c.args.count ns) (c.turn_to.ensures.nets ∙ c.self.view_is),
+      parts.3 ∙ ap (λ (ns : List NetSight). drop c.args.count ns) (c.turn_to.ensures.nets ∙ c.self.view_is),
     )

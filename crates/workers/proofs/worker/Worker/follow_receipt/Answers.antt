@@ -5,7 +5,7 @@ use Rattle.types.specs.declared.event.Out.TheVariants.{ArmBallot}
 use Rattle.protocol.specs.Hosts.{Config}
 use Rattle.std.proofs.lemmas.List.{get_or_default}
 use Rattle.cells.specs.Sights.{CellSight}
-use Rattle.workers.specs.Sums.{IsBusy, KeepsSums, emission_in, hears, hears_from, hears_of}
+use Rattle.workers.specs.Sums.{IsBusy, KeepsSums, emission_at_mark, hears, hears_of_outs, hears_of}
 use Rattle.workers.proofs.Sums.{found_network, found_none, found_some, hears_whole, kept_both, kept_none, number_at}
 use Rattle.workers.proofs.worker.Worker.follow_receipt.Goals as goal
 use Rattle.workers.proofs.worker.Worker.follow_receipt.Goals.{in-Some, in-None}
@@ -33,7 +33,7 @@ loop-index-preserved g c =
     let many = ap (λ (l : List Out). length l) c.outs-many.ensures in
     let lt : index < length r.outs = let t = c.loop-index-test.true in omega arith in
     let handed : List Job = i.2.0 in
-    let found : c.emission_of.result ≡ emission_in config.number (get_or r.outs index o) (slice_get r.marks mark) = c.emission_of.ensures o ∙ ap (λ (n : ℕ). emission_in n (get_or r.outs index o) (slice_get r.marks mark)) c.number.ensures in
+    let found : c.emission_of.result ≡ emission_at_mark config.number (get_or r.outs index o) (slice_get r.marks mark) = c.emission_of.ensures o ∙ ap (λ (n : ℕ). emission_at_mark n (get_or r.outs index o) (slice_get r.marks mark)) c.number.ensures in
     elim c.match-emission_of.branch [
       | in-Some w ↦
           let e = w.in-Some.emission in
@@ -42,12 +42,12 @@ loop-index-preserved g c =
           let more = found_some config r.outs r.marks index mark o e lt (sym found ∙ w.in-Some.is) in
           let kept = subst (λ (k : Config). KeepsSums cs (hears_of e k.nodes) was now) (sym c.config-config.ensures) (s.kept c.index.result.now c.index.ensures) in
           subst (λ y. IsBusy cs c.args.workplace.now.shared.now.queue c.args.k y × (c.match-emission_of.mark ≤ index + 1)
-          × ((handed : List Job) × (handed ++ hears_from config (drop (index + 1) r.outs) (drop c.match-emission_of.mark r.marks) ≡ hears config r) × KeepsSums cs handed a y)) (sym w.self-is) (
+          × ((handed : List Job) × (handed ++ hears_of_outs config (drop (index + 1) r.outs) (drop c.match-emission_of.mark r.marks) ≡ hears config r) × KeepsSums cs handed a y)) (sym w.self-is) (
             s.busy,
             (let m = i.1 in let k : c.match-emission_of.mark ≡ mark + 1 = w.mark-is in omega arith),
             (
               handed ++ hears_of e config.nodes,
-              subst (λ m. (handed ++ hears_of e config.nodes) ++ hears_from config (drop (index + 1) r.outs) (drop m r.marks) ≡ hears config r) (sym w.mark-is)
+              subst (λ m. (handed ++ hears_of e config.nodes) ++ hears_of_outs config (drop (index + 1) r.outs) (drop m r.marks) ≡ hears config r) (sym w.mark-is)
                   (append_assoc handed (hears_of e config.nodes) _ ∙ ap (λ l. handed ++ l) (sym more) ∙ i.2.1),
               kept_both cs handed _ a was now i.2.2 kept,
             ),
@@ -55,12 +55,12 @@ loop-index-preserved g c =
       | in-None w ↦
           let more = found_none config r.outs r.marks index mark o lt (sym found ∙ w.in-None.is) in
           subst (λ y. IsBusy cs c.args.workplace.now.shared.now.queue c.args.k y × (c.match-emission_of.mark ≤ index + 1)
-          × ((handed : List Job) × (handed ++ hears_from config (drop (index + 1) r.outs) (drop c.match-emission_of.mark r.marks) ≡ hears config r) × KeepsSums cs handed a y)) (sym w.self-is) (
+          × ((handed : List Job) × (handed ++ hears_of_outs config (drop (index + 1) r.outs) (drop c.match-emission_of.mark r.marks) ≡ hears config r) × KeepsSums cs handed a y)) (sym w.self-is) (
             i.0,
             (let m = i.1 in let k : c.match-emission_of.mark ≡ mark = w.mark-is in omega arith),
             (
               handed,
-              subst (λ m. handed ++ hears_from config (drop (index + 1) r.outs) (drop m r.marks) ≡ hears config r) (sym w.mark-is) (ap (λ l. handed ++ l) (sym more) ∙ i.2.1),
+              subst (λ m. handed ++ hears_of_outs config (drop (index + 1) r.outs) (drop m r.marks) ≡ hears config r) (sym w.mark-is) (ap (λ l. handed ++ l) (sym more) ∙ i.2.1),
               i.2.2,
             ),
           )

@@ -1,12 +1,12 @@
 use Rattle.std.proofs.Common.{◌≡◌, ◌+◌, ℕ, List, vec_len}
 use Rattle.work.specs.declared.rule.Job.{Job}
 use Rattle.work.specs.Hands.{weigh}
-use Rattle.workers.specs.Sums.{IsReady, KeepsSums}
+use Rattle.workers.specs.Sums.{IsReadyWorker, KeepsSums}
 use Rattle.workers.proofs.worker.Worker.serve_all.Given as goal
 
 abbrev pub invariant-loop-job : goal.invariant-loop-job
 invariant-loop-job g l =
-    IsReady l.workplace.shared.now.cells.items l.workplace.shared.now.queue l.self
+    IsReadyWorker l.workplace.shared.now.cells.items l.workplace.shared.now.queue l.self
     × ((handed : List Job) × ((h : Job → ℕ) → weigh h handed + weigh h l.jobs.items ≡ weigh h l.fn.jobs.items) × KeepsSums l.workplace.shared.now.cells.items handed l.fn.self l.self)
 
 abbrev pub decreases-loop-job : goal.decreases-loop-job

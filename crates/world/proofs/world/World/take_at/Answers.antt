@@ -3,7 +3,7 @@ use Rattle.std.specs.List.{remove}
 use Rattle.configuration.specs.Configs.{index_in}
 use Rattle.protocol.specs.Sets.{IsAscending}
 use Rattle.hoststep.specs.Logs.{Log}
-use Rattle.world.specs.Worlds.{logs_without, numbers_of}
+use Rattle.world.specs.Worlds.{numbers_of}
 use Rattle.world.proofs.ByNumber.{stands}
 use Rattle.world.proofs.Leaving.{left-by-number, removed-is}
 use Rattle.world.proofs.world.World.take_at.Goals as goal

@@ -8,8 +8,8 @@ use Rattle.protocol.specs.Rosters.{Draw, bytes_drawn, events_drawn}
 use Rattle.protocol.specs.Rosters.Share.{Own, Pair}
 use Rattle.envstore.specs.Archives.{Archived, AreFiled, sents_of}
 use Rattle.envstore.specs.declared.filed.Filed.{Filed}
-use Rattle.slot.specs.Filings.{copies_of, outs_of}
-use Rattle.slot.specs.Listening.{Held}
+use Rattle.slot.specs.Filings.{copies_of, whole_outs}
+use Rattle.slot.specs.Listening.{FiledNode}
 use Rattle.network.specs.declared.tallies.Tally.{Tally}
 use Rattle.network.specs.declared.emission_log.NumberedOuts.{NumberedOuts}
 use Rattle.network.specs.declared.emission_log.PlacesByKind.{PlacesByKind}
@@ -17,82 +17,82 @@ use Rattle.network.specs.declared.emission_log.PlacesByKind.{PlacesByKind}
 -- ---- a node at a slot
 -- a node and what it has emitted, as they were filed; how many of its own events it drew, and what it drew from each
 -- other name
-pub record Lodging : Type 0 where
-  pub held : Held
+pub record FiledInstance : Type 0 where
+  pub held : FiledNode
   pub emitted : List Filed
   pub own : ℕ
   pub heard : List Tally
 
--- the same with whole envelopes
-pub record Seat : Type 0 where
+-- the same with whole envelopes, and without the list of rows
+pub record CountedInstance : Type 0 where
   pub instance : Instance
   pub own : ℕ
   pub heard : List Tally
 
 -- a node at a slot and its emissions, with whole envelopes
-abbrev pub instance_in : Lodging → Instance
-instance_in l = record { node = l.held.node; emitted = sents_of l.emitted }
+abbrev pub instance_of_filed : FiledInstance → Instance
+instance_of_filed l = record { node = l.held.node; emitted = sents_of l.emitted }
 
 -- a node at a slot and its counts, with whole envelopes
-abbrev pub seat_of : Lodging → Seat
-seat_of l = record { instance = instance_in l; own = l.own; heard = l.heard }
+abbrev pub counted_instance : FiledInstance → CountedInstance
+counted_instance l = record { instance = instance_of_filed l; own = l.own; heard = l.heard }
 
 -- a node at a slot has drawn nothing
-pub record IsUncounted (l : Lodging) : Type 0 where
+pub record HasDrawnNothing (l : FiledInstance) : Type 0 where
   pub own : l.own ≡ 0
   pub heard : l.heard ≡ []
 
 -- the rows of a node at a slot are those of its table; the archive has them, and what the node has emitted
-pub record IsLodged (archive : Archived) (l : Lodging) : Type 0 where
+pub record IsInstanceFiled (archive : Archived) (l : FiledInstance) : Type 0 where
   pub table : l.held.node.table ≡ sents_of l.held.rows
   pub rows : AreFiled archive l.held.rows
   pub emitted : AreFiled archive l.emitted
 
 -- ---- an open slot
 -- an open slot: its number, and its nodes as they were filed
-pub record Lodgings : Type 0 where
+pub record FiledSlot : Type 0 where
   pub number : ℕ
-  pub instances : List Lodging
+  pub instances : List FiledInstance
 
-pub record Seats : Type 0 where
+pub record CountedSlot : Type 0 where
   pub number : ℕ
-  pub seats : List Seat
+  pub instances : List CountedInstance
 
-abbrev pub seats_of : Lodgings → Seats
-seats_of s = record { number = s.number; seats = map seat_of s.instances }
+abbrev pub counted_slot : FiledSlot → CountedSlot
+counted_slot s = record { number = s.number; instances = map counted_instance s.instances }
 
 -- the slot of the definitions: its nodes without their counts
-abbrev pub slot_of : Seats → Slot
-slot_of s = record { number = s.number; instances = map (λ x. x.instance) s.seats }
+abbrev pub slot_of : CountedSlot → Slot
+slot_of s = record { number = s.number; instances = map (λ x. x.instance) s.instances }
 
 -- the archive has the rows and the emissions of all nodes at all open slots
-abbrev pub AreLodged : Archived → List Lodgings → Type 0
-AreLodged archive slots = All (λ s. All (IsLodged archive) s.instances) slots
+abbrev pub AreSlotsFiled : Archived → List FiledSlot → Type 0
+AreSlotsFiled archive slots = All (λ s. All (IsInstanceFiled archive) s.instances) slots
 
 -- ---- what was drawn on shares
--- how many events were drawn from a name
+-- how many events that came from a name were drawn
 abbrev pub events_from : List Tally → ℕ → ℕ
 events_from [] u = 0
 events_from (t ∷ ts) u = if t.from == u then t.events else events_from ts u
 
--- how many delivered bytes were drawn from a name
+-- how many delivered bytes that came from a name were drawn
 abbrev pub bytes_from : List Tally → ℕ → ℕ
 bytes_from [] u = 0
 bytes_from (t ∷ ts) u = if t.from == u then t.bytes else bytes_from ts u
 
 -- the counts of a node are what was drawn on its shares of the slot
-pub record IsTallied (i : ℕ) (draws : List Draw) (x : Seat) : Type 0 where
+pub record IsTallied (i : ℕ) (draws : List Draw) (x : CountedInstance) : Type 0 where
   pub own : x.own ≡ events_drawn i (Own x.instance.node.name) draws
   pub events : (u : ℕ) → events_from x.heard u ≡ events_drawn i (Pair x.instance.node.name u) draws
   pub bytes : (u : ℕ) → bytes_from x.heard u ≡ bytes_drawn i (Pair x.instance.node.name u) draws
 
-abbrev pub AreTallied : List Draw → List Seats → Type 0
-AreTallied draws slots = All (λ s. All (IsTallied s.number draws) s.seats) slots
+abbrev pub AreTallied : List Draw → List CountedSlot → Type 0
+AreTallied draws slots = All (λ s. All (IsTallied s.number draws) s.instances) slots
 
 -- ---- what an event of a node answers
--- what an event of a node answers: these outs, filed, these marks, and so many whole copies
-pub record IsGiven (outs : List Out) (marks : List ℕ) (count : ℕ) (a : NumberedOuts) : Type 0 where
-  pub outs_are : outs_of a.outs.items ≡ outs
+-- what an event of a node answers: these outs, these marks, and N whole copies
+pub record AreOutsGiven (outs : List Out) (marks : List ℕ) (count : ℕ) (a : NumberedOuts) : Type 0 where
+  pub outs_are : whole_outs a.outs.items ≡ outs
   pub marks_are : a.marks.items ≡ marks
   pub copies : map (λ v. v.items) a.copies.items ≡ copies_of count outs
 
