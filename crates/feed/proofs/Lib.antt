@@ -1,3 +1,4 @@
+pub mod PlacesOfBytes
 pub mod LineLaws
 pub mod PieceLaws
 pub mod RunLaws

@@ -10,7 +10,7 @@ use std::io::BufRead;
 use std::sync::Wait;
 
 /// How many lines one thread is given together at most (this host's profile).
-pub const MOST_LINES: usize = 1024;
+pub const MOST_LINES: usize = 2048;
 
 /// How many bytes an answer may have on average if as many lines as may be were taken. Behind longer ones fewer are.
 const LONG_ANSWER: usize = 256;

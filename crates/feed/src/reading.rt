@@ -4,6 +4,7 @@ ghost use Rattle.std.specs.Prelude.{◌≡◌, ◌≢◌, ◌==◌, option_map, 
 ghost use Rattle.feed.specs.Reading.{IsNextLine, IsNextPiece, longer, nothing_held};
 ghost use Rattle.feed.specs.WholeLines.{has_hole};
 
+use memchr::memchr;
 use scripts::ReadError;
 use std::alloc::{AllocError, Global};
 use std::io::{BufRead, Error, ErrorKind};
@@ -14,7 +15,7 @@ use std::sync::Wait;
 pub const LONGEST_LINE: usize = 262_144;
 
 /// How many bytes of lines are read at a time (this host's profile).
-pub const READ_SIZE: usize = 65_536;
+pub const READ_SIZE: usize = 262_144;
 
 /// A line as far as it has come. Of one with more than `LONGEST_LINE` bytes it shows only that, and whether a byte of
 /// it is 0.
@@ -96,7 +97,7 @@ impl KeptLine {
 fn has_hole(bytes: &[u8]) -> bool
     ensures { result ≡ has_hole bytes.now }
 {
-    bytes.iter().any(|byte| *byte == 0)
+    first_place(bytes, 0).is_some()
 }
 
 /// What was read last of a line.
@@ -188,5 +189,5 @@ fn add_piece(line: &mut KeptLine, more: &[u8]) -> Result<(), ReadError>
 pub(crate) fn first_place(bytes: &[u8], at: u8) -> Option<usize>
     ensures { result ≡ position (λ byte. byte == at) bytes.now }
 {
-    bytes.iter().position(|byte| *byte == at)
+    memchr(at, bytes)
 }

@@ -123,7 +123,7 @@ known_again (Some bytes) = refl
 
 -- a new reader of a reader has what that has
 pub holds_the_same : {T A : Type 0} (remaining : T → Option Bytes) (reader : BufReader T A) (inner : T) → reader_inner reader ≡ inner
-    → reader_buffer reader ≡ [] → reader_capacity reader ≡ 65536 → reader_remaining remaining reader ≡ remaining inner
+    → reader_buffer reader ≡ [] → reader_capacity reader ≡ 262144 → reader_remaining remaining reader ≡ remaining inner
 holds_the_same remaining reader inner e f g = rw (g, f, e) (known_again (remaining inner))
 
 pub shorter_by_reader : (journal read old new : Option Bytes) (end : End) → read ≡ journal → HasMadeShorter read old new end
