@@ -19,7 +19,7 @@ abbrev pub HasOtherVersion : List ℕ → Type 0
 HasOtherVersion [] = ⊥
 HasOtherVersion (v ∷ rest) = version_fault v ≡ Some Version
 
--- slices that are spelled in another version
+-- slices in a version that is not theirs: version 2 is spare if version 1 can spell them
 abbrev pub spare_fault : ℕ → Slices → Option Fault
 spare_fault v q = if v == version_of q then None else Some SpareVersion
 

@@ -72,7 +72,7 @@ fn put_place(masks: &mut Vec<Mask>, place: usize, found: Option<usize>) -> Resul
     }
 }
 
-/// The last mask, if it is of this word and has not got the bit.
+/// The place of the last mask, if that is of this word and has not got the bit.
 fn last_without(masks: &[Mask], index: usize, bit: u64) -> Option<usize>
     ensures { IfSome result (λ i. (i < length masks.now) × is_free index bit (get_or masks.now i (record { index = 0; bits = 0 }))) }
 {
@@ -87,7 +87,7 @@ fn last_without(masks: &[Mask], index: usize, bit: u64) -> Option<usize>
     }
 }
 
-/// The first mask of this word that has not got the bit.
+/// The place of the first mask of this word that has not got the bit.
 fn mask_without(masks: &[Mask], index: usize, bit: u64) -> Option<usize>
     ensures { IfSome result (λ i. (i < length masks.now) × is_free index bit (get_or masks.now i (record { index = 0; bits = 0 }))) }
 {

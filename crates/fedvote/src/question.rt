@@ -31,7 +31,7 @@ impl<'a> Question<'a> {
         }
     }
 
-    /// Whether a statement passes. It takes no memory.
+    /// Whether a statement says what is asked. It takes no memory.
     pub fn asks(&self, statement: &Statement) -> bool
         ensures { result ≡ asks self.now statement.now }
     {

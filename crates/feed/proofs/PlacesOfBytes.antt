@@ -21,9 +21,6 @@ any_is : (p : ℕ → Bool) (xs : List ℕ) → list_any p xs ≡ nat_lt (positi
 any_is p [] = refl
 any_is p (x ∷ xs) = by (any_is p xs) (p x) refl
   where
-    length-more : length (x ∷ xs) ≡ 1 + length xs
-    length-more = grind (arith, common_steps)
-
     by : list_any p xs ≡ nat_lt (position_or_len p xs) (length xs) → (b : Bool) → p x ≡ b → list_any p (x ∷ xs) ≡ nat_lt (position_or_len p (x ∷ xs)) (length (x ∷ xs))
     by rest true e =
         let found : position_or_len p (x ∷ xs) ≡ 0 = ap (λ t. cond (not t) (1 + position_or_len p xs) 0) e in

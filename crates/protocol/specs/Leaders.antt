@@ -29,7 +29,7 @@ unfoldable pub neighbours : ℕ → ℕ → ℕ → Slices → List ℕ
 neighbours slot round own configured =
     own ∷ filter (λ u. is_near (weight configured u) (hash slot 1 round u)) (names configured)
 
--- the first name beats the second: it has the greater second hash or, at a tie, is the greater name
+-- the first name beats the second: its priority (the second hash) is greater or, at a tie, the name is
 abbrev pub beats : ℕ → ℕ → ℕ → ℕ → Bool
 beats slot round u w =
     nat_lt (hash slot 2 round w) (hash slot 2 round u) || ((hash slot 2 round u == hash slot 2 round w) && nat_lt w u)
@@ -39,6 +39,6 @@ unfoldable pub best : (ℕ → ℕ → Bool) → ℕ → List ℕ → ℕ
 best beats u [] = u
 best beats u (w ∷ ws) = best beats (if beats w u then w else u) ws
 
--- the leader of a round: the best of the neighbours
+-- the leader of a round: the neighbour of the highest priority
 unfoldable pub leader : ℕ → ℕ → ℕ → Slices → ℕ
 leader slot round own configured = best (beats slot round) own (neighbours slot round own configured)

@@ -23,7 +23,7 @@ pub record HasQuorum {Q : Type 0} (sat : Q → Names → Bool) (slices_at : ℕ 
   pub within : AreWithin set supporters
   pub member : IsTrue (set node)
 
--- the same as a test, over the sets of the listed names
+-- `HasQuorum` as a test, over the sets of the listed names
 unfoldable pub has_quorum : {Q : Type 0} → (Q → Names → Bool) → (ℕ → Option Q) → List ℕ → Names → ℕ → Bool
 has_quorum sat slices_at all supporters node =
     some_set all
@@ -33,7 +33,7 @@ has_quorum sat slices_at all supporters node =
 abbrev pub Lists : {Q : Type 0} → List ℕ → (ℕ → Option Q) → Type 0
 Lists {Q} all slices_at = (u : ℕ) (q : Q) → slices_at u ≡ Some q → IsTrue (among all u)
 
--- the test finds exactly the quorums that exist
+-- if each node that has slices is listed, the test finds exactly the quorums that exist
 abbrev pub QuorumsAreFound : Type 0
 QuorumsAreFound = (slices_at : ℕ → Option Slices) (all : List ℕ) (supporters : Names) (node : ℕ) → Lists all slices_at
     → IsTrue (has_quorum sat slices_at all supporters node) ↔ HasQuorum sat slices_at supporters node

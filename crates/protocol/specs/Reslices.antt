@@ -18,8 +18,8 @@ slices_after (NominationTimer r) q = q
 slices_after (BallotTimer c) q = q
 slices_after (Reslice new) q = new
 
--- a node that events lead to has the slices that were given last: no event meets the limit of passes, so new ones are
--- always in force
+-- a node that events lead to has the slices that were given last: no event ends because of the limit of passes, so new
+-- slices are in force behind the event that gives them
 abbrev pub SlicesFollowEvents : Type 0
 SlicesFollowEvents = (n : Node) → ComesOfEvents n → (e : NodeEvent) → (step n e).0.slices ≡ slices_after e n.slices
 

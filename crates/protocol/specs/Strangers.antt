@@ -37,8 +37,8 @@ abbrev pub HeldIsClosed : Type 0
 HeldIsClosed = (R : Names) (n : Node) → HasNamed R n → HoldsReach n.name n.slices n.table R → IsClosedFor R n
 
 -- A set has a node that events lead to, and the names that its slices of the moment and the rows of senders in the set
--- give. Where the node
--- takes an envelope from outside the set, and not from a leader, its table has the row, and nothing else happens.
+-- give. If the node takes an envelope from outside the set, and not from a leader, its table has the row, and nothing
+-- else happens.
 abbrev pub OutsidersAddRows : Type 0
 OutsidersAddRows = (R : Names) (n : Node) (e : Sent) → ComesOfEvents n → HoldsReach n.name n.slices n.table R
     → IsFalse (R e.sender) → IsFalse (among n.inputs.leaders e.sender) → IsTrue (is_taken n.table e)

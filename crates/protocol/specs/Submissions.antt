@@ -86,11 +86,9 @@ roster_names (Some c) = names_on c.roster
 
 -- ---- the theorem
 -- Of two host histories: if the closure of v in the first has the same hosted members in both, both networks have one
--- roster with equal
--- shares and equal budgets of open slots, the closure lies in the roster, and the submitted steps that concern it are
--- the same in order,
--- then so are their replies, refusals included, and each hosted member gives out the same in both. It holds for every
--- decoder of envelopes.
+-- roster with equal shares and equal budgets of open slots, the closure lies in the roster, and the submitted steps that
+-- concern it are the same in order, then so are their replies, refusals included, and each hosted member gives out the
+-- same in both. It holds for every decoder of envelopes.
 abbrev pub MembersAreNeverCrowdedOut : Type 0
 MembersAreNeverCrowdedOut = (decode : List ℕ → Reading) (one other : History) (g i v : ℕ) →
     let R = closure (nodes_of one.configs g) i v (entries decode one g) in

@@ -24,11 +24,6 @@ AsksOf fields g e = IsRequested fields (Some (g, Apply e))
 abbrev pub Settles : List Bytes → ℕ → ℕ → Type 0
 Settles fields g slot = IsRequested fields (Some (g, Settle slot))
 
--- the line names the network of a number
-abbrev pub NamesNet : List Bytes → ℕ → Type 0
-NamesNet (word ∷ number ∷ fields) g = word_counter number ≡ Some g
-NamesNet fields g = ⊥
-
 -- ---- bad lines
 
 abbrev pub IsBare : Option Outlined → Type 0

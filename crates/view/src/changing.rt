@@ -64,6 +64,8 @@ impl Region {
         Region::over(alloc, own, table, Placed { nodes, rows }, Some(former))
     }
 
+    /// Whom a node reaches behind the new row. If it is all whom it reached before, and maybe more, the search begins at
+    /// those; else all is looked for anew. An error says that it is out of memory.
     fn new_reach<S: Places>(
         &self,
         alloc: Global,
