@@ -2,5 +2,4 @@ mod CrowdLines
 mod ExplainedTexts
 mod Histories
 mod LineLaws
-mod PlanningLaws
 mod DeterminedEnds

@@ -1,5 +1,5 @@
 -- Scripts of networks that commands run to their end without printing.
-use Rattle.std.specs.Prelude.{◌≡◌, ◌⊎◌, ◌<◌, ℕ, Bool, not, List, [], length, Option, Some, None, Ok, Err, IfSome}
+use Rattle.std.specs.Prelude.{◌≡◌, ◌⊎◌, ◌<◌, ℕ, Bool, true, not, List, [], length, Option, Some, None, Ok, Err, IfSome}
 use Rattle.std.specs.Prelude.{filter, slice_get, if◌then◌else◌}
 use Rattle.std.specs.List.{enumerate_from}
 use Rattle.scripts.specs.Script.{AreLines, Bytes, is_no_record}
@@ -8,8 +8,6 @@ use Rattle.scripts.specs.declared.run.Stop.{Stop}
 use Rattle.scripts.specs.declared.run.Stop.TheVariants as stop
 use Rattle.runs.specs.Hosting.{new_hosting}
 use Rattle.runs.specs.Unprinted.{IsFinishedUnprinted, Unprinted, RefusesUnprinted, TellsUnprinted}
-use Rattle.runs.specs.Plans.{Plan, new_plan}
-use Rattle.runs.specs.Putting.{IsCompletePlan, Puts, RefusesToPut}
 use Rattle.runs.specs.Submitting.{IsComplete, RefusesToSubmit, Submits, Submitting, new_submitting}
 
 -- all lines of a text are run in order, and none is bad
@@ -97,29 +95,19 @@ abbrev pub IsLineAt : Bytes → Option ℕ → Option (ℕ × Bytes) → Type 0
 IsLineAt text None line = line ≡ None
 IsLineAt text (Some k) line = IsLineOf text k line
 
--- ---- for what is submitted
+-- ---- for what is submitted, if lines may close slots or may not
 
 -- the lines of a file are run in order, and after the last one the networks that are declared with nodes have been
 -- declared
-abbrev pub IsSubmittedBy : Option Bytes → Submitting → Type 0
-IsSubmittedBy = HasRunFile Submits RefusesToSubmit new_submitting IsComplete
+abbrev pub IsSubmittedBy : Bool → Option Bytes → Submitting → Type 0
+IsSubmittedBy closing = HasRunFile Submits RefusesToSubmit (new_submitting closing) IsComplete
 
 -- a run of a file for what it submits stopped so
-abbrev pub StopsSubmission : Option Bytes → Stop → Type 0
-StopsSubmission = HasStopped Submits RefusesToSubmit new_submitting
+abbrev pub StopsSubmission : Bool → Option Bytes → Stop → Type 0
+StopsSubmission closing = HasStopped Submits RefusesToSubmit (new_submitting closing)
 
 -- the run of one of two files for what it submits stopped so; the second is run where the first came to its end
 abbrev pub StopsSubmissions : Option Bytes → Option Bytes → Stop → Type 0
 StopsSubmissions one other why =
-    StopsSubmission one why ⊎ ((first : Submitting) × IsSubmittedBy one first × StopsSubmission other why)
-
--- ---- for the jobs of a pool
-
--- the lines of a file are read in order, and after the last one the networks that are declared with nodes have been
--- declared
-abbrev pub IsPlannedBy : Option Bytes → Plan → Type 0
-IsPlannedBy = HasRunFile Puts RefusesToPut new_plan IsCompletePlan
-
--- a reading of the lines of a file for their jobs stopped so
-abbrev pub StopsPlan : Option Bytes → Stop → Type 0
-StopsPlan = HasStopped Puts RefusesToPut new_plan
+    StopsSubmission true one why
+    ⊎ ((first : Submitting) × IsSubmittedBy true one first × StopsSubmission true other why)

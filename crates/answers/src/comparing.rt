@@ -63,12 +63,6 @@ fn is_difference(verdict: &Verdict) -> bool
     }
 }
 
-fn is_explained(explain: bool, verdict: &Verdict) -> bool
-    ensures { result ≡ explain && is_difference verdict.now }
-{
-    explain && is_difference(verdict)
-}
-
 /// The lines of a verdict, and behind them what explains a difference, if it is asked for.
 #[tactic(auto, using(crate::proofs::ExplainedTexts::with_explanation, crate::proofs::ExplainedTexts::without_explanation))]
 fn text_of_comparison(
@@ -81,7 +75,7 @@ fn text_of_comparison(
     ensures { IfOk result (λ text. IsExplained explain verdict.now (string_bytes text)) }
 {
     let mut text = text_of_verdict(alloc, verdict)?;
-    if is_explained(explain, verdict) {
+    if explain && is_difference(verdict) {
         let explanation = explanation_of(alloc, sides, subject, verdict)?;
         text.push_str(explanation.as_str())?;
     }

@@ -17,12 +17,16 @@ use types::{NodeId, Subject};
 
 /// Reads a script whole and runs its lines in order for what they submit, without printing. After the last
 /// one the networks that are declared with nodes and that no event has named are declared too. A line that is
-/// bad ends it.
-pub fn read_submission<R: Read>(alloc: Global, script: &mut R) -> Result<SubmissionRun, Stop>
-    ensures submitted { IfOk result (IsSubmittedBy (R.remaining script.old)) }
-    ensures stopped { IfErr result (StopsSubmission (R.remaining script.old)) }
+/// bad ends it; one that closes a slot is unless `closing` is set.
+pub fn read_submission<R: Read>(
+    alloc: Global,
+    script: &mut R,
+    closing: bool,
+) -> Result<SubmissionRun, Stop>
+    ensures submitted { IfOk result (IsSubmittedBy closing (R.remaining script.old)) }
+    ensures stopped { IfErr result (StopsSubmission closing (R.remaining script.old)) }
 {
-    let mut run = SubmissionRun::new(alloc);
+    let mut run = SubmissionRun::new(alloc, closing);
     run_script(alloc, &mut run, script, &mut io::sink())?;
     match run.finish() {
         Ok(()) => Ok(run),

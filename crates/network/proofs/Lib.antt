@@ -1,6 +1,7 @@
 mod Allowed
 mod Carried
 mod Counting
+pub mod Crossing
 mod Done
 mod Drawing
 mod EarlyFaults

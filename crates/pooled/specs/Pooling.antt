@@ -1,7 +1,8 @@
 -- What becomes of a script whose events are jobs of a pool.
-use Rattle.std.specs.Prelude.{◌≡◌, ◌+◌, ◌++◌, ℕ, List, [], length, map}
+use Rattle.std.specs.Prelude.{◌≡◌, ◌+◌, ◌++◌, ℕ, List, [], ◌∷◌, length}
 use Rattle.std.specs.List.{AllZip}
 use Rattle.types.specs.declared.event.Event.{Event}
+use Rattle.types.specs.declared.event.Event.TheVariants.{OpenSlot}
 use Rattle.protocol.specs.Hosts.{Config}
 use Rattle.protocol.specs.Runs.{IsRun as Replays}
 use Rattle.scripts.specs.Script.{Bytes}
@@ -19,9 +20,17 @@ use Rattle.pooled.specs.PoolLines.{AreAllDecidedLines, AreDecidedLines, length_l
 abbrev pub job_of : ℕ × Event → Job
 job_of call = record { network = call.0; event = call.1 }
 
--- the events as jobs, in order
+-- the slots that events open, with the numbers of their networks, in order
+abbrev pub opens_of : List (ℕ × Event) → List (ℕ × ℕ)
+opens_of [] = []
+opens_of ((g, OpenSlot slot) ∷ calls) = (g, slot) ∷ opens_of calls
+opens_of (call ∷ calls) = opens_of calls
+
+-- all other events as jobs, in order
 abbrev pub jobs_of : List (ℕ × Event) → List Job
-jobs_of calls = map job_of calls
+jobs_of [] = []
+jobs_of ((g, OpenSlot slot) ∷ calls) = jobs_of calls
+jobs_of (call ∷ calls) = job_of call ∷ jobs_of calls
 
 -- the journals of networks, in their order: each is one history of its network's seats, and a run
 abbrev pub AreJournals : List NetSight → List Log → Type 0
@@ -62,13 +71,12 @@ abbrev pub AreSomeDone : List Job → List Job → List NetSight → List NetSig
 AreSomeDone jobs left ready ended report =
     (put : List Job) × ((h : Job → ℕ) → weigh h put + weigh h left ≡ weigh h jobs) × AreDone put ready ended report
 
--- networks of these configurations join, each with so many seats and its first slots; the events are jobs; and what
--- becomes of them is written
-pub record IsPoolText (configs : List Config) (calls : List (ℕ × Event)) (opens : List (ℕ × ℕ)) (workers : ℕ)
-    (text : Bytes) : Type 0 where
+-- networks of these configurations join, each with so many seats and the slots that are to be opened; all other events
+-- are jobs; and what becomes of them is written
+pub record IsPoolText (configs : List Config) (calls : List (ℕ × Event)) (workers : ℕ) (text : Bytes) : Type 0 where
   pub ready : List NetSight
   pub ended : List NetSight
   pub report : Report
-  pub joined : HaveJoinedWithSlots workers opens [] configs ready
+  pub joined : HaveJoinedWithSlots workers (opens_of calls) [] configs ready
   pub done : AreDone (jobs_of calls) ready ended report
   pub written : IsTextOfNets ended report text

@@ -4,7 +4,7 @@ ghost use Rattle.std.specs.Prelude.{◌≡◌, ◌<◌, ◌≤◌, ◌++◌, ℕ
 ghost use Rattle.std.specs.List.Sorted.{IsNonDecreasingBy};
 ghost use Rattle.std.specs.Thread.{IsSend, IsSync};
 ghost use Rattle.pooled.specs.Opening.{HaveJoinedWithSlots, slots_to_open};
-ghost use Rattle.pooled.specs.Pooling.{AreDone, AreJournalLines, IsPoolText, AddsJournalLines, IsTextOfNets, AreSomeDone, jobs_of};
+ghost use Rattle.pooled.specs.Pooling.{AreDone, AreJournalLines, IsPoolText, AddsJournalLines, IsTextOfNets, AreSomeDone, jobs_of, opens_of};
 
 use crate::gate::Open;
 use crate::hosting::with_slots;
@@ -36,10 +36,10 @@ struct JournalLines {
     lengths: String,
 }
 
-/// Runs what is submitted as jobs of `workers` workers, 1 to 64, after the slots of `opens` are opened, each with the
-/// number of its network. It answers what is printed: what each node has externalized at open slots, ascending by
-/// network, slot and name; the length of each network's journal; and how many jobs were applied, refused and not run.
-/// An error says that it is out of memory.
+/// Opens the slots that are submitted to be opened, and then runs all other events as jobs of `workers` workers, 1 to 64.
+/// It answers what is printed: what each node has externalized at open slots, ascending by network, slot and name; the
+/// length of each network's journal; and how many jobs were applied, refused and not run. An error says that it is out
+/// of memory.
 ///
 /// All networks have one store of envelopes. The queue has a place for each job, from 1,024 places up to 65,536; if
 /// there are more jobs, the workers do as many as there are places, and then the next. Which order the jobs take is
@@ -49,15 +49,14 @@ pub fn run_pool<R: Threads + Wait + Sync + Send + Copy + Drop>(
     rt: &R,
     alloc: Global,
     submission: Submission,
-    opens: Vec<(u32, u64)>,
     workers: u64,
 ) -> Result<String, AllocError>
     requires some { 0 < workers }
     requires few { workers ≤ 64 }
-    ensures { IfOk result (λ text. IsPoolText submission.configs submission.calls opens.items workers (string_bytes text)) }
+    ensures { IfOk result (λ text. IsPoolText submission.configs submission.calls workers (string_bytes text)) }
 {
     let (configs, calls) = submission.into_parts();
-    let jobs = jobs_of(alloc, calls)?;
+    let (opens, jobs) = share_out(alloc, calls)?;
     let mut host = host_networks(rt, alloc, configs, opens, workers)?;
     let threads = workers as usize;
     let Ok(report) = run_jobs(rt, alloc, &mut host, jobs, threads) else {
@@ -107,14 +106,22 @@ fn by_network(mut opens: Vec<(u32, u64)>) -> Result<Vec<(u32, u64)>, AllocError>
     Ok(opens)
 }
 
-fn jobs_of(alloc: Global, calls: Vec<(u32, Event)>) -> Result<Vec<Job>, AllocError>
-    ensures { IfOk result (λ jobs. jobs.items ≡ jobs_of calls.items) }
+/// The slots that are to be opened, with the numbers of their networks, and all other events as jobs, each in order.
+fn share_out(
+    alloc: Global,
+    calls: Vec<(u32, Event)>,
+) -> Result<(Vec<(u32, u64)>, Vec<Job>), AllocError>
+    ensures { IfOk result (λ r. (r.0.items ≡ opens_of calls.items) × (r.1.items ≡ jobs_of calls.items)) }
 {
+    let mut opens = Vec::new(alloc);
     let mut jobs = Vec::with_capacity(alloc, calls.len())?;
     for (network, event) in calls {
-        jobs.push(Job { network, event })?;
+        match event {
+            Event::OpenSlot { slot } => opens.push((network, slot))?,
+            _ => jobs.push(Job { network, event })?,
+        }
     }
-    Ok(jobs)
+    Ok((opens, jobs))
 }
 
 /// Has the workers run the jobs, as many at once as a queue has places. The report is that of all.
@@ -158,19 +165,13 @@ fn run_turn<R: Threads + Wait + Sync + Send + Drop>(
     ensures { IfOk result (AreSomeDone jobs.old.items jobs.new.items host.old host.new) }
 {
     let crew = Crew::new(alloc, &*host, workers)?;
-    let Ok((queue, mut passes)) = Queue::new(alloc, places_for(jobs.len()), workers) else {
+    let places = jobs.len().clamp(FEWEST_PLACES, MOST_PLACES);
+    let Ok((queue, mut passes)) = Queue::new(alloc, places, workers) else {
         drop(crew);
         return Err(AllocError);
     };
     offer(rt, &queue, &mut passes[0], jobs);
     Ok(run(rt, host, crew, (queue, passes), &Open))
-}
-
-/// How many places a queue has for these jobs: a place for each, as far as it can.
-fn places_for(jobs: usize) -> usize
-    ensures { (0 < result) × (result ≤ 65536) }
-{
-    jobs.clamp(FEWEST_PLACES, MOST_PLACES)
 }
 
 /// Closes each network, and says, ascending, what became of it, and how many jobs were applied, refused and not run.

@@ -44,11 +44,8 @@ use Rattle.runs.specs.Hosting.{Hosting, IsNetworkBegun, logs_joined}
 use Rattle.runs.specs.declared.outcome.Outcome.{Outcome}
 use Rattle.runs.specs.declared.outcome.Outcome.TheVariants.{Declared, Answer, Answers, Settled}
 use Rattle.runs.specs.Running.{BadLinesTellNothing, Does}
-use Rattle.runs.specs.Submitting.{BadLinesSubmitNothing, IsNetworkDeclared, Submitting, declared_once, no_settling}
+use Rattle.runs.specs.Submitting.{BadLinesSubmitNothing, IsNetworkDeclared, Submitting, declared_once, may_submit, no_settling}
 use Rattle.runs.specs.Submitting.Submits.{declares as submits_declaration, submits}
-use Rattle.runs.specs.Plans.{Plan}
-use Rattle.runs.specs.Putting.{BadLinesPutNothing, IsJobOrOpening, IsNoJob, only_jobs}
-use Rattle.runs.specs.Putting.Puts.{declares as puts_declaration, plans}
 
 -- ---- of two readings of one line, what the one asks for is bad where what the other asks for is
 
@@ -274,11 +271,6 @@ begun-has-nodes g old new begun =
 declared-has-nodes : (g : ℕ) (old new : Submitting) → IsNetworkDeclared g old new → ¬ HasNoNode old.waiting g
 declared-has-nodes g old new named = named-has-nodes declared_once g (waiting_at old.waiting g) old.waiting new.waiting old.history new.history named.0
 
-planned-is-job : (g : ℕ) (e : Event) (old new : Plan) → IsJobOrOpening g e old new → ¬ IsNoJob old.submitted.waiting g e
-planned-is-job g (event.OpenSlot i) old new h = declared-has-nodes g old.submitted new.submitted h.0
-planned-is-job g (event.CloseSlot i) old new h = absurd h
-planned-is-job g _ old new h = declared-has-nodes g old.submitted h.0.0 h.0.1
-
 -- what may be asked of a network that has nodes is not bad
 not-bad-to-ask : (b : Bool) (ws : Waiting) (g : ℕ) → b ≡ true → ¬ HasNoNode ws g → ¬ IsBadToAsk b ws g
 not-bad-to-ask true ws g is nodes bad = nodes bad
@@ -301,12 +293,7 @@ bad_lines_tell_nothing old new fields printed bad (g, outcome, (o, ordered, done
     not-bad-order old.waiting old.named fields g o ordered (done-is-not-bad g o old new outcome done) bad
 
 pub bad_lines_submit_nothing : BadLinesSubmitNothing
-bad_lines_submit_nothing old new fields printed bad (submits_declaration h named history) = taken no_settling old.waiting old.named fields new.waiting h bad
-bad_lines_submit_nothing old new fields printed bad (submits g e asked h) =
-    not-bad no_settling old.waiting old.named fields g (Apply e) asked (declared-has-nodes g old h.0 h.1) bad
-
-pub bad_lines_put_nothing : BadLinesPutNothing
-bad_lines_put_nothing old new fields printed bad (puts_declaration h named history opens) =
-    taken only_jobs old.submitted.waiting old.submitted.named fields new.submitted.waiting h bad
-bad_lines_put_nothing old new fields printed bad (plans g e asked h) =
-    not-bad only_jobs old.submitted.waiting old.submitted.named fields g (Apply e) asked (planned-is-job g e old new h) bad
+bad_lines_submit_nothing old new fields printed bad (submits_declaration h closing named history) = taken (no_settling old.closing) old.waiting old.named fields new.waiting h bad
+bad_lines_submit_nothing old new fields printed bad (submits g e asked may h) =
+    not-bad (no_settling old.closing) old.waiting old.named fields g (Apply e) asked
+    (not-bad-to-ask (may_submit old e) old.waiting g may (declared-has-nodes g old h.0 h.1)) bad

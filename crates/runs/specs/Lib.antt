@@ -12,5 +12,3 @@ pub mod Unprinted
 pub mod Histories
 pub mod Determined
 pub mod Submitting
-pub mod Plans
-pub mod Putting

@@ -1,5 +1,5 @@
 -- What the lines of scripts of networks submit.
-use Rattle.std.specs.Prelude.{◌≡◌, ℕ, true, false, is_some, List, [], Option, None, if◌then◌else◌}
+use Rattle.std.specs.Prelude.{◌≡◌, ◌||◌, ℕ, Bool, true, false, not, is_some, List, [], Option, None, if◌then◌else◌}
 use Rattle.scripts.specs.Script.{Bytes}
 use Rattle.types.specs.declared.event.Event.{Event}
 use Rattle.protocol.specs.Hosts.{History}
@@ -10,17 +10,19 @@ use Rattle.requests.specs.Outlines.{Waiting, waiting_at}
 use Rattle.runs.specs.Joining.{HaveJoined, NetworkIsNamed, Joins}
 use Rattle.requests.specs.Naming.{Named, named_with, new_named}
 use Rattle.requests.specs.Preparing.{IsPrepared}
-use Rattle.requests.specs.Telling.{Allowed, AsksOf, BadLinesAreUntold, RefusesAsked}
+use Rattle.requests.specs.Telling.{Allowed, AsksOf, BadLinesAreUntold, RefusesAsked, is_closing}
 
--- the networks that wait for an event that names them, which numbers are named, run and served, and what has been submitted
+-- whether lines may close slots, the networks that wait for an event that names them, which numbers are named, run and
+-- served, and what has been submitted
 pub record Submitting : Type 0 where
+  pub closing : Bool
   pub waiting : Waiting
   pub named : Named
   pub history : History
 
 -- nothing is submitted, as before the first line
-abbrev pub new_submitting : Submitting
-new_submitting = record { waiting = []; named = new_named; history = record { configs = []; calls = [] } }
+abbrev pub new_submitting : Bool → Submitting
+new_submitting closing = record { closing = closing; waiting = []; named = new_named; history = record { configs = []; calls = [] } }
 
 -- a network is declared; if one of its number is declared, it is left out
 abbrev pub declared_once : Joins History
@@ -29,31 +31,34 @@ declared_once c h = if is_some (config_of h.configs c.number) then h else with_c
 -- the network of a number is named: if it waits, it is declared in what is submitted
 abbrev pub IsNetworkDeclared : ℕ → Submitting → Submitting → Type 0
 IsNetworkDeclared g old new =
-    NetworkIsNamed declared_once g old.waiting new.waiting old.history new.history
+    NetworkIsNamed declared_once g old.waiting new.waiting old.history new.history × (new.closing ≡ old.closing)
     × (new.named ≡ named_with g (waiting_at old.waiting g) old.named)
+
+-- lines may ask for the event: for one that closes a slot only if they may close slots
+abbrev pub may_submit : Submitting → Event → Bool
+may_submit old e = old.closing || not (is_closing e)
 
 -- an event of the network of a number is submitted
 abbrev pub IsSubmitted : ℕ → Event → Submitting → Submitting → Type 0
 IsSubmitted g e old new =
-    (begun : Submitting) × IsNetworkDeclared g old begun × (new.waiting ≡ begun.waiting) × (new.named ≡ begun.named)
-    × (new.history ≡ and_then begun.history g e)
+    (begun : Submitting) × IsNetworkDeclared g old begun × (new.closing ≡ begun.closing) × (new.waiting ≡ begun.waiting)
+    × (new.named ≡ begun.named) × (new.history ≡ and_then begun.history g e)
 
--- what a line tells, and nothing is printed: a declaration that is taken submits and names nothing, an event is
--- submitted, and no line settles
+-- what a line tells, and nothing is printed: a declaration that is taken submits and names nothing, an event that it
+-- may ask for is submitted, and no line settles
 pub data Submits : Submitting → List Bytes → Option Bytes → Submitting → Type 0 where
   declares : {old new : Submitting} {fields : List Bytes} → IsPrepared fields old.named old.waiting new.waiting
-      → new.named ≡ old.named
-      → new.history ≡ old.history → Submits old fields None new
+      → new.closing ≡ old.closing → new.named ≡ old.named → new.history ≡ old.history → Submits old fields None new
   submits : {old new : Submitting} {fields : List Bytes} (g : ℕ) (e : Event) → AsksOf fields g e
-      → IsSubmitted g e old new → Submits old fields None new
+      → may_submit old e ≡ true → IsSubmitted g e old new → Submits old fields None new
 
 -- lines may not ask that a slot settles
-abbrev pub no_settling : Allowed
-no_settling = record { settling = false; closing = true }
+abbrev pub no_settling : Bool → Allowed
+no_settling closing = record { settling = false; closing = closing }
 
 -- a line is bad in a script that is submitted, in which no slot settles
 abbrev pub RefusesToSubmit : Submitting → List Bytes → Type 0
-RefusesToSubmit old fields = RefusesAsked no_settling old.waiting old.named fields
+RefusesToSubmit old fields = RefusesAsked (no_settling old.closing) old.waiting old.named fields
 
 -- no line is both bad and submitted
 abbrev pub BadLinesSubmitNothing : Type 0

@@ -8,7 +8,7 @@ ghost use Rattle.runs.specs.Hosting.{IsEventApplied, IsFinished, IsNetworkBegun,
 ghost use Rattle.runs.specs.ServedNetworks.{IsTakenBack};
 ghost use Rattle.runs.specs.Running.{BadLinesTellNothing, Does, IsLineCarriedOut, RefusesLine, printed_of};
 ghost use Rattle.runs.specs.Settling.{AreHandedOn, HandedOnIsCounted, HasSettled, HeardWaitsOn, IsHanded, IsHeardBy, others};
-ghost use Rattle.requests.specs.Telling.{HasNoNode, IsBadOrder, is_hearing as hears, may_apply};
+ghost use Rattle.requests.specs.Telling.{HasNoNode, IsBadOrder, may_apply};
 ghost use Rattle.requests.specs.declared.order.Order.TheVariants as order;
 ghost use Rattle.requests.specs.declared.request.Request.TheVariants.{Apply, Settle};
 
@@ -201,7 +201,7 @@ impl HostRun {
     fn may_apply(&self, number: u32, event: &Event) -> bool
         ensures { result ≡ may_apply self.now.named number event.now }
     {
-        !(self.nets.is_served(number) && is_hearing(event))
+        !(self.nets.is_served(number) && matches!(event, Event::Hear { .. }))
     }
 
     /// The network of a number is taken back, with its journal.
@@ -227,7 +227,7 @@ impl HostRun {
             Some(names) => Vec::from_slice(alloc, names)?,
             None => return Ok(Some(Refusal::NoSuchNetwork)),
         };
-        if !self.is_open(number, slot) {
+        if self.nets.followed.open_slot(number, slot).is_none() {
             return Ok(Some(Refusal::SlotNotOpen));
         }
         self.hand_on_all(number, slot, &names)
@@ -238,13 +238,6 @@ impl HostRun {
         ensures { option_map (λ names. names.now) result ≡ names_at self.now.followed number }
     {
         self.nets.followed.names(number)
-    }
-
-    /// Whether a slot of a network is open.
-    fn is_open(&self, number: u32, slot: u64) -> bool
-        ensures { result ≡ is_some (open_slot self.now.followed number slot) }
-    {
-        self.nets.followed.open_slot(number, slot).is_some()
     }
 
     /// The first emission at a slot that has not been handed on.
@@ -415,11 +408,4 @@ fn hearing(slot: u64, node: NodeId, emission: &Emission) -> Event
         kind: emission.kind,
         number: emission.number,
     }
-}
-
-/// The event is that a node hears another one.
-fn is_hearing(event: &Event) -> bool
-    ensures { result ≡ hears event.now }
-{
-    matches!(event, Event::Hear { .. })
 }

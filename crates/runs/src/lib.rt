@@ -3,15 +3,13 @@
 //!
 //! A [`HostRun`] runs the lines of one script over the journals of the networks that it declares, each with an archive
 //! of its own. It prints what each line is answered, and of a declaration nothing. An [`UnprintedRun`] does that in
-//! silence, and ends if an event is refused for want of memory. A [`SubmissionRun`] takes what lines submit, and a
-//! [`JobRun`] makes jobs of them. All four are [`scripts::LineRunner`]s, to be run by `scripts::run_script` and its
-//! kin.
+//! silence, and ends if an event is refused for want of memory. A [`SubmissionRun`] takes what lines submit. All three are
+//! [`scripts::LineRunner`]s, to be run by `scripts::run_script` and its kin.
 #![tactic(auto)]
 
 mod emissions;
 mod followed;
 mod host_run;
-mod job_run;
 mod nets;
 mod networks;
 mod outcome;
@@ -24,7 +22,6 @@ pub use host_run::{
     HostRun, bad_lines_tell_nothing, emission_handed_on_was_heard, kept_emissions_are_found,
     open_slots_follow_journals, served_networks_leave_nothing,
 };
-pub use job_run::{JobRun, bad_lines_put_nothing};
 pub use replies::line_of_reply;
 pub use submission_run::{SubmissionRun, bad_lines_submit_nothing};
 pub use unprinted_run::{UnprintedRun, lines_do_one_thing, scripts_have_histories};

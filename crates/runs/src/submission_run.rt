@@ -1,14 +1,12 @@
 //! What runs the lines of a script of networks for what they submit.
 
-ghost use Rattle.std.specs.Prelude.{◌≡◌, Err, OnOk, false, true};
-ghost use Rattle.requests.specs.Preparing.{Prepares};
-ghost use Rattle.runs.specs.Submitting.{BadLinesSubmitNothing, IsComplete, IsNetworkDeclared, IsSubmitted, new_submitting};
-ghost use Rattle.requests.specs.Taking.{takes};
-ghost use Rattle.requests.specs.Telling.{HasNoNode};
+ghost use Rattle.std.specs.Prelude.{◌≡◌, Err, OnOk, true};
+ghost use Rattle.runs.specs.Submitting.{BadLinesSubmitNothing, IsComplete, IsSubmitted, may_submit, new_submitting};
+ghost use Rattle.requests.specs.Telling.{IsBadToAsk};
 
 use crate::nets::Nets;
 use crowds::Submission;
-use requests::{Declaration, Request, request_of};
+use requests::{Request, request_of};
 use scripts::{LineError, LineRunner};
 use std::alloc::{AllocError, Global};
 use std::marker::Model;
@@ -16,9 +14,10 @@ use types::Event;
 
 /// What the lines of one script submit to its networks. Networks, nodes and rosters are declared as in a
 /// [`HostRun`](crate::HostRun), with the same faults. Nothing is printed. A line that settles is bad, and so are a line
-/// with `served` or `*`, and `drop`.
+/// with `served` or `*`, and `drop`. If lines may not close slots, one that does is bad too.
 #[derive(Drop)]
 pub struct SubmissionRun {
+    closing: bool,
     nets: Nets,
     submission: Submission,
 }
@@ -32,15 +31,16 @@ impl Model for SubmissionRun {
 
     ghost coded = { Prim.hlevel (codes, members_code) };
 
-    ghost view = { λ run. record { waiting = run.nets.waiting; named = run.nets.named; history = run.submission } };
+    ghost view = { λ run. record { closing = run.closing; waiting = run.nets.waiting; named = run.nets.named; history = run.submission } };
 }
 
 impl SubmissionRun {
-    /// The state before the first line. It takes no memory.
-    pub fn new(alloc: Global) -> SubmissionRun
-        ensures { result ≡ new_submitting }
+    /// The state before the first line; `closing` says whether lines may close slots. It takes no memory.
+    pub fn new(alloc: Global, closing: bool) -> SubmissionRun
+        ensures { result ≡ new_submitting closing }
     {
         SubmissionRun {
+            closing,
             nets: Nets::none(alloc),
             submission: Submission::new(alloc),
         }
@@ -63,38 +63,25 @@ impl SubmissionRun {
     }
 
     /// What has been submitted, as [`SubmissionRun::submission`] lends it.
-    pub(crate) fn into_submission(self) -> Submission
+    pub fn into_submission(self) -> Submission
         ensures { result ≡ self.history }
     {
         self.submission
     }
 
-    /// A line declares this, of the network of a number. It is a bad line exactly if that is not taken.
-    pub(crate) fn prepare(&mut self, number: u32, declaration: Declaration) -> Result<(), LineError>
-        ensures prepared { OnOk result (Prepares number declaration self.old.waiting self.new.waiting) }
-        ensures taken { OnOk result (takes self.old.waiting self.old.named number declaration ≡ true) }
-        ensures bad { result ≡ Err LineError.Bad → takes self.old.waiting self.old.named number declaration ≡ false }
-        ensures named { self.new.named ≡ self.old.named }
-        ensures same { self.new.history ≡ self.old.history }
-    {
-        self.nets.prepare(number, declaration)
-    }
-
-    /// Readies the network of a number for an event that names it: if it is declared and this is the first, it is
-    /// declared in the submission. It is a bad line if the network has no node.
-    pub(crate) fn begin(&mut self, number: u32) -> Result<(), LineError>
-        ensures begun { OnOk result (IsNetworkDeclared number self.old self.new) }
-        ensures bad { result ≡ Err LineError.Bad → HasNoNode self.old.waiting number }
-    {
-        self.nets.begin(&mut self.submission, number)
-    }
-
-    /// An event is submitted to the network of a number. It is a bad line if the network has no node.
-    pub(crate) fn submit(&mut self, number: u32, event: Event) -> Result<(), LineError>
+    /// An event is submitted to the network of a number, which is declared in the submission if it waits. It is a bad
+    /// line if lines may not ask for the event, or if the network has no node.
+    fn submit(&mut self, number: u32, event: Event) -> Result<(), LineError>
         ensures told { OnOk result (IsSubmitted number event self.old self.new) }
-        ensures bad { result ≡ Err LineError.Bad → HasNoNode self.old.waiting number }
+        ensures allowed { OnOk result (may_submit self.old event ≡ true) }
+        ensures bad { result ≡ Err LineError.Bad → IsBadToAsk (may_submit self.old event) self.old.waiting number }
     {
-        self.begin(number)?;
+        if let Event::CloseSlot { .. } = event
+            && !self.closing
+        {
+            return Err(LineError::Bad);
+        }
+        self.nets.begin(&mut self.submission, number)?;
         self.submission.submit(number, event)?;
         Ok(())
     }
@@ -116,7 +103,7 @@ impl LineRunner for SubmissionRun {
             }
             Request::Settle(_) => Err(LineError::Bad),
             Request::Declare(declaration) => {
-                self.prepare(number, declaration)?;
+                self.nets.prepare(number, declaration)?;
                 Ok(None)
             }
         }

@@ -1,5 +1,5 @@
 -- What the commands print.
-use Rattle.std.proofs.Common.{◌≡◌, ℕ, Bool, false, Option, inl, subst, sym}
+use Rattle.std.proofs.Common.{◌≡◌, ℕ, Bool, true, false, Option, inl, subst, sym}
 use Rattle.scripts.specs.Script.{Bytes}
 use Rattle.protocol.specs.Hosts.{History}
 use Rattle.runs.specs.Submitting.{Submitting}
@@ -7,7 +7,7 @@ use Rattle.answers.specs.Comparisons.{IsComparison}
 use Rattle.answers.specs.Crowding.{TellsCrowd}
 use Rattle.scphost.specs.Printing.{HasAnswered, IsCompared, IsCrowdAnswer, IsPerformed, IsPooled, IsPrinted, IsReported}
 use Rattle.scphost.specs.Reporting.{IsReport}
-use Rattle.answers.specs.Scripts.{IsSubmittedBy, IsStoryOf, StopsPlan, StopsStories, StopsStory, StopsSubmissions, Story}
+use Rattle.answers.specs.Scripts.{IsSubmittedBy, IsStoryOf, StopsStories, StopsStory, StopsSubmission, StopsSubmissions, Story}
 use Rattle.scphost.specs.Stops.{End}
 use Rattle.answers.specs.declared.answer.Answer.{Answer}
 use Rattle.command_line.specs.declared.call.Call.{Call}
@@ -30,7 +30,7 @@ has-compared explain subject one other old new end first second a told also righ
     inl (a, (first, second, told, also, right), printed)
 
 pub has-crowded : (subject : Subject) (one other old new : Option Bytes) (end : End) (first second : Submitting)
-    (h k : History) (a : Answer) → IsSubmittedBy one first → IsSubmittedBy other second → h ≡ first.history
+    (h k : History) (a : Answer) → IsSubmittedBy true one first → IsSubmittedBy true other second → h ≡ first.history
     → k ≡ second.history → TellsCrowd h k subject a → IsPrinted a old new end
     → HasAnswered (IsCrowdAnswer subject one other) (StopsSubmissions one other) old new end
 has-crowded subject one other old new end first second h k a told also e f right printed =
@@ -38,7 +38,7 @@ has-crowded subject one other old new end first second h k a told also e f right
     inl (a, (first, second, told, also, right'), printed)
 
 pub has-pooled : (workers : ℕ) (file old new : Option Bytes) (end : End) (a : Answer) → IsPooled workers file a
-    → IsPrinted a old new end → HasAnswered (IsPooled workers file) (StopsPlan file) old new end
+    → IsPrinted a old new end → HasAnswered (IsPooled workers file) (StopsSubmission false file) old new end
 has-pooled workers file old new end a right printed = inl (a, right, printed)
 
 -- a call that is this one is performed as this one is

@@ -9,7 +9,6 @@ use Rattle.scripts.specs.declared.run.Stop.TheVariants as stop
 use Rattle.tables.specs.TableLines
 use Rattle.runs.specs.Hosting.{new_hosting}
 use Rattle.runs.specs.Running
-use Rattle.runs.specs.Plans.{Plan}
 use Rattle.runs.specs.Submitting.{Submitting}
 use Rattle.pooled.specs.Pooling.{IsPoolText}
 use Rattle.answers.specs.Comparisons.{IsComparison}
@@ -17,8 +16,8 @@ use Rattle.answers.specs.Crowding.{TellsCrowd}
 use Rattle.scphost.specs.Hosting.{HasMadeShorter, HasServed}
 use Rattle.scphost.specs.Reporting.{IsReport}
 use Rattle.scphost.specs.Translating.{IsDecoding, IsEncoding, StopsDecoding, StopsEncoding}
-use Rattle.answers.specs.Scripts.{IsPlannedBy, IsStoryOf, IsSubmittedBy, Story, longest_script}
-use Rattle.answers.specs.Scripts.{StopsPlan, StopsStories, StopsStory, StopsSubmissions}
+use Rattle.answers.specs.Scripts.{IsStoryOf, IsSubmittedBy, Story, longest_script}
+use Rattle.answers.specs.Scripts.{StopsStories, StopsStory, StopsSubmission, StopsSubmissions}
 use Rattle.scphost.specs.Stops.{End, IsEndOf}
 use Rattle.answers.specs.declared.answer.Answer.{Answer}
 use Rattle.command_line.specs.declared.call.Call.{Call}
@@ -55,14 +54,14 @@ IsCompared explain subject one other a = (first second : Story) × IsStoryOf exp
 
 -- the answer compares what two scripts submit, in this order
 abbrev pub IsCrowdAnswer : Subject → Option Bytes → Option Bytes → Answer → Type 0
-IsCrowdAnswer subject one other a = (first second : Submitting) × IsSubmittedBy one first × IsSubmittedBy other second
+IsCrowdAnswer subject one other a = (first second : Submitting) × IsSubmittedBy true one first × IsSubmittedBy true other second
     × TellsCrowd first.history second.history subject a
 
 -- the answer tells what became of the networks of a script whose events were jobs of so many workers
 abbrev pub IsPooled : ℕ → Option Bytes → Answer → Type 0
 IsPooled workers script a =
-    (plan : Plan) × IsPlannedBy script plan × (a.differs ≡ false)
-    × IsPoolText plan.submitted.history.configs plan.submitted.history.calls plan.opens workers (string_bytes a.text)
+    (run : Submitting) × IsSubmittedBy false script run × (a.differs ≡ false)
+    × IsPoolText run.history.configs run.history.calls workers (string_bytes a.text)
 
 -- the lines of a script are run in order, from this state on, and what they print is written; it is told how the run
 -- ended
@@ -82,7 +81,7 @@ names_files _ = true
 -- what `run` does with a script: its lines are run in order, or they are jobs of so many workers
 abbrev pub IsRunOn : Option ℕ → Option Bytes → Option Bytes → Option Bytes → End → Type 0
 IsRunOn None script old new end = HasRunLines Running.Tells Running.RefusesLine new_hosting script old new end
-IsRunOn (Some workers) script old new end = HasAnswered (IsPooled workers script) (StopsPlan script) old new end
+IsRunOn (Some workers) script old new end = HasAnswered (IsPooled workers script) (StopsSubmission false script) old new end
 
 -- what a call does with its files: it runs the lines of one, prints the answer, or makes one shorter; what is about one
 -- envelope has none, and `serve` is not performed so

@@ -2,7 +2,7 @@
 
 ghost use Rattle.std.specs.Prelude.{◌≡◌, Err, IsTrue, false};
 ghost use Rattle.scphost.specs.Printing.{HasAnswered, HasAnsweredUsage, IsCompared, IsCrowdAnswer, IsPerformed, IsPerformedAsItComes, IsPooled, IsReported, IsRunAsItComes, IsRunOn, names_files};
-ghost use Rattle.answers.specs.Scripts.{StopsPlan, StopsStories, StopsStory, StopsSubmissions};
+ghost use Rattle.answers.specs.Scripts.{StopsStories, StopsStory, StopsSubmission, StopsSubmissions};
 ghost use Rattle.scphost.specs.Stops.{IsEndOf, status_of_end};
 
 use crate::hosting::{make_file_shorter, make_shorter, serve};
@@ -112,7 +112,7 @@ fn perform_pool<
     script: &mut R,
     outputs: &mut Outputs<W, E>,
 ) -> Result<bool, Stop>
-    ensures { HasAnswered (IsPooled workers (R.remaining script.old)) (StopsPlan (R.remaining script.old))
+    ensures { HasAnswered (IsPooled workers (R.remaining script.old)) (StopsSubmission false (R.remaining script.old))
         (W.contents outputs.old.out) (W.contents outputs.new.out) result }
 {
     match answer_pool(rt, script, workers) {
@@ -198,12 +198,12 @@ fn perform_crowd<R: Read, T: Read, W: Write, E: Write>(
         (StopsSubmissions (R.remaining first.old) (T.remaining second.old))
         (W.contents outputs.old.out) (W.contents outputs.new.out) result }
 {
-    let first = match read_submission(alloc, first) {
+    let first = match read_submission(alloc, first, true) {
         Ok(run) => run,
         Err(stop) => return print_stop(stop, asked.first.as_str(), &mut outputs.err),
     };
     outputs.second = true;
-    let second = match read_submission(alloc, second) {
+    let second = match read_submission(alloc, second, true) {
         Ok(run) => run,
         Err(stop) => {
             drop(first);

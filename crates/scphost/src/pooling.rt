@@ -1,10 +1,10 @@
 //! A script whose events are jobs of a pool of workers.
 
-ghost use Rattle.std.specs.Prelude.{IfErr, IfOk};
+ghost use Rattle.std.specs.Prelude.{IfErr, IfOk, false};
 ghost use Rattle.scphost.specs.Printing.{IsPooled};
-ghost use Rattle.answers.specs.Scripts.{StopsPlan};
+ghost use Rattle.answers.specs.Scripts.{StopsSubmission};
 
-use answers::{Answer, read_jobs};
+use answers::{Answer, read_submission};
 use command_line::PoolSize;
 use pooled::run_pool;
 use scripts::Stop;
@@ -20,12 +20,11 @@ pub fn answer_pool<A: AllocGlobal + Threads + Wait + Sync + Send + Copy + Drop, 
     workers: PoolSize,
 ) -> Result<Answer, Stop>
     ensures pooled { IfOk result (IsPooled workers (R.remaining script.old)) }
-    ensures stopped { IfErr result (StopsPlan (R.remaining script.old)) }
+    ensures stopped { IfErr result (StopsSubmission false (R.remaining script.old)) }
 {
     let alloc = rt.alloc();
-    let jobs = read_jobs(alloc, script)?;
-    let (submission, opens) = jobs.into_parts();
-    match run_pool(rt, alloc, submission, opens, workers.workers()) {
+    let run = read_submission(alloc, script, false)?;
+    match run_pool(rt, alloc, run.into_submission(), workers.workers()) {
         Ok(text) => Ok(Answer {
             differs: false,
             text,

@@ -4,7 +4,8 @@ use Rattle.std.proofs.Common.{◌∙◌, append-nil, inl, refl, sym, ap, subst, 
 use Rattle.std.specs.List.{All}
 use Rattle.std.proofs.lemmas.Bool.{ltb-false}
 use Rattle.std.proofs.lemmas.Bool.Decides.{Decides-ltb}
-use Rattle.std.proofs.lemmas.List.{get_or-map, length-map, length-set, map-append, map-set, set-get_or, take_all, drop_all}
+use Rattle.std.proofs.Math.Seq.{get_or-append_seam}
+use Rattle.std.proofs.lemmas.List.{get_or-map, get_or_append_left, length-map, length-set, length-take, take-append-drop, map-append, map-set, set-get_or, take_all, drop_all}
 use Rattle.std.proofs.lemmas.List.Elements.{All-cons, All-head, All-nil, All-set, All-tail}
 use Rattle.scripts.specs.Script.{Bytes}
 use Rattle.feed.specs.Reading.{HeldLine, given_of}
@@ -18,9 +19,12 @@ use Rattle.serving.specs.Apart.{HasRoomForNetwork, HasRoomToAnswer}
 use Rattle.serving.specs.Hosts.{Live, Serves, new_live}
 use Rattle.shards.specs.Dealing.{IsAnsweredInVain, IsDealt}
 use Rattle.shards.specs.Parts.{AreGathered, AreOwnAnswered, AreParts, ArePlaced, HasRoomForLine, IsHostPart, IsOfPlace, both_of, joined, networks_of, networks_of_all, part_at}
-use Rattle.shards.specs.Sharded.{AreAnsweredUntil, AreBatchAnswered, AreShards, hosts_of, waiting_answers}
+use Rattle.shards.specs.Sharded.{AreAnsweredUntil, AreBatchAnswered, AreErrands, AreShards, HasAnsweredItsOwn, hosts_of, waiting_answers}
+use Rattle.shards.specs.declared.batch.Batch.{Batch}
 use Rattle.shards.specs.declared.dealing.Dealt.{Dealt}
+use Rattle.shards.specs.declared.shard.Errand.{Errand}
 use Rattle.shards.specs.declared.shard.Shard.{Shard}
+use Rattle.tasks.specs.Doing.{AreTasksDone}
 use Rattle.shards.proofs.Counted.{joined_hosts_have_all_networks}
 use Rattle.shards.proofs.Shared.{parts_answer_lines_for_the_whole}
 use Rattle.shards.proofs.Whole.{parts_answer_for_the_whole}
@@ -187,6 +191,39 @@ rested_more shards p s l idle before k d less = by (eqb k p) refl
         let other : k ≢ p = λ same. true≢false (sym (eq-eqb k p same) ∙ is) in
         let apart : k < p = below (λ same. other same) in
         ap (λ (x : Shard). x.answers.items) (get_or-set_other shards p k s d other) ∙ before k d apart
+
+-- ---- errands
+-- the errand of a shard with its place and these lines
+abbrev IsErrandOf : Batch → ℕ → Shard → Errand → Type 0
+IsErrandOf batch k s e = (e.shard ≡ s) × (e.place ≡ k) × (e.batch ≡ batch)
+
+pub errands_more : (batch : Batch) (shards : List Shard) (es longer : List Errand) (p : ℕ) (x : Errand) → length es ≡ p → longer ≡ es ++ x ∷ []
+    → ((k : ℕ) (d : Shard) (e : Errand) → k < p → IsErrandOf batch k (get_or shards k d) (get_or es k e)) → ((d : Shard) → IsErrandOf batch p (get_or shards p d) x)
+    → (k : ℕ) (d : Shard) (e : Errand) → k < p + 1 → IsErrandOf batch k (get_or shards k d) (get_or longer k e)
+errands_more batch shards es longer p x long is before now k d e less = subst (λ xs. IsErrandOf batch k (get_or shards k d) (get_or xs k e)) (sym is) (by (nat_lt k p) refl)
+  where
+    by : (b : Bool) → nat_lt k p ≡ b → IsErrandOf batch k (get_or shards k d) (get_or (es ++ x ∷ []) k e)
+    by true b =
+        let l : k < p = (Decides-ltb k p).0 b in
+        subst (IsErrandOf batch k (get_or shards k d)) (sym (get_or_append_left es (x ∷ []) e k (omega (arith, l, long)))) (before k d e l)
+    by false b =
+        let last : k ≡ p = omega (arith, less, ltb-false k p b) in
+        subst (λ j. IsErrandOf batch j (get_or shards j d) (get_or (es ++ x ∷ []) j e)) (sym last)
+        (subst (IsErrandOf batch p (get_or shards p d)) (sym (ap (λ j. get_or (es ++ x ∷ []) j e) (sym long) ∙ get_or-append_seam es x [] e)) (now d))
+
+-- what errands did, each of a shard
+pub answered_by_errands : (batch : Batch) (old mid : List Shard) (es done : List Errand) → AreErrands batch old es → AreTasksDone HasAnsweredItsOwn es done
+    → ((k : ℕ) (d : Shard) (e : Errand) → k < length old → get_or mid k d ≡ (get_or done k e).shard)
+    → (k : ℕ) (d : Shard) → k < length old
+    → AreOwnAnswered k (get_or old k d).host (batch.count + 1) (map given_of batch.lines.now) batch.places.now (map reply_of (get_or mid k d).answers.items) (get_or mid k d).host
+answered_by_errands batch old mid es done are all back k d l =
+    let e : Errand = record { shard = d; place = k; batch = batch } in
+    let x : Errand = get_or es k e in
+    let is = are.each k d e l in
+    let whole : x ≡ record { shard = get_or old k d; place = k; batch = batch } = λ i. record { shard = is.0 i; place = is.1 i; batch = is.2 i } in
+    let one : HasAnsweredItsOwn x (get_or done k e) = all.each k e (omega (arith, l, are.count)) in
+    subst (λ (s : Shard). AreOwnAnswered k (get_or old k d).host (batch.count + 1) (map given_of batch.lines.now) batch.places.now (map reply_of s.answers.items) s.host) (sym (back k d e l))
+    (subst (λ (o : Errand). HasAnsweredItsOwn o (get_or done k e)) whole one)
 
 -- ---- a new host
 pub record IsFresh (bytes : Bool) (s : Shard) : Type 0 where
@@ -355,6 +392,52 @@ batch_shards old new n lines answers lost some long idle answered is = record {
       let are = (answered.2 all).1 in
       subst (λ b. AreParts b (hosts_of new)) (sym (same-bytes (joined (hosts_of old)).bytes (hosts_of new) are)) are;
 }
+
+-- no line was answered
+pub none_answered : (old new : List Shard) (n : ℕ) (lines : List HeldLine) (answers : List (Option Answer)) → 0 < length lines → answers ≡ [] → AreBatchAnswered old n (map given_of lines) (map reply_of answers) new
+none_answered old new n lines answers some none =
+    subst (λ as_told. AreBatchAnswered old n (map given_of lines) (map reply_of as_told) new) (sym none) (joined (hosts_of old), refl, λ all. absurd (omega (arith, some, all, length-map lines given_of)))
+
+-- ---- lines that were answered in two parts
+-- the first answers are those of the first lines
+pub answered_so_far : (s t : Live) (n : ℕ) (lines : List (Option Bytes)) (answers left : List LineReply) → AreAnswered Serves s n lines (answers ++ left) t → (u : Live) × AreAnswered Serves s n lines answers u
+answered_so_far s t n lines [] left are = (s, refl)
+answered_so_far s t n [] (a ∷ answers) left are = absurd are
+answered_so_far s t n (x ∷ lines) (a ∷ answers) left are = let on = answered_so_far are.0 t (n + 1) lines answers left are.2 in (on.0, (are.0, are.1, on.1))
+
+pub answered_both : (s t u : Live) (n m : ℕ) (xs ys : List (Option Bytes)) (one other : List LineReply) → AreAnswered Serves s n xs one t → length one ≡ length xs → m ≡ n + length xs
+    → AreAnswered Serves t m ys other u → AreAnswered Serves s n (xs ++ ys) (one ++ other) u
+answered_both s t u n m [] ys [] other are all at more = subst (λ (j : ℕ). AreAnswered Serves s j ys other u) (at ∙ omega arith) (subst (λ l. AreAnswered Serves l m ys other u) are more)
+answered_both s t u n m [] ys (a ∷ one) other are all at more = absurd are
+answered_both s t u n m (x ∷ xs) ys [] other are all at more = absurd (omega (arith, all))
+answered_both s t u n m (x ∷ xs) ys (a ∷ one) other are all at more = (are.0, are.1, answered_both are.0 t u (n + 1) m xs ys one other are.2 (omega (arith, all)) (at ∙ omega arith) more)
+
+pub answered_parts : (s t u : Live) (c k : ℕ) (hs first others : List HeldLine) (one other : List (Option Answer)) → first ≡ take k hs → others ≡ drop k hs → k ≤ length hs → length one ≡ k
+    → AreAnswered Serves s (c + 1) (map given_of first) (map reply_of one) t → AreAnswered Serves t (c + k + 1) (map given_of others) (map reply_of other) u
+    → AreAnswered Serves s (c + 1) (map given_of hs) (map reply_of (one ++ other)) u
+answered_parts s t u c k hs first others one other front back within long are more =
+    let many : length (map given_of first) ≡ k = length-map first given_of ∙ ap length front ∙ length-take k hs ∙ omega (arith, within) in
+    let whole : map given_of first ++ map given_of others ≡ map given_of hs = sym (map-append given_of first others) ∙ ap (map given_of) ((λ i. front i ++ back i) ∙ take-append-drop k hs) in
+    subst (λ ls. AreAnswered Serves s (c + 1) ls (map reply_of (one ++ other)) u) whole
+    (subst (λ as_told. AreAnswered Serves s (c + 1) (map given_of first ++ map given_of others) as_told u) (sym (map-append reply_of one other))
+    (answered_both s t u (c + 1) (c + k + 1) (map given_of first) (map given_of others) (map reply_of one) (map reply_of other) are (length-map one reply_of ∙ long ∙ sym many) (omega (arith, many)) more))
+
+-- the first lines were all answered, and then the others
+pub answered_then : (s mid u : Live) (c k : ℕ) (hs first others : List HeldLine) (one other : List (Option Answer)) → first ≡ take k hs → others ≡ drop k hs → k ≤ length hs → k ≤ length one
+    → ((t : Live) × AreAnswered Serves s (c + 1) (map given_of first) (map reply_of one) t × (length one ≡ length first → t ≡ mid)) → AreAnswered Serves mid (c + k + 1) (map given_of others) (map reply_of other) u
+    → AreAnswered Serves s (c + 1) (map given_of hs) (map reply_of (one ++ other)) u
+answered_then s mid u c k hs first others one other front back within enough (t, are, then) more =
+    let many : length first ≡ k = ap length front ∙ length-take k hs ∙ omega (arith, within) in
+    let few = few_answers Serves s t (c + 1) (map given_of first) (map reply_of one) are in
+    let long : length one ≡ k = omega (arith, few, enough, many, length-map one reply_of, length-map first given_of) in
+    answered_parts s t u c k hs first others one other front back within long are (subst (λ v. AreAnswered Serves v (c + k + 1) (map given_of others) (map reply_of other) u) (sym (then (long ∙ sym many))) more)
+
+-- so far as a part of the answers goes
+pub answered_some : (s u : Live) (n : ℕ) (hs : List HeldLine) (one left all : List (Option Answer)) → one ++ left ≡ all → AreAnswered Serves s n (map given_of hs) (map reply_of all) u
+    → (t : Live) × AreAnswered Serves s n (map given_of hs) (map reply_of one) t
+answered_some s u n hs one left all is are =
+    answered_so_far s u n (map given_of hs) (map reply_of one) (map reply_of left)
+    (subst (λ as_told. AreAnswered Serves s n (map given_of hs) as_told u) (map-append reply_of one left) (subst (λ xs. AreAnswered Serves s n (map given_of hs) (map reply_of xs) u) (sym is) are))
 
 -- ---- a host that answered lines
 pub nothing_answered : (l : Live) (n : ℕ) (lines : List HeldLine) (answers : List (Option Answer)) → answers ≡ [] → AreAnsweredUntil l n (map given_of lines) (map reply_of answers) l

@@ -1,10 +1,13 @@
 -- The shards of a live host.
-use Rattle.std.specs.Prelude.{◌≡◌, ◌<◌, ℕ, Bool, false, List, [], length, map, Option}
+use Rattle.std.specs.Prelude.{◌≡◌, ◌+◌, ◌<◌, ℕ, Bool, false, List, [], length, map, slice_index_or, Option}
 use Rattle.std.specs.List.{All}
 use Rattle.scripts.specs.Script.{Bytes}
+use Rattle.feed.specs.Reading.{given_of}
 use Rattle.feed.specs.Served.{AreAnswered, LineReply, reply_of}
 use Rattle.serving.specs.Hosts.{Live, Serves}
-use Rattle.shards.specs.Parts.{AreParts, joined}
+use Rattle.shards.specs.Parts.{AreOwnAnswered, AreParts, joined}
+use Rattle.shards.specs.declared.batch.Batch.{Batch}
+use Rattle.shards.specs.declared.shard.Errand.{Errand}
 use Rattle.shards.specs.declared.shard.Shard.{Shard}
 
 -- the hosts of shards
@@ -20,6 +23,19 @@ pub record AreShards (lost : Bool) (shards : List Shard) : Type 0 where
 -- what the shards answered of lines that are not gathered yet
 abbrev pub waiting_answers : List Shard → List (List LineReply)
 waiting_answers shards = map (λ s. map reply_of s.answers.items) shards
+
+-- a shard of a place answered those of the lines that go there
+abbrev pub HasAnsweredItsOwn : Errand → Errand → Type 0
+HasAnsweredItsOwn old new =
+    AreOwnAnswered old.place old.shard.host (old.batch.count + 1) (map given_of old.batch.lines.now) old.batch.places.now
+    (map reply_of new.shard.answers.items) new.shard.host
+
+-- each shard, with its place and these lines
+pub record AreErrands (batch : Batch) (shards : List Shard) (errands : List Errand) : Type 0 where
+  pub count : length errands ≡ length shards
+  pub each : (k : ℕ) (d : Shard) (e : Errand) → k < length shards
+      → ((slice_index_or errands k e).shard ≡ slice_index_or shards k d) × ((slice_index_or errands k e).place ≡ k)
+      × ((slice_index_or errands k e).batch ≡ batch)
 
 -- each of these numbers is less
 abbrev pub AllLess : ℕ → List ℕ → Type 0

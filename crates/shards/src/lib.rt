@@ -1,12 +1,13 @@
 //! A live host whose networks are shared out among workers (this host's profile).
 //!
-//! A [`ShardedHost`] has as many shards as there are workers. Each is a live host, and has those networks whose number
-//! leaves its place as remainder. Lines that come together are dealt by the networks that they name. The workers
-//! answer them side by side, each those of its own shard, one after the other. Then the answers are gathered in the
-//! order of the lines. Few lines, and such among which one may declare a network, are answered in turn. So what is
-//! answered is what one host answers to these lines, however many workers there are.
+//! A [`ShardedHost`] has one shard, or sixteen for each of several workers. Each is a live host, and has those networks
+//! whose number leaves its place as remainder. Lines that come together are dealt by the networks that they name. The
+//! workers take one shard after the other, and answer its lines in their order. Then the answers are gathered in the
+//! order of the lines. Few lines are answered in turn, and so are those up to the last that may declare a network. So
+//! what is answered is what one host answers to these lines, however many workers there are.
 #![tactic(auto)]
 
+mod batch;
 mod dealing;
 mod laws;
 mod shard;

@@ -1,14 +1,18 @@
-//! The part of a host that one worker has.
+//! The part of a host that one thread at a time answers for.
 
-ghost use Rattle.std.specs.Prelude.{◌≡◌, ◌+◌, ◌<◌, ◌^◌, [], length, map};
+ghost use Rattle.std.specs.Prelude.{◌≡◌, ◌+◌, [], map};
 ghost use Rattle.feed.specs.Reading.{given_of};
 ghost use Rattle.feed.specs.Served.{reply_of};
+ghost use Rattle.serving.specs.Hosts.{new_live};
 ghost use Rattle.shards.specs.Parts.{AreOwnAnswered};
+ghost use Rattle.shards.specs.Sharded.{HasAnsweredItsOwn};
 
-use feed::{Answer, KeptLine, LineServer};
+use crate::batch::Batch;
+use feed::{Answer, LineServer};
 use serving::LiveHost;
 use std::alloc::Global;
 use std::collections::VecDeque;
+use tasks::Task;
 
 /// A live host, and what it answered of lines that are not gathered yet.
 #[derive(Drop)]
@@ -18,21 +22,28 @@ pub(crate) struct Shard {
 }
 
 impl Shard {
-    /// Answers those of the lines that go to this place, one after the other, until it is out of memory. `count` lines stand
-    /// before them.
-    pub(crate) fn work(
-        &mut self,
-        alloc: Global,
-        count: u64,
-        lines: &[KeptLine],
-        places: &[usize],
-        place: usize,
-    )
-        requires idle { self.old.answers.items ≡ [] }
-        requires places { length places.now ≡ length lines.now }
-        requires numbers { count + length lines.now < 2 ^ 64 }
-        ensures { AreOwnAnswered place self.old.host (count + 1) (map given_of lines.now) places.now (map reply_of self.new.answers.items) self.new.host }
+    /// A shard without networks. It takes no memory.
+    pub(crate) fn new(alloc: Global, bytes: bool) -> Shard
+        ensures host { result.host ≡ new_live bytes }
+        ensures idle { result.answers.items ≡ [] }
     {
+        Shard {
+            host: LiveHost::new(alloc, bytes),
+            answers: VecDeque::new(alloc),
+        }
+    }
+
+    /// Answers those of the lines that go to this place, one after the other, until it is out of memory.
+    fn work(&mut self, place: usize, batch: Batch<'_>)
+        requires { self.old.answers.items ≡ [] }
+        ensures { AreOwnAnswered place self.old.host (batch.entry.count + 1) (map given_of batch.entry.lines.now) batch.entry.places.now (map reply_of self.new.answers.items) self.new.host }
+    {
+        let Batch {
+            alloc,
+            count,
+            lines,
+            places,
+        } = batch;
         for at in 0..lines.len() {
             if places[at] == place {
                 let number = count + 1 + at as u64;
@@ -44,5 +55,22 @@ impl Shard {
                 };
             }
         }
+    }
+}
+
+/// A shard that is to answer those of the lines that go to its place.
+#[derive(Drop)]
+pub(crate) struct Errand<'a> {
+    pub shard: Shard,
+    pub place: usize,
+    pub batch: Batch<'a>,
+}
+
+impl<'a> Task for Errand<'a> {
+    ghost does = { HasAnsweredItsOwn };
+
+    fn run(&mut self) {
+        self.shard.answers.clear();
+        self.shard.work(self.place, self.batch);
     }
 }

@@ -1,36 +1,45 @@
 //! A live host in shards.
 
-ghost use Rattle.std.specs.Prelude.{◌≡◌, ◌<◌, ◌≤◌, ◌+◌, ◌^◌, ℕ, true, false, IfNone, IfOk, IfSome, [], length, map, nat_lt, not, slice_index_or};
+ghost use Rattle.std.specs.Prelude.{◌≡◌, ◌<◌, ◌≤◌, ◌+◌, ◌++◌, ◌∷◌, ◌^◌, ℕ, true, false, IfNone, IfOk, IfSome, List, Option, [], length, map, nat_lt, not, slice_index_or};
 ghost use Rattle.std.specs.List.{All};
 ghost use Rattle.feed.specs.Reading.{given_of};
-ghost use Rattle.feed.specs.Served.{reply_of};
-ghost use Rattle.serving.specs.Hosts.{new_live};
-ghost use Rattle.shards.specs.Parts.{AreGathered, AreOwnAnswered, ArePlaced, networks_of_all};
-ghost use Rattle.shards.specs.Sharded.{AllLess, AreAnsweredUntil, AreBatchAnswered, AreShards, hosts_of, waiting_answers};
+ghost use Rattle.feed.specs.Served.{AreAnswered, reply_of};
+ghost use Rattle.feed.specs.declared.answering.Answer.{Answer};
+ghost use Rattle.serving.specs.Hosts.{Live, Serves, new_live};
+ghost use Rattle.shards.specs.Parts.{AreGathered, ArePlaced, networks_of_all};
+ghost use Rattle.shards.specs.Sharded.{AllLess, AreErrands, AreAnsweredUntil, AreBatchAnswered, AreShards, hosts_of, waiting_answers};
+ghost use Rattle.shards.specs.declared.shard.Errand.{Errand};
 ghost use Rattle.shards.specs.declared.shard.Shard.{Shard};
 
+use crate::batch::Batch;
 use crate::dealing::{Dealt, answer_in_vain, deal};
-use crate::shard::Shard;
+use crate::shard::{Errand, Shard};
 use feed::{Answer, BatchServer, KeptLine, LineServer, MOST_LINES, serve_in_turn};
 use serving::{LiveHost, MOST_NETWORKS};
 use std::alloc::{AllocError, Global};
 use std::collections::VecDeque;
 use std::marker::Model;
-use std::thread;
+use std::mem::{replace, swap};
 use std::thread::Threads;
+use tasks::do_all;
 
 /// Fewer lines than this are answered one after the other, since to start threads for them would take longer.
 const FEW_LINES: usize = 16;
 
-/// For how many shards lines are taken together at most: all of these lines and their answers are kept at a time.
+/// How many shards there are for each of several threads. A thread that has its own behind it takes one that is left. So
+/// a thread that is held up by others of the machine, or a shard with more to do, holds up nobody for long.
+const SHARDS_A_THREAD: usize = 16;
+
+/// For how many threads lines are taken together at most: all of these lines and their answers are kept at a time.
 const MOST_SHARES: usize = 4;
 
-/// A live host whose networks are shared out among as many shards as there are workers. Contracts see it as one live
-/// host, with the networks of all shards. If a line that was dealt has no answer for want of memory, shards may have
+/// A live host whose networks are shared out among shards, which threads answer for. Contracts see it as one live host,
+/// with the networks of all shards. If a line that was dealt has no answer for want of memory, shards may have
 /// answered lines behind it; so no further line is answered.
 #[derive(Drop)]
 pub struct ShardedHost {
     shards: Vec<Shard>,
+    threads: usize,
     lost: bool,
 }
 
@@ -51,21 +60,24 @@ impl Model for ShardedHost {
 }
 
 impl ShardedHost {
-    /// A host without networks in `count` shards, which prints envelopes as bytes if `bytes` is set. An error says that
-    /// it is out of memory.
-    pub fn new(alloc: Global, bytes: bool, count: usize) -> Result<ShardedHost, AllocError>
-        requires { 0 < count }
+    /// A host without networks, for so many threads, which prints envelopes as bytes if `bytes` is set. An error says
+    /// that it is out of memory.
+    pub fn new(alloc: Global, bytes: bool, threads: usize) -> Result<ShardedHost, AllocError>
+        requires { 0 < threads }
         ensures { IfOk result (λ host. host ≡ new_live bytes) }
     {
+        let count = if threads < 2 {
+            1
+        } else {
+            threads.saturating_mul(SHARDS_A_THREAD)
+        };
         let mut shards = Vec::with_capacity(alloc, count)?;
         for _made in 0..count {
-            shards.push_reserved(Shard {
-                host: LiveHost::new(alloc, bytes),
-                answers: VecDeque::new(alloc),
-            });
+            shards.push_reserved(Shard::new(alloc, bytes));
         }
         Ok(ShardedHost {
             shards,
+            threads,
             lost: false,
         })
     }
@@ -80,7 +92,8 @@ impl ShardedHost {
         count: u64,
         lines: &[KeptLine],
     ) -> Option<VecDeque<Option<Answer>>>
-        requires { count + length lines.now < 2 ^ 64 }
+        requires some { 0 < length lines.now }
+        requires numbers { count + length lines.now < 2 ^ 64 }
         ensures none { IfNone result (self.new ≡ self.old) }
         ensures answered { IfSome result (λ answers. AreAnsweredUntil self.old (count + 1) (map given_of lines.now) (map reply_of answers.items) self.new) }
     {
@@ -89,12 +102,65 @@ impl ShardedHost {
             return Some(VecDeque::new(alloc));
         }
         let places = places_of(alloc, lines, self.shards.len())?;
-        let dealt = places.as_slice();
-        let answers = serve_dealt(rt, alloc, &mut self.shards, count, lines, dealt);
+        let batch = Batch {
+            alloc,
+            count,
+            lines,
+            places: places.as_slice(),
+        };
+        let Some(answers) = serve_dealt(rt, self.threads, &mut self.shards, batch) else {
+            drop(places);
+            return None;
+        };
         self.lost = answers.len() < lines.len();
         drop(places);
         Some(answers)
     }
+
+    /// The answers to lines, by all shards side by side, or in turn if that cannot be; `count` lines stand before them.
+    fn serve_shared<R: Threads + Sync>(
+        &mut self,
+        rt: &R,
+        alloc: Global,
+        count: u64,
+        lines: &[KeptLine],
+    ) -> VecDeque<Option<Answer>>
+        requires some { 0 < length lines.now }
+        requires numbers { count + length lines.now < 2 ^ 64 }
+        ensures { (t : Live) × AreAnswered Serves self.old (count + 1) (map given_of lines.now) (map reply_of result.items) t × (length result.items ≡ length lines.now → t ≡ self.new) }
+    {
+        match self.serve_together(rt, alloc, count, lines) {
+            Some(answers) => answers,
+            None => serve_in_turn(self, alloc, count, lines),
+        }
+    }
+}
+
+/// How many lines stand up to the last one that begins as one does that declares a network.
+fn up_to_nets(lines: &[KeptLine]) -> usize
+    ensures { result ≤ length lines.now }
+{
+    let mut last = 0;
+    for (place, line) in lines.iter().enumerate() {
+        if let Some([b'n', b'e', b't', ..]) = line.given() {
+            last = place + 1;
+        }
+    }
+    last
+}
+
+/// Adds answers behind others, and answers whether all were. If not, it is out of memory, and the last are let go.
+fn add_behind(answers: &mut VecDeque<Option<Answer>>, mut more: VecDeque<Option<Answer>>) -> bool
+    ensures all { result ≡ true → answers.new.items ≡ answers.old.items ++ more.items }
+    ensures some { result ≡ false → (a : Option Answer) × (left : List (Option Answer)) × (answers.new.items ++ (a ∷ left) ≡ answers.old.items ++ more.items) }
+{
+    while let Some(answer) = more.pop_front() {
+        if answers.push_back(answer).is_err() {
+            drop(more);
+            return false;
+        }
+    }
+    true
 }
 
 /// Whether as many networks are declared in all shards as may be.
@@ -137,33 +203,36 @@ fn places_of(alloc: Global, lines: &[KeptLine], count: usize) -> Option<Vec<usiz
     Some(places)
 }
 
-/// Each shard answers those of the lines that go to it, in a thread of its own if one can be started. `count` lines stand
-/// before them.
-fn work<R: Threads + Sync>(
-    rt: &R,
-    alloc: Global,
-    shards: &mut [Shard],
-    count: u64,
-    lines: &[KeptLine],
-    places: &[usize],
-)
-    requires some { 0 < length shards.old }
-    requires idle { All (λ s. s.answers.items ≡ []) shards.old }
-    requires places { length places.now ≡ length lines.now }
-    requires numbers { count + length lines.now < 2 ^ 64 }
-    ensures worked { (k : ℕ) (d : Shard) → k < length shards.old → AreOwnAnswered k (slice_index_or shards.old k d).host (count + 1) (map given_of lines.now) places.now (map reply_of (slice_index_or shards.new k d).answers.items) (slice_index_or shards.new k d).host }
+/// An errand for each shard, which leaves an empty one in its place. `None` says that it is out of memory; then nothing
+/// has changed.
+fn errands<'a>(shards: &mut [Shard], batch: Batch<'a>) -> Option<Vec<Errand<'a>>>
+    ensures none { IfNone result (shards.new ≡ shards.old) }
+    ensures some { IfSome result (λ errands. AreErrands batch.entry shards.old errands.items) }
+    ensures idle { IfSome result (λ _. All (λ s. s.answers.items ≡ []) shards.new) }
     ensures length { length shards.new ≡ length shards.old }
 {
-    let threads = shards.len();
-    thread::for_each_mut(
-        rt,
-        shards,
-        threads,
-        &|place, shard: &mut Shard|
-            requires { (shard.old.answers.items ≡ []) × (length places.now ≡ length lines.now) × (count + length lines.now < 2 ^ 64) }
-            ensures { AreOwnAnswered place shard.old.host (count + 1) (map given_of lines.entry.now) places.entry.now (map reply_of shard.new.answers.items) shard.new.host }
-        { shard.work(alloc, count, lines, places, place) },
-    );
+    let mut errands = Vec::with_capacity(batch.alloc, shards.len()).ok()?;
+    for place in 0..shards.len() {
+        let shard = replace(&mut shards[place], Shard::new(batch.alloc, false));
+        errands.push_reserved(Errand {
+            shard,
+            place,
+            batch,
+        });
+    }
+    Some(errands)
+}
+
+/// Puts each shard back in its place.
+fn bring_back(shards: &mut [Shard], mut errands: Vec<Errand<'_>>)
+    requires { length errands.items ≡ length shards.old }
+    ensures back { (k : ℕ) (d : Shard) (e : Errand) → k < length shards.old → slice_index_or shards.new k d ≡ (slice_index_or errands.entry.items k e).shard }
+    ensures length { length shards.new ≡ length shards.old }
+{
+    for place in 0..shards.len() {
+        swap(&mut shards[place], &mut errands[place].shard);
+    }
+    drop(errands);
 }
 
 /// The answers of all shards in the order of these places, until one is wanting.
@@ -194,26 +263,31 @@ fn rest(shards: &mut [Shard])
     }
 }
 
-/// The answers to lines that go to the shards of these places, until one is wanting. `count` lines stand before them.
+/// The answers to lines, by their shards, until one is wanting. `None` says that there is no memory to share them out;
+/// then nothing has changed.
 fn serve_dealt<R: Threads + Sync>(
     rt: &R,
-    alloc: Global,
+    threads: usize,
     shards: &mut [Shard],
-    count: u64,
-    lines: &[KeptLine],
-    places: &[usize],
-) -> VecDeque<Option<Answer>>
+    batch: Batch<'_>,
+) -> Option<VecDeque<Option<Answer>>>
     requires shards { AreShards false shards.old }
-    requires places { ArePlaced (length shards.old) (map given_of lines.now) places.now }
-    requires numbers { count + length lines.now < 2 ^ 64 }
-    ensures answered { AreBatchAnswered shards.old (count + 1) (map given_of lines.now) (map reply_of result.items) shards.new }
-    ensures idle { All (λ s. s.answers.items ≡ []) shards.new }
+    requires some { 0 < length batch.lines.now }
+    requires places { ArePlaced (length shards.old) (map given_of batch.lines.now) batch.places.now }
+    ensures none { IfNone result (shards.new ≡ shards.old) }
+    ensures answered { IfSome result (λ answers. AreBatchAnswered shards.old (batch.entry.count + 1) (map given_of batch.entry.lines.now) (map reply_of answers.items) shards.new) }
+    ensures idle { IfSome result (λ _. All (λ s. s.answers.items ≡ []) shards.new) }
     ensures length { length shards.new ≡ length shards.old }
 {
-    work(rt, alloc, shards, count, lines, places);
-    let answers = gather(alloc, shards, places);
+    let errands = errands(shards, batch)?;
+    let Some(errands) = do_all(rt, batch.alloc, errands, threads) else {
+        // A shard did not come back, which no thread lets happen.
+        return Some(VecDeque::new(batch.alloc));
+    };
+    bring_back(shards, errands);
+    let answers = gather(batch.alloc, shards, batch.places);
     rest(shards);
-    answers
+    Some(answers)
 }
 
 impl LineServer for ShardedHost {
@@ -252,11 +326,11 @@ impl LineServer for ShardedHost {
 }
 
 impl BatchServer for ShardedHost {
-    /// [`MOST_LINES`] for each shard, for at most `MOST_SHARES` of them. A thread is given that many since to start it
+    /// [`MOST_LINES`] for each thread, for at most `MOST_SHARES` of them. A thread is given that many since to start it
     /// takes as long as some lines, and may wait until a processor is free.
     fn lines_at_once(&self) -> usize {
-        let shares = if self.shards.len() < MOST_SHARES {
-            self.shards.len()
+        let shares = if self.threads < MOST_SHARES {
+            self.threads
         } else {
             MOST_SHARES
         };
@@ -264,8 +338,8 @@ impl BatchServer for ShardedHost {
     }
 
     /// Answers lines, each by the shard to which it goes, and those of different shards in different threads. They are
-    /// answered in turn if they are few, if there is one shard, or if there is no memory to deal them out. So they are
-    /// if one may declare a network, since its limit counts the networks of all shards.
+    /// answered in turn if they are few, if there is one shard, or if there is no memory to deal them out. So are those
+    /// up to the last that may declare a network, since its limit counts the networks of all shards.
     fn serve_batch<R: Threads + Sync>(
         &mut self,
         rt: &R,
@@ -273,12 +347,22 @@ impl BatchServer for ShardedHost {
         count: u64,
         lines: &[KeptLine],
     ) -> VecDeque<Option<Answer>> {
-        if lines.len() < FEW_LINES || self.shards.len() < 2 {
+        let turn = up_to_nets(lines);
+        if lines.len() - turn < FEW_LINES || self.shards.len() < 2 {
             return serve_in_turn(self, alloc, count, lines);
         }
-        match self.serve_together(rt, alloc, count, lines) {
-            Some(answers) => answers,
-            None => serve_in_turn(self, alloc, count, lines),
+        if turn == 0 {
+            return self.serve_shared(rt, alloc, count, lines);
         }
+        let (first, others) = lines.split_at(turn);
+        let mut answers = serve_in_turn(self, alloc, count, first);
+        if answers.len() < turn {
+            return answers;
+        }
+        let more = self.serve_shared(rt, alloc, count + turn as u64, others);
+        if !add_behind(&mut answers, more) {
+            self.lost = true;
+        }
+        answers
     }
 }

@@ -11,6 +11,8 @@ mod of_decisions;
 #[cfg(test)]
 mod of_envstore;
 #[cfg(test)]
+mod of_tasks;
+#[cfg(test)]
 mod of_work;
 #[cfg(test)]
 mod of_workers;

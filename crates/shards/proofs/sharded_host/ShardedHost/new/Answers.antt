@@ -1,13 +1,18 @@
-use Rattle.std.proofs.Common.{rules, ◌<◌, [], length, subst, sym}
+use Rattle.std.proofs.Common.{rules, ◌<◌, [], length, ap, subst, sym}
 use Rattle.std.specs.List.{All}
 use Rattle.std.proofs.lemmas.List.Elements.{All-append, All-cons, All-nil}
+use Rattle.serving.specs.Hosts.{Live}
 use Rattle.shards.proofs.ShardLaws.{IsFresh, fresh_joined, fresh_shards}
 use Rattle.shards.proofs.sharded_host.ShardedHost.new.Goals as goal
 
 pub loop-made-preserved : goal.loop-made-preserved
 loop-made-preserved c =
-    let one : IsFresh c.args.bytes (record { host = c.new.result; answers = c.new-in-loop-made.result }) =
-    record { bytes_is = c.new.ensures.bytes; waiting = c.new.ensures.waiting; running = c.new.ensures.running; idle = c.new-in-loop-made.ensures.items } in (
+    let one : IsFresh c.args.bytes c.new.result = record {
+      bytes_is = ap (λ (l : Live). l.bytes) c.new.ensures.host;
+      waiting = ap (λ (l : Live). l.waiting) c.new.ensures.host;
+      running = ap (λ (l : Live). l.running) c.new.ensures.host;
+      idle = c.new.ensures.idle;
+    } in (
       search rules,
       search rules,
       search rules,
