@@ -2,6 +2,7 @@
 
 ghost use Rattle.std.specs.Prelude.{◌≡◌, ◌≤◌, [], IfSome, length, vec_capacity};
 ghost use Rattle.std.specs.List.{AllZip};
+ghost use Rattle.std.specs.Thread.{IsSend, IsSync};
 ghost use Rattle.tasks.specs.Doing.{AreTasksDone};
 
 use crate::task::{Held, Task};
@@ -40,14 +41,8 @@ pub fn do_all<R: Threads + Sync, T: Task + Send + Sync + Drop>(
         };
         places.push_reserved(Counted::new(Some(held), &was));
     }
-    let shared = places.as_slice();
     let share = count.checked_div(threads).unwrap_or(0);
-    let _counted = thread::map_indices(
-        rt,
-        alloc,
-        threads,
-        &|thread: usize| -> () { do_free_from(shared, thread.saturating_mul(share)) },
-    );
+    do_by(rt, places.as_slice(), share, threads.saturating_sub(1));
     take_back(places, done)
 }
 
@@ -59,6 +54,27 @@ fn do_in_turn<T: Task>(mut tasks: Vec<T>) -> Vec<T>
         tasks[place].run();
     }
     tasks
+}
+
+/// Does those of the tasks that no thread has taken, by this thread and so many others. They are started one after the
+/// other: two that start at once may be put on one processor, where each waits for the other.
+#[cycle(starting)]
+fn do_by<R: Threads + Sync, T: Task + Send + Sync + Drop>(
+    rt: &R,
+    places: &[Counted<Option<Held<T>>>],
+    share: usize,
+    others: usize,
+) {
+    if others == 0 {
+        do_free_from(places, 0);
+        return;
+    }
+    let fewer = others - 1;
+    let other = move || -> () { do_free_from(places, others.saturating_mul(share)) };
+    let rest = move || -> ()
+        requires { IsSync R.row × IsSend T.row × IsSync T.row }
+    { do_by(rt, places, share, fewer) };
+    let (_, _) = thread::join(rt, other, rest);
 }
 
 /// Does those of the tasks that no thread has taken, from a place on and then those before it. So each thread begins
