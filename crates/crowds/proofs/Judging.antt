@@ -1,5 +1,5 @@
 -- From the parts of a comparison to its verdict.
-use Rattle.std.proofs.Common.{◌≡◌, ℕ, Bool, true, List, Option, Some, is_some, map, IsTrue, sym, ◌∙◌, ap, ap₂, subst}
+use Rattle.std.proofs.Common.{◌≡◌, ℕ, true, List, Option, Some, is_some, IsTrue, sym, ◌∙◌, ap, subst}
 use Rattle.std.proofs.Math.Path.{fun_ext}
 use Rattle.types.specs.declared.event.Event.{Event}
 use Rattle.protocol.specs.Sets.{Names, among, AreWithin}
@@ -12,21 +12,13 @@ use Rattle.closure.specs.Hosting.{AreHostedAlike}
 use Rattle.closure.specs.Least.{AreAll}
 use Rattle.network.specs.Decoding.{reading}
 use Rattle.crowds.specs.Listing.{IsOnRoster}
-use Rattle.crowds.specs.Submitted.{concerns_members, marked_steps}
-use Rattle.crowds.proofs.MarkedSteps.{marked_asked}
+use Rattle.crowds.specs.Submitted.{concerning_steps_in}
 use Rattle.crowds.proofs.RunsOf.{concerned_asked}
 
--- ---- the marked steps of a submission are those that concern the members of a closure
-module _ (g i : ℕ) (R : Names) (members : List ℕ) (exactly : (u : ℕ) → among members u ≡ R u) (h : History) (c : Config) (is : config_of h.configs g ≡ Some c) where
-  -- what was submitted, the marks beside it, and both as they are read
-  pub record AreInputs (calls : List (ℕ × Event)) (marks : List Bool) : Type 0 where
-    pub marks_are : marks ≡ map (concerns_members R i g) h.calls
-    pub steps_are : marked_steps marks calls ≡ concerning_steps R i (answers reading h g)
-
-  pub are_inputs : (calls again : List (ℕ × Event)) (marks made : List Bool) → again ≡ h.calls → made ≡ map (concerns_members (among members) i g) again → calls ≡ h.calls → marks ≡ made → AreInputs calls marks
-  are_inputs calls again marks made e f p q =
-      let ms : marks ≡ map (concerns_members R i g) h.calls = q ∙ f ∙ ap (map (concerns_members (among members) i g)) e ∙ ap (λ (S : Names). map (concerns_members S i g) h.calls) (fun_ext exactly) in
-      record { marks_are = ms; steps_are = ap₂ marked_steps ms p ∙ marked_asked R i g h.calls ∙ sym (concerned_asked h c g is R i) }
+-- ---- the steps of a submission that concern the listed members are those that concern their closure
+pub inputs_are : (g i : ℕ) (R : Names) (members : List ℕ) → ((u : ℕ) → among members u ≡ R u) → (h : History) (c : Config) → config_of h.configs g ≡ Some c → (calls : List (ℕ × Event)) → calls ≡ h.calls
+    → concerning_steps_in (among members) i g calls ≡ concerning_steps R i (answers reading h g)
+inputs_are g i R members exactly h c is calls e = (λ j. concerning_steps_in (fun_ext exactly j) i g (e j)) ∙ sym (concerned_asked h c g is R i)
 
 -- ---- the members are hosted alike, the same is reserved, and for all of them
 module _ (one other : History) (g i v : ℕ) (members : List ℕ) where

@@ -1,6 +1,6 @@
 mod SameSteps
 mod RosterSets
-mod MarkedSteps
+mod ConcerningSteps
 mod RunsOf
 mod Judging
 mod IndexLaws

@@ -1,5 +1,5 @@
 -- The run of one network, event after event.
-use Rattle.std.proofs.Common.{◌≡◌, ◌≢◌, Result, Ok, Err, inl, inr, ℕ, zero, suc, ◌+◌, ◌≤◌, Bool, true, false, ◌&&◌, ◌==◌, Option, Some, None, List, [], ◌∷◌, ◌++◌, filter, length, map, take, slice_get, if◌then◌else◌, is_some, refl, sym, ◌∙◌, ap, subst}
+use Rattle.std.proofs.Common.{◌≡◌, ◌≢◌, Result, Ok, Err, inl, inr, ℕ, ◌+◌, ◌≤◌, Bool, true, false, ◌&&◌, ◌==◌, Option, Some, None, List, [], ◌∷◌, ◌++◌, filter, length, map, take, slice_get, if◌then◌else◌, is_some, refl, sym, ◌∙◌, ap, subst}
 use Rattle.std.proofs.lemmas.List.{append-nil, map-append, take_all}
 use Rattle.std.proofs.lemmas.List.Elements.{filter-append}
 use Rattle.types.specs.declared.event.Event.{Event}
@@ -145,10 +145,10 @@ module _ (h : History) (c : Config) (g : ℕ) (is : config_of h.configs g ≡ So
         last false = refl
 
     -- the replies that are kept
-    pub replies_next : (call.0 == g) ≡ true → (before : Log) {r : Reply} {new : Log} → before ≡ log_so_far h c g k → IsReplied before (step_of call.1) r new → (R : Names) (i : ℕ) (b : Bool) → b ≡ concerns_members R i g call → (old now : List Reply)
+    pub replies_next : (call.0 == g) ≡ true → (before : Log) {r : Reply} {new : Log} → before ≡ log_so_far h c g k → IsReplied before (step_of call.1) r new → (R : Names) (i : ℕ) (b : Bool) → b ≡ concerns R i (step_of call.1) → (old now : List Reply)
         → old ≡ replied_to R i (answers reading (so_far h k) g) → now ≡ old ++ (if b then r ∷ [] else []) → now ≡ replied_to R i (answers reading (so_far h (k + 1)) g)
     replies_next o before {r} {new} start a R i b m old now e f =
-        f ∙ ap (λ (x : Bool). old ++ (if x then r ∷ [] else [])) (m ∙ ap (λ (x : Bool). x && concerns R i (step_of call.1)) o)
+        f ∙ ap (λ (x : Bool). old ++ (if x then r ∷ [] else [])) m
         ∙ ap (λ (xs : List Reply). xs ++ (if concerns R i (step_of call.1) then r ∷ [] else [])) e
         ∙ sym (replied-snoc R i (answers reading (so_far h k) g) (record { step = step_of call.1; reply = r }))
         ∙ sym (ap (replied_to R i) (answers_grow o r new (subst (λ (l : Log). IsReplied l (step_of call.1) r new) start a)))
@@ -164,18 +164,6 @@ replied_at_first h g R i = refl
 
 pub replied_in_all : (h : History) (g : ℕ) (R : Names) (i k : ℕ) → length h.calls ≤ k → replied_to R i (answers reading (so_far h k) g) ≡ replied_to R i (answers reading h g)
 replied_in_all h g R i k l = ap (λ (cs : List (ℕ × Event)). replied_to R i (answers reading (record { configs = h.configs; calls = cs }) g)) (take_all k h.calls l)
-
--- a mark is that of its event
-pub mark_at : {A : Type 0} (f : A → Bool) (marks : List Bool) (calls : List A) (k : ℕ) (call : A) (b : Bool) → marks ≡ map f calls → slice_get calls k ≡ Some call → slice_get marks k ≡ Some b → b ≡ f call
-mark_at f marks calls k call b e there is = one (sym is ∙ ap (λ (ms : List Bool). slice_get ms k) e ∙ at f calls k call there)
-  where
-    one : {x y : Bool} → Some x ≡ Some y → x ≡ y
-    one q = cc
-
-    at : {A : Type 0} (f : A → Bool) (xs : List A) (n : ℕ) (x : A) → slice_get xs n ≡ Some x → slice_get (map f xs) n ≡ Some (f x)
-    at f [] n x e = cc
-    at f (y ∷ ys) zero x e = let q : y ≡ x = cc in ap (λ z. Some (f z)) q
-    at f (y ∷ ys) (suc n) x e = at f ys n x e
 
 -- ---- what is submitted
 concerning_steps-run : (R : Names) (i : ℕ) (es : List Step) (net : Net) → concerning_steps R i (net_run net es) ≡ filter (concerns R i) es

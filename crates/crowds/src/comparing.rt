@@ -11,7 +11,6 @@ ghost use Rattle.crowds.specs.Crowding.{AreNeverCrowdedOut, IsCrowdHere};
 
 use crate::cast::{least_unlike, slices_among};
 use crate::inputs::first_difference;
-use crate::marks::marks;
 use crate::replay::{replay, replies_to};
 use crate::reply::Replies;
 use crate::rosters::{has_same_reserves, least_outside};
@@ -89,12 +88,11 @@ fn crowd_among(
     if let Some(name) = least_outside(members, roster) {
         return Ok(Crowd::OutsideRoster(name));
     }
-    let one_marks = marks(alloc, one.calls(), net, members, slot)?;
-    let other_marks = marks(alloc, other.calls(), net, members, slot)?;
-    if let Some(place) = first_difference(one.calls(), &one_marks, other.calls(), &other_marks) {
+    let difference = first_difference(alloc, one.calls(), other.calls(), net, members, slot)?;
+    if let Some(place) = difference {
         return Ok(Crowd::InputsDiffer(place));
     }
-    let replies = replies_to(alloc, other, counterpart, net, &other_marks)?;
+    let replies = replies_to(alloc, other, counterpart, net, members, slot)?;
     Ok(Crowd::Same(Replies::of(replies)))
 }
 

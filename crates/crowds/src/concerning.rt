@@ -2,18 +2,53 @@
 //!
 //! An error of a function here says that it is out of memory.
 
-ghost use Rattle.std.specs.Prelude.{◌≡◌, ℕ, IfOk};
+ghost use Rattle.std.specs.Prelude.{◌≡◌, ℕ, IfOk, map};
 ghost use Rattle.protocol.specs.Networks.Step.{Delivers};
 ghost use Rattle.protocol.specs.Sets.{among};
 ghost use Rattle.protocol.specs.Submissions.{concerns};
 ghost use Rattle.closure.specs.Announcing.{member_names};
 ghost use Rattle.network.specs.Decoding.{reading, step_of};
-ghost use Rattle.crowds.specs.Submitted.{IsReadAs};
+ghost use Rattle.crowds.specs.Submitted.{IsReadAs, concerning_steps_in, concerns_members};
 
 use closure::ClosureList;
 use codec::{CodecError, decode};
 use std::alloc::{AllocError, Global};
 use types::{Bytes, Envelope, Event, NodeId};
+
+/// The events of the network that concern the members at the slot, in order. Each delivery to a member is decoded once.
+pub(crate) fn concerning_events<'a>(
+    alloc: Global,
+    calls: &'a [(u32, Event)],
+    net: u32,
+    members: &ClosureList,
+    slot: u64,
+) -> Result<Vec<&'a Event>, AllocError>
+    ensures { IfOk result (λ v. map (λ e. step_of e.now) v.items ≡ concerning_steps_in (among (member_names members.now)) slot net calls.now) }
+{
+    let mut events = Vec::new(alloc);
+    for call in calls {
+        if concerns_members(alloc, call, net, members, slot)? {
+            events.push(&call.1)?;
+        }
+    }
+    Ok(events)
+}
+
+fn concerns_members(
+    alloc: Global,
+    call: &(u32, Event),
+    net: u32,
+    members: &ClosureList,
+    slot: u64,
+) -> Result<bool, AllocError>
+    ensures { IfOk result (λ b. b ≡ concerns_members (among (member_names members.now)) slot net call.now) }
+{
+    let (number, event) = call;
+    if *number != net {
+        return Ok(false);
+    }
+    concerns(alloc, event, members, slot)
+}
 
 /// Whether an event, applied or refused, concerns the members at the slot. It does if it opens or closes any slot, or
 /// happens there to a member, unless it comes from a node that is no member.

@@ -11,7 +11,6 @@ mod comparing;
 mod concerning;
 mod events;
 mod inputs;
-mod marks;
 mod replay;
 mod reply;
 mod rosters;

@@ -1,17 +1,19 @@
 //! The run of one network to which all that was submitted happens.
 
-ghost use Rattle.std.specs.Prelude.{◌≡◌, ◌≢◌, ◌↔◌, ◌<◌, ◌++◌, ◌∷◌, [], ℕ, IfOk, OnOk, Some, IsTrue, if◌then◌else◌, length, map, slice_get};
+ghost use Rattle.std.specs.Prelude.{◌≡◌, ◌≢◌, ◌↔◌, ◌++◌, ◌∷◌, [], IfOk, OnOk, Some, IsTrue, if◌then◌else◌, map};
 ghost use Rattle.protocol.specs.Hosts.{entries};
 ghost use Rattle.protocol.specs.Networks.Reply.{Refused};
-ghost use Rattle.protocol.specs.Sets.{Names};
+ghost use Rattle.protocol.specs.Sets.{among};
 ghost use Rattle.types.specs.declared.event.Refusal.TheVariants.{NoMemory};
 ghost use Rattle.protocol.specs.Submissions.{answers, config_of, replied_to};
+ghost use Rattle.closure.specs.Announcing.{member_names};
 ghost use Rattle.network.specs.Decoding.{reading, step_of};
 ghost use Rattle.crowds.specs.Replies.{IsReplied, reply_of_answer};
-ghost use Rattle.crowds.specs.Submitted.{concerns_members};
 
+use crate::concerning::concerns;
 use crate::reply::Reply;
 use crate::submission::Submission;
+use closure::ClosureList;
 use configuration::NetConfig;
 use envstore::BoxShelf;
 use hoststep::Journal;
@@ -39,27 +41,27 @@ pub(crate) fn replay(
     Ok(journal)
 }
 
-/// The replies to the marked events of a network, after all that was submitted to it. An error is as of [`replay`].
+/// The replies to the events of a network that concern the members at the slot, after all that was submitted to it.
+/// Each delivery to a member is decoded once more. An error is as of [`replay`].
 pub(crate) fn replies_to(
     alloc: Global,
     submission: &Submission,
     config: &NetConfig,
     net: u32,
-    marks: &[bool],
+    members: &ClosureList,
+    slot: u64,
 ) -> Result<Vec<Reply>, AllocError>
-    requires declared { config_of submission.now.configs net ≡ Some config.now }
-    requires marked { length marks.now ≡ length submission.now.calls }
-    ensures { (R : Names) (i : ℕ) → marks.now ≡ map (concerns_members R i net) submission.now.calls → IfOk result (λ v. map reply_of_answer v.items ≡ replied_to R i (answers reading submission.now net)) }
+    requires { config_of submission.now.configs net ≡ Some config.now }
+    ensures { IfOk result (λ v. map reply_of_answer v.items ≡ replied_to (among (member_names members.now)) slot (answers reading submission.now net)) }
 {
     let mut journal = Journal::new(alloc, config.try_copy(alloc)?, BoxShelf::new(alloc));
     let mut replies = Vec::new(alloc);
-    let calls = submission.calls();
-    for place in 0..calls.len() {
-        let (number, event) = &calls[place];
+    for call in submission.calls() {
+        let (number, event) = call;
         if *number == net {
+            let is_concerning = concerns(alloc, event, members, slot)?;
             let reply = answer(alloc, &mut journal, event)?;
-            let concerns_members = is_marked(marks, place);
-            keep(&mut replies, reply, concerns_members)?;
+            keep(&mut replies, reply, is_concerning)?;
         }
     }
     Ok(replies)
@@ -74,7 +76,7 @@ fn answer(
     ensures { IfOk result (λ r. IsReplied journal.old (step_of event.now) (reply_of_answer r) journal.new) }
 {
     match journal.apply(event.try_copy(alloc)?) {
-        Ok(outs) => Ok(Reply::Done(outs)),
+        Ok(given) => Ok(Reply::Done(given.outs)),
         Err(refusal) => reply_of_refusal(refusal),
     }
 }
@@ -98,18 +100,11 @@ fn is_want_of_memory(refusal: &Refusal) -> bool
     matches!(refusal, Refusal::NoMemory)
 }
 
-fn is_marked(marks: &[bool], place: usize) -> bool
-    requires { place < length marks.now }
-    ensures { slice_get marks.now place ≡ Some result }
-{
-    marks[place]
-}
-
 /// Keeps a reply, if it is asked for.
-fn keep(replies: &mut Vec<Reply>, reply: Reply, concerns_members: bool) -> Result<(), AllocError>
-    ensures { OnOk result (map reply_of_answer replies.new.items ≡ map reply_of_answer replies.old.items ++ (if concerns_members then reply_of_answer reply ∷ [] else [])) }
+fn keep(replies: &mut Vec<Reply>, reply: Reply, is_concerning: bool) -> Result<(), AllocError>
+    ensures { OnOk result (map reply_of_answer replies.new.items ≡ map reply_of_answer replies.old.items ++ (if is_concerning then reply_of_answer reply ∷ [] else [])) }
 {
-    if concerns_members {
+    if is_concerning {
         return match replies.push(reply) {
             Ok(()) => Ok(()),
             // Memory: the list has no room.

@@ -66,7 +66,7 @@ fn appends(alloc: Global, journal: &mut Journal<BoxShelf>) -> Option<bool> {
         node: name(1),
         value: Bytes::new(Vec::from_slice(alloc, b"a").ok()?),
     };
-    let given = journal.apply(event).ok()?.len();
+    let given = journal.apply(event).ok()?.outs.len();
     let mut outs = Vec::new(alloc);
     journal.push_outs(alloc, 2, &mut outs).ok()?;
     Some(given > 0 && outs.len() == given)

@@ -31,8 +31,7 @@ use Rattle.hoststep.specs.declared.kept.KeptEvent.TheVariants as events
 use Rattle.hoststep.specs.Hosting.{NamesNodes}
 use Rattle.hoststep.specs.Keeping.{AreKept, AreOutsListed, IsKeptEvent, IsReadable, entry_of, step_in}
 use Rattle.hoststep.proofs.Listing.{AreEarlier, put-behind}
-use Rattle.hoststep.specs.Entering.{IsEnteredWith, outs_after}
-use Rattle.hoststep.specs.Logs.{IsJournal, Log, with_entry}
+use Rattle.hoststep.specs.Logs.{IsJournal, Log, marks_of, with_entry}
 
 -- ---- runs
 -- an element of a list one longer stands in the old part, or is the new one
@@ -200,10 +199,20 @@ names-nodes old new config lists xs e count a h d is same =
     let net = state_of old.config (map entry_of xs) in
     subst (λ (k : Config). NamesNodes k.nodes e) (sym (is ∙ same)) (subst (λ (n : Net). NamesNodes n.nodes e) h.0.state.is (all-hosted net e (next-of old new lists xs e count a h d).0))
 
-pub entered-with : (l : Log) (old new : FiledMachine) (lists : OutsLists) (xs : List StoredEntry) (e : Step) (count : ℕ) (a : Outcome) → log_of old xs ≡ l → Stands old lists xs → IsApplied old e count new a → IsEnteredWith l e count (record { marks = a.marks; copies = a.copies })
+-- what an event gives out after the entries of a journal
+abbrev pub outs_after : Log → Step → List Out
+outs_after l e = outs_given l.config l.entries e
+
+-- an event is not refused after a journal, and leaves its marks and so many whole copies of its outs
+pub record IsEnteredWith (l : Log) (e : Step) (count : ℕ) (a : Outcome) : Type 0 where
+  pub free : refusal_of l.config l.entries e ≡ None
+  pub marks : a.marks.items ≡ marks_of l.config l.entries e
+  pub copies : map (λ v. v.items) a.copies.items ≡ copies_of count (outs_after l e)
+
+pub entered-with : (l : Log) (old new : FiledMachine) (lists : OutsLists) (xs : List StoredEntry) (e : Step) (count : ℕ) (a : Outcome) → log_of old xs ≡ l → Stands old lists xs → IsApplied old e count new a → IsEnteredWith l e count a
 entered-with l old new lists xs e count a is h d =
     let next = next-of old new lists xs e count a h d in
-    subst (λ (k : Log). IsEnteredWith k e count (record { marks = a.marks; copies = a.copies })) is
+    subst (λ (k : Log). IsEnteredWith k e count a) is
     (record { free = next.0; marks = d.marks (state_of old.config (map entry_of xs)) h.0.state; copies = d.copies ∙ ap (λ (os : List Out). copies_of count os) next.1 })
 
 -- what an entry more is made of: the event, and what was given out

@@ -3,6 +3,6 @@ pub mod Hosting
 pub mod Boxing
 pub mod Giving
 pub mod Keeping
-pub mod Entering
+pub mod Externalized
 pub mod Lending
 pub mod Deciding

@@ -5,13 +5,14 @@ ghost use Rattle.protocol.specs.Networks.{is_open, slices_of};
 ghost use Rattle.protocol.specs.Runs.{IsRun, state_of};
 ghost use Rattle.network.specs.Decoding.{step_of};
 ghost use Rattle.network.specs.Standing.{slices_of_node};
-ghost use Rattle.hoststep.specs.Logs.{IsEntered, IsEntryAt, IsRecorded, IsRefused, with_entry};
-ghost use Rattle.hoststep.specs.Entering.{IsEnteredWith, outs_after};
+ghost use Rattle.hoststep.specs.Logs.{IsEntered, IsEntryAt, IsRecorded, IsRefused, marks_of, with_entry};
+ghost use Rattle.hoststep.specs.Externalized.{externalized_at};
 ghost use Rattle.hoststep.specs.Lending.{lent_step, outs_of_entry};
 ghost use Rattle.hoststep.specs.Deciding.{decided_by, decisions_at};
 
-use crate::entered::{Entered, only_copy};
 use crate::event_room::EventRoom;
+use crate::externalized::externalized_by;
+use crate::given::{Given, only_copy};
 use crate::kept::{StoredEntry, entry_at, kept_event, push_whole_outs, whole_event};
 use crate::lent_decision::{LentDecision, lent_decision};
 use crate::lent_event::{LentEvent, lent_event};
@@ -22,7 +23,7 @@ use envstore::Shelf;
 use network::{Network, Outcome};
 use std::alloc::{AllocError, Global};
 use std::marker::Model;
-use types::{Event, Nested, NodeId, Out, Refusal};
+use types::{Event, Nested, NodeId, Out, Refusal, Value};
 
 /// A network with the events that were applied to it and what they gave out, numbered from 0.
 ///
@@ -110,6 +111,24 @@ impl<S: Shelf> Journal<S> {
         self.network.slices(slot, node)
     }
 
+    /// Whether a slot is open after all entries. It takes no memory.
+    pub fn is_open(&self, slot: u64) -> bool
+        ensures { result ≡ is_open (state_of self.now.config self.now.entries) slot }
+    {
+        self.network.is_open(slot)
+    }
+
+    /// What a hosted node has externalized at an open slot after all entries; `None` if the slot is not open then, the
+    /// node is not hosted, or it has externalized nothing. It takes no memory.
+    pub fn externalized(&self, slot: u64, node: &NodeId) -> Option<&Value>
+        ensures { option_map (λ v. v.now) result ≡ externalized_at (state_of self.now.config self.now.entries) slot node.now }
+    {
+        match self.network.node(slot, node) {
+            None => None,
+            Some(node) => externalized_by(node.votes()),
+        }
+    }
+
     /// Why an event is refused if its caller has no room for it: the first refusal that applies after all entries, or
     /// else that it is out of memory. Nothing is changed.
     pub fn refusal(&self, event: &Event) -> Refusal
@@ -123,54 +142,10 @@ impl<S: Shelf> Journal<S> {
     /// An error is the first refusal that applies, or says that it is out of memory. In the latter case no refusal
     /// applies, or bytes came to a hosted node that may take memory to be read. Those are at most 65,536, of a version
     /// and a kind that exist. The journal is as it was.
-    pub fn apply(&mut self, event: Event) -> Result<Vec<Out>, Refusal>
-        ensures ok { IfOk result (λ v. IsEntered self.old (step_of event) v.items) }
-        ensures entered { IfOk result (λ v. self.new ≡ with_entry self.old (step_of event) v.items) }
-        ensures err { IfErr result (IsRefused self.old (step_of event)) }
-        ensures same { OnErr result (self.new ≡ self.old) }
-    {
-        let entered = self.enter(event)?;
-        Ok(only_copy(entered.copies))
-    }
-
-    /// Applies one event as [`Journal::apply`] does, and answers the entry that it makes and the numbers that name its
-    /// emissions.
-    pub fn apply_recorded(&mut self, event: Event) -> Result<Recorded, Refusal>
-        ensures ok { IfOk result (λ r. IsEntered self.old (step_of event) r.outs.items) }
-        ensures entered { IfOk result (λ r. self.new ≡ with_entry self.old (step_of event) r.outs.items) }
-        ensures recorded { IfOk result (IsRecorded self.old event) }
-        ensures err { IfErr result (IsRefused self.old (step_of event)) }
-        ensures same { OnErr result (self.new ≡ self.old) }
-    {
-        let number = self.entries.len();
-        let Ok(copy) = event.try_copy(self.alloc) else {
-            // Memory: the copy has none; a refusal that applies comes first.
-            let refusal = self.refusal(&event);
-            drop(event);
-            return Err(refusal);
-        };
-        match self.enter(copy) {
-            Err(refusal) => {
-                drop(event);
-                Err(refusal)
-            }
-            Ok(entered) => {
-                let outs = only_copy(entered.copies);
-                Ok(Recorded {
-                    number,
-                    event,
-                    outs,
-                    marks: entered.marks,
-                })
-            }
-        }
-    }
-
-    /// Enters one event, if it is not refused, with a whole copy of what it gives out. An error is as of
-    /// [`Journal::apply`].
-    fn enter(&mut self, event: Event) -> Result<Entered, Refusal>
-        ensures ok { IfOk result (IsEnteredWith self.old (step_of event) 1) }
-        ensures entered { OnOk result (self.new ≡ with_entry self.old (step_of event) (outs_after self.old (step_of event))) }
+    pub fn apply(&mut self, event: Event) -> Result<Given, Refusal>
+        ensures ok { IfOk result (λ g. IsEntered self.old (step_of event) g.outs.items) }
+        ensures entered { IfOk result (λ g. self.new ≡ with_entry self.old (step_of event) g.outs.items) }
+        ensures marks { IfOk result (λ g. g.marks.items ≡ marks_of self.old.config self.old.entries (step_of event)) }
         ensures err { IfErr result (IsRefused self.old (step_of event)) }
         ensures same { OnErr result (self.new ≡ self.old) }
     {
@@ -198,7 +173,41 @@ impl<S: Shelf> Journal<S> {
                 let event = kept_event(self.network.config(), &mut self.room, event, delivered);
                 let outs = KeptOuts::put(&mut self.given, self.entries.len(), outs);
                 self.entries.push_reserved(StoredEntry { event, outs });
-                Ok(Entered { marks, copies })
+                let outs = only_copy(copies);
+                Ok(Given { outs, marks })
+            }
+        }
+    }
+
+    /// Applies one event as [`Journal::apply`] does, and answers the entry that it makes and the numbers that name its
+    /// emissions.
+    pub fn apply_recorded(&mut self, event: Event) -> Result<Recorded, Refusal>
+        ensures ok { IfOk result (λ r. IsEntered self.old (step_of event) r.outs.items) }
+        ensures entered { IfOk result (λ r. self.new ≡ with_entry self.old (step_of event) r.outs.items) }
+        ensures recorded { IfOk result (IsRecorded self.old event) }
+        ensures err { IfErr result (IsRefused self.old (step_of event)) }
+        ensures same { OnErr result (self.new ≡ self.old) }
+    {
+        let number = self.entries.len();
+        let Ok(copy) = event.try_copy(self.alloc) else {
+            // Memory: the copy has none; a refusal that applies comes first.
+            let refusal = self.refusal(&event);
+            drop(event);
+            return Err(refusal);
+        };
+        match self.apply(copy) {
+            Err(refusal) => {
+                drop(event);
+                Err(refusal)
+            }
+            Ok(given) => {
+                let Given { outs, marks } = given;
+                Ok(Recorded {
+                    number,
+                    event,
+                    outs,
+                    marks,
+                })
             }
         }
     }

@@ -5,8 +5,9 @@
 #![tactic(auto)]
 
 mod announcing;
-mod entered;
 mod event_room;
+mod externalized;
+mod given;
 mod journal;
 mod kept;
 mod lent_decision;
@@ -18,6 +19,7 @@ mod recorded;
 mod sizes;
 
 pub use configuration::{Budgets, ConfigError, HostedNode, NetConfig, Reservation, Roster, Shares};
+pub use given::Given;
 pub use journal::Journal;
 pub use lent_decision::LentDecision;
 pub use lent_event::LentEvent;

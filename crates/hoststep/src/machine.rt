@@ -5,7 +5,7 @@ ghost use Rattle.protocol.specs.Hosts.{new_net};
 ghost use Rattle.network.specs.Decoding.{step_of};
 ghost use Rattle.network.specs.Standing.{IsRefusal, IsStep, StandsFor};
 
-use crate::entered::only_copy;
+use crate::given::only_copy;
 use configuration::NetConfig;
 use envstore::Shelf;
 use network::Network;

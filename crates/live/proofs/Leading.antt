@@ -14,11 +14,11 @@ use Rattle.protocol.specs.Networks.Reply.{Done, Refused}
 use Rattle.protocol.specs.Networks.Step.{Opens, Closes, Proposes, Delivers, Hears, NominationTimerFires, BallotTimerFires, Reslices}
 use Rattle.protocol.specs.Networks.Reading.{Read, Fault}
 use Rattle.configuration.specs.Configs.{names_of}
-use Rattle.network.specs.declared.plan.Emission.{Emission}
+use Rattle.network.specs.declared.emission.Emission.{Emission}
 use Rattle.network.specs.Decoding.{step_of}
-use Rattle.network.specs.Marks.{slot_and_node_of}
+use Rattle.network.specs.Marks.{named, slot_and_node_of}
 use Rattle.network.specs.Standing.{IsRefusal, IsDeliveryThatTakesMemory, Machine, StandsFor}
-use Rattle.live.specs.Serving.{AreHeard, Hearing, IsServed, IsTried, ToldReply, all_hearings, emissions_by, hearings_of, is_stale, named, slot_at, step_of_hearing, told_at, told_of, waits_after}
+use Rattle.live.specs.Serving.{AreHeard, Hearing, IsServed, IsTried, ToldReply, all_hearings, emissions_by, hearings_of, is_stale, slot_at, step_of_hearing, told_at, told_of, waits_after}
 use Rattle.live.specs.Serving.AreHeard.{all_heard, one_heard}
 use Rattle.live.specs.Serving.Ending.{IsDone}
 use Rattle.live.specs.Serving.IsServed.{done, refused}
@@ -27,7 +27,7 @@ use Rattle.live.specs.Steps.{IsStepped, LeadsTo}
 use Rattle.live.specs.Telling.{HaveHeard, IsHeardByAll, IsServedBy, IsToldAt, emissions_of, ending_by, ending_of, outcome_of, tellings_of}
 use Rattle.live.specs.declared.hearing.Following.{Following}
 use Rattle.live.specs.declared.served.Served.{Served}
-use Rattle.live.specs.declared.stepping.Given.{Given}
+use Rattle.live.specs.declared.stepping.Stepped.{Stepped}
 
 -- ---- leading
 pub leads-nowhere : (i : ℕ) (m : Machine) → LeadsTo i [] m [] [] m
@@ -89,11 +89,11 @@ hear-step : (i u : ℕ) (e : Emission) → step_of (Hear i u e.from e.kind e.num
 hear-step i u e = refl
 
 -- an answer of the code: it is the network's step, or it is refused and nothing changes
-pub data IsAnswer (old : Machine) (e : Step) : Result Given Refusal → Machine → Type 0 where
-  ok : {new : Machine} (g : Given) → IsStepped old e g new → IsAnswer old e (Ok g) new
+pub data IsAnswer (old : Machine) (e : Step) : Result Stepped Refusal → Machine → Type 0 where
+  ok : {new : Machine} (g : Stepped) → IsStepped old e g new → IsAnswer old e (Ok g) new
   err : (r : Refusal) → IsRefusal old e r → IsAnswer old e (Err r) old
 
-tried-by : (old new : Machine) (e : Step) (a : Result Given Refusal) → IsAnswer old e a new → (net : Net) → StandsFor old net
+tried-by : (old new : Machine) (e : Step) (a : Result Stepped Refusal) → IsAnswer old e a new → (net : Net) → StandsFor old net
     → (now : Net) × StandsFor new now × IsTried net e (outcome_of a) now × (emissions_by net e (outcome_of a) ≡ emissions_of a)
 tried-by old new e a (ok g h) net stands =
     let s = h.step net stands in
@@ -101,7 +101,7 @@ tried-by old new e a (ok g h) net stands =
 tried-by old new e a (err r h) net stands = (net, stands, tried-refused old net e r stands h, refl)
 
 -- the same by what the code's step ensures
-pub answer-of : (old new : Machine) (e : Step) (a : Result Given Refusal) → IfOk a (λ g. IsStepped old e g new) → IfErr a (IsRefusal old e) → OnErr a (new ≡ old) → IsAnswer old e a new
+pub answer-of : (old new : Machine) (e : Step) (a : Result Stepped Refusal) → IfOk a (λ g. IsStepped old e g new) → IfErr a (IsRefusal old e) → OnErr a (new ≡ old) → IsAnswer old e a new
 answer-of old new e (Ok g) stepping _ _ = ok g stepping
 answer-of old new e (Err r) _ why same = subst (λ m. IsAnswer old e (Err r) m) (sym same) (err r why)
 
@@ -138,7 +138,7 @@ hears-not-its-own i us e u m f same law is =
     subst (λ l. IsHeardByAll i us l m f f m) (sym (own e u (u == e.from) refl (eq-eqb u e.from (law.0 is)))) (heard-nothing i us m f)
 
 -- another node's hearing was answered, and noted
-pub hears-another : (i : ℕ) (e : Emission) (u : ℕ) (old new : Machine) (f g : Following) (event : Event) (a : Result Given Refusal) (same : Bool) → (IsTrue same ↔ (u ≡ e.from)) → same ≡ false
+pub hears-another : (i : ℕ) (e : Emission) (u : ℕ) (old new : Machine) (f g : Following) (event : Event) (a : Result Stepped Refusal) (same : Bool) → (IsTrue same ↔ (u ≡ e.from)) → same ≡ false
     → event ≡ Hear i u e.from e.kind e.number → IsAnswer old (step_of event) a new → g.emissions.items ≡ f.emissions.items ++ emissions_of a → tellings_of g.told.items ≡ tellings_of f.told.items ++ told_of u (outcome_of a)
     → IsHeardByAll i (names_of old.config.nodes) (hearings_of (u ∷ []) e) old f g new
 hears-another i e u old new f g event a same law other is answer emitted told =
@@ -221,10 +221,10 @@ served-refused old e r s h is none = record {
 }
 
 -- the ending of what was done
-ending-done : (net : Net) (e : Step) (g : Given) (s : Served) → s.refused ≡ None → s.stale ≡ g.stale → g.stale ≡ is_stale net e → IsDone (is_stale net e) ≡ ending_of s
+ending-done : (net : Net) (e : Step) (g : Stepped) (s : Served) → s.refused ≡ None → s.stale ≡ g.stale → g.stale ≡ is_stale net e → IsDone (is_stale net e) ≡ ending_of s
 ending-done net e g s is stale same = sym (ap (λ o. ending_by o s.stale) is ∙ ap (λ (b : Bool). IsDone b) (stale ∙ same))
 
-pub served-alone : (old new : Machine) (e : Step) (g : Given) (s : Served) → IsStepped old e g new → g.place ≡ None → s.refused ≡ None → s.stale ≡ g.stale → s.slot ≡ 0 → tellings_of s.told.items ≡ [] → IsServedBy old e new s
+pub served-alone : (old new : Machine) (e : Step) (g : Stepped) (s : Served) → IsStepped old e g new → g.place ≡ None → s.refused ≡ None → s.stale ≡ g.stale → s.slot ≡ 0 → tellings_of s.told.items ≡ [] → IsServedBy old e new s
 served-alone old new e g s h alone is stale zero none = record {
   slot = subst (λ o. IsToldAt o s.slot e) (sym is) (zero ∙ sym (ap slot_at placeless));
   served = λ net stands.
@@ -243,7 +243,7 @@ served-alone old new e g s h alone is stale zero none = record {
     placeless : slot_and_node_of e ≡ None
     placeless = sym h.place ∙ alone
 
-pub served-and-heard : (old now new : Machine) (e : Step) (g : Given) (i u : ℕ) (first all : List ToldReply) (rest : List ToldReply) (s : Served) → IsStepped old e g now → g.place ≡ Some (i, u) → now.config ≡ old.config
+pub served-and-heard : (old now new : Machine) (e : Step) (g : Stepped) (i u : ℕ) (first all : List ToldReply) (rest : List ToldReply) (s : Served) → IsStepped old e g now → g.place ≡ Some (i, u) → now.config ≡ old.config
     → HaveHeard i (all_hearings (names_of now.config.nodes) (named (emissions g.outs.items) g.marks.items)) now rest new → first ≡ told_of u (Done g.outs.items) → all ≡ first ++ rest → s.refused ≡ None → s.stale ≡ g.stale → s.slot ≡ i → tellings_of s.told.items ≡ all → IsServedBy old e new s
 served-and-heard old now new e g i u first all rest s h at config heard told both is stale slot is-told = record {
   slot = subst (λ o. IsToldAt o s.slot e) (sym is) (slot ∙ sym (ap slot_at place));

@@ -1,7 +1,6 @@
 -- What a line of a served network does: its event, and then what the others hear of it.
 use Rattle.std.specs.Prelude.{◌≡◌, ◌==◌, ◌++◌, ◌⊎◌, not, ℕ, Bool, false, is_none, filter, map, List, [], ◌∷◌, Option, Some, None}
 use Rattle.std.specs.List.{flat_map}
-use Rattle.types.specs.Statements.{Sent, kind_of}
 use Rattle.types.specs.declared.event.NodeEvent.{NodeEvent}
 use Rattle.types.specs.declared.event.NodeEvent.TheVariants.{BallotTimer, NominationTimer, Take}
 use Rattle.types.specs.declared.event.Out.{Out}
@@ -13,8 +12,8 @@ use Rattle.protocol.specs.Networks.Reply.{Done, Refused}
 use Rattle.protocol.specs.Networks.Step.{BallotTimerFires, Closes, Delivers, Hears, NominationTimerFires, Opens, Proposes, Reslices}
 use Rattle.protocol.specs.Nodes.{Node, change}
 use Rattle.configuration.specs.Configs.{names_of}
-use Rattle.network.specs.declared.plan.Emission.{Emission}
-use Rattle.network.specs.Marks.{marks_in, slot_and_node_of}
+use Rattle.network.specs.declared.emission.Emission.{Emission}
+use Rattle.network.specs.Marks.{marks_in, named, slot_and_node_of}
 use Rattle.network.specs.Standing.{IsDeliveryThatTakesMemory, node_at}
 
 -- ---- who hears what
@@ -27,12 +26,6 @@ pub record Hearing : Type 0 where
 -- it hears it at a slot
 abbrev pub step_of_hearing : ℕ → Hearing → Step
 step_of_hearing i h = Hears i h.node h.emission.from h.emission.kind h.emission.number
-
--- emissions by the names under which others hear them: node, kind and number
-abbrev pub named : List Sent → List ℕ → List Emission
-named [] ks = []
-named (e ∷ es) [] = []
-named (e ∷ es) (k ∷ ks) = record { from = e.sender; kind = kind_of e.body; number = k } ∷ named es ks
 
 -- who hears an emission: each of these names but the node whose it is
 abbrev pub hearings_of : List ℕ → Emission → List Hearing

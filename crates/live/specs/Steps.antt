@@ -4,10 +4,10 @@ use Rattle.protocol.specs.Networks.{Net, Step}
 use Rattle.network.specs.Marks.{marks_in, slot_and_node_of}
 use Rattle.network.specs.Standing.{IsStep, Machine, StandsFor}
 use Rattle.live.specs.Serving.{AreHeard, Hearing, ToldReply, is_stale}
-use Rattle.live.specs.declared.stepping.Given.{Given}
+use Rattle.live.specs.declared.stepping.Stepped.{Stepped}
 
 -- an event at a served network: the network's step, its marks, whose it was, and whether it is stale
-pub record IsStepped (old : Machine) (e : Step) (g : Given) (new : Machine) : Type 0 where
+pub record IsStepped (old : Machine) (e : Step) (g : Stepped) (new : Machine) : Type 0 where
   pub step : IsStep old e g.outs.items new
   pub marks : (net : Net) → StandsFor old net → g.marks.items ≡ marks_in net e
   pub place : g.place ≡ slot_and_node_of e

@@ -5,24 +5,24 @@ use Rattle.types.specs.declared.event.Out.{Out}
 use Rattle.types.specs.declared.event.Refusal.{Refusal}
 use Rattle.protocol.specs.Networks.{Net, Reply, Step, emissions}
 use Rattle.protocol.specs.Networks.Reply.{Done, Refused}
-use Rattle.network.specs.declared.plan.Emission.{Emission}
-use Rattle.network.specs.Marks.{slot_and_node_of}
+use Rattle.network.specs.declared.emission.Emission.{Emission}
+use Rattle.network.specs.Marks.{named, slot_and_node_of}
 use Rattle.network.specs.Standing.{Machine, StandsFor}
-use Rattle.live.specs.Serving.{AreHeard, Ending, Hearing, IsServed, ToldReply, all_hearings, named, slot_at}
+use Rattle.live.specs.Serving.{AreHeard, Ending, Hearing, IsServed, ToldReply, all_hearings, slot_at}
 use Rattle.live.specs.Serving.Ending.{IsDone, IsRefused}
 use Rattle.live.specs.Steps.{LeadsTo}
 use Rattle.live.specs.declared.hearing.Following.{Following}
 use Rattle.live.specs.declared.hearing.Told.{Told}
 use Rattle.live.specs.declared.served.Served.{Served}
-use Rattle.live.specs.declared.stepping.Given.{Given}
+use Rattle.live.specs.declared.stepping.Stepped.{Stepped}
 
 -- what a step was answered, as a reply of the definitions
-abbrev pub outcome_of : Result Given Refusal → Reply
+abbrev pub outcome_of : Result Stepped Refusal → Reply
 outcome_of (Ok g) = Done g.outs.items
 outcome_of (Err r) = Refused r
 
 -- the emissions of a step that was answered
-abbrev pub emissions_of : Result Given Refusal → List Emission
+abbrev pub emissions_of : Result Stepped Refusal → List Emission
 emissions_of (Ok g) = named (emissions g.outs.items) g.marks.items
 emissions_of (Err r) = []
 

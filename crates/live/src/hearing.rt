@@ -1,18 +1,16 @@
 //! What waits to be heard, and what is told of it.
 
 ghost use Rattle.std.specs.Prelude.{◌≡◌, ◌++◌, ◌∷◌, [], List, OnOk};
-ghost use Rattle.types.specs.declared.event.Event.TheVariants.{Hear};
 ghost use Rattle.configuration.specs.Configs.{names_of};
 ghost use Rattle.network.specs.Standing.{machine_of};
-ghost use Rattle.protocol.specs.Networks.{emissions};
-ghost use Rattle.live.specs.Serving.{ToldReply, all_hearings, hearings_of, named, told_of};
+ghost use Rattle.live.specs.Serving.{ToldReply, all_hearings, hearings_of, told_of};
 ghost use Rattle.live.specs.Telling.{HaveHeard, IsHeardByAll, emissions_of, outcome_of, tellings_of};
 
-use crate::stepping::{Given, step};
+use crate::stepping::{Stepped, step};
 use envstore::Shelf;
-use network::{Emission, Network};
+use network::{Emission, Network, hearing, push_named};
 use std::alloc::{AllocError, Global};
-use types::{Event, NodeId, Out, Refusal};
+use types::{NodeId, Out, Refusal};
 
 /// A step that is told: of which node, and what it gave out or why it was refused.
 #[derive(Drop)]
@@ -41,14 +39,14 @@ impl Following {
 
     /// Notes the answer to a node's step: its emissions wait behind the others, and it is told if it gave anything out
     /// or was refused. An error says that it is out of memory; then a part may have been noted.
-    pub fn note(&mut self, node: NodeId, answer: Result<Given, Refusal>) -> Result<(), AllocError>
+    pub fn note(&mut self, node: NodeId, answer: Result<Stepped, Refusal>) -> Result<(), AllocError>
         ensures emissions { OnOk result (self.new.emissions.items ≡ self.old.emissions.items ++ emissions_of answer) }
         ensures told { OnOk result (tellings_of self.new.told.items ≡ tellings_of self.old.told.items ++ told_of node (outcome_of answer)) }
     {
         match answer {
             Err(refusal) => self.tell(node, Err(refusal)),
             Ok(given) => {
-                let Given {
+                let Stepped {
                     place: _,
                     stale: _,
                     outs,
@@ -72,32 +70,6 @@ impl Following {
             // Memory: the list has no room.
             Err(_) => Err(AllocError),
         }
-    }
-}
-
-/// Has the emissions among these outs wait behind the others, each by its number. If it is out of memory, a part may
-/// have been added.
-fn push_named(outs: &[Out], marks: &[u64], waiting: &mut Vec<Emission>) -> Result<(), AllocError>
-    ensures { OnOk result (waiting.new.items ≡ waiting.old.items ++ named (emissions outs.now) marks.now) }
-{
-    match outs {
-        [] => Ok(()),
-        [Out::Emit(envelope), more @ ..] => match marks {
-            [] => Ok(()),
-            [number, rest @ ..] => {
-                let emission = Emission {
-                    from: *envelope.sender(),
-                    kind: envelope.body().kind(),
-                    number: *number,
-                };
-                match waiting.push(emission) {
-                    Ok(()) => push_named(more, rest, waiting),
-                    // Memory: the list has no room.
-                    Err(_) => Err(AllocError),
-                }
-            }
-        },
-        [_, more @ ..] => push_named(more, marks, waiting),
     }
 }
 
@@ -162,16 +134,4 @@ fn hear<S: Shelf>(
     let answer = step(alloc, network, &event);
     drop(event);
     following.note(node, answer)
-}
-
-fn hearing(slot: u64, node: NodeId, emission: &Emission) -> Event
-    ensures { result ≡ Hear slot node emission.now.from emission.now.kind emission.now.number }
-{
-    Event::Hear {
-        slot,
-        node,
-        from: emission.from,
-        kind: emission.kind,
-        number: emission.number,
-    }
 }

@@ -21,7 +21,7 @@ use types::{Envelope, Event, NodeId, Out, Refusal};
 /// What an applied event gave out, whole; by which numbers, from 1 on, its emissions are heard; the slot and the node,
 /// if it is an event of a node; and whether it is stale.
 #[derive(Drop)]
-pub(crate) struct Given {
+pub(crate) struct Stepped {
     pub place: Option<(u64, NodeId)>,
     pub stale: bool,
     pub outs: Vec<Out>,
@@ -34,7 +34,7 @@ pub(crate) fn step<S: Shelf>(
     alloc: Global,
     network: &mut Network<S>,
     event: &Event,
-) -> Result<Given, Refusal>
+) -> Result<Stepped, Refusal>
     ensures stepped { IfOk result (λ given. IsStepped (machine_of network.old) (step_of event.now) given (machine_of network.new)) }
     ensures err { IfErr result (IsRefusal (machine_of network.old) (step_of event.now)) }
     ensures same { OnErr result (machine_of network.new ≡ machine_of network.old) }
@@ -52,7 +52,7 @@ pub(crate) fn step<S: Shelf>(
     let place = place_of(network, event, &delivered);
     drop(outs);
     drop(delivered);
-    Ok(Given {
+    Ok(Stepped {
         place,
         stale,
         outs: only_copy(copies),

@@ -4,6 +4,7 @@ use Rattle.types.specs.Statements.{Sent, kind_of}
 use Rattle.protocol.specs.Rows.{is_kind}
 use Rattle.protocol.specs.Networks.{Net, Instance, Step, effect, emissions, node_where_open, instances_at}
 use Rattle.protocol.specs.Networks.Reading.{Read, Fault}
+use Rattle.network.specs.declared.emission.Emission.{Emission}
 use Rattle.protocol.specs.Networks.Step.{Opens, Closes, Proposes, Delivers, Hears, NominationTimerFires, BallotTimerFires, Reslices}
 
 -- the slot and the node of an event that is one of a node
@@ -38,3 +39,9 @@ numbers_by_kind emitted (e ∷ es) =
 -- the marks of an event that is not refused: by which number a Hear names each of its emissions
 abbrev pub marks_in : Net → Step → List ℕ
 marks_in net e = numbers_by_kind (emitted_before net (slot_and_node_of e)) (emissions (effect net e).1)
+
+-- emissions by the names under which others hear them: node, kind and number
+abbrev pub named : List Sent → List ℕ → List Emission
+named [] ks = []
+named (e ∷ es) [] = []
+named (e ∷ es) (k ∷ ks) = record { from = e.sender; kind = kind_of e.body; number = k } ∷ named es ks

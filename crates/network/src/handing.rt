@@ -9,8 +9,9 @@ ghost use Rattle.network.specs.Deeds.{IsPairRoom, IsOfBudgetsOrPair, IsPlan, IsP
 ghost use Rattle.network.specs.Standing.{IsFirstRefusal, machine_of};
 ghost use Rattle.network.specs.declared.plan.Deed.TheVariants.{Hand};
 
+use crate::emission::Emission;
 use crate::network::Network;
-use crate::plan::{Deed, Drawn, Emission, Plan, Spot};
+use crate::plan::{Deed, Drawn, Plan, Spot};
 use crate::reading::{Reading, read};
 use envstore::Shelf;
 use slot::FiledEvent;

@@ -7,6 +7,7 @@
 
 mod applied;
 mod carrying;
+mod emission;
 mod emission_log;
 mod handing;
 mod instance;
@@ -21,6 +22,6 @@ mod slot_index;
 mod tallies;
 
 pub use applied::Outcome;
+pub use emission::{Emission, hearing, push_named};
 pub use network::{Network, Used};
-pub use plan::Emission;
 pub use reading::{Reading, envelopes_have_one_length, read, readings_are_exact};

@@ -147,6 +147,16 @@ impl<S: Shelf> Network<S> {
         }
     }
 
+    /// Whether a slot is open, by a binary search.
+    pub fn is_open(&self, slot: u64) -> bool
+        ensures { (net : Net) → StandsFor (machine_of self.now) net → result ≡ is_open net slot }
+    {
+        match self.slot_at(slot) {
+            None => false,
+            Some(_) => true,
+        }
+    }
+
     /// The slices of a hosted node at an open slot, as they are now; `None` if the slot is not open or the node is not
     /// hosted. It takes no memory.
     pub fn slices(&self, slot: u64, node: &NodeId) -> Option<&Nested>

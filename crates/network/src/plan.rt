@@ -2,7 +2,7 @@
 
 use crate::open_slot::OpenSlot;
 use slot::FiledEvent;
-use types::{Envelope, Kind, NodeId};
+use types::{Envelope, NodeId};
 
 /// What is to be done, by places among the open slots and among the hosted nodes. What needs memory is made already,
 /// but a delivered envelope is filed only when it is handed over.
@@ -67,15 +67,6 @@ pub(crate) struct Charge {
 pub(crate) struct Terms {
     pub charge: Charge,
     pub copies: usize,
-}
-
-/// The name by which another node hears an emission: by whom, of which kind, and its number among those of that kind
-/// since the slot was opened, from 1 on.
-#[derive(Clone, Copy)]
-pub struct Emission {
-    pub from: NodeId,
-    pub kind: Kind,
-    pub number: u64,
 }
 
 /// A deed, on what it draws, and the bytes that count as delivered by it.

@@ -10,9 +10,10 @@ ghost use Rattle.network.specs.Standing.{IsRefusal, machine_of};
 ghost use Rattle.network.specs.declared.plan.Deed.TheVariants.{Act};
 ghost use Rattle.slot.specs.Filings.{IsFiledEvent};
 
+use crate::emission::Emission;
 use crate::network::Network;
 use crate::open_slot::OpenSlot;
-use crate::plan::{Deed, Drawn, Emission, Plan, Spot};
+use crate::plan::{Deed, Drawn, Plan, Spot};
 use envstore::Shelf;
 use slot::FiledEvent;
 use types::{Event, MAX_VALUE_LENGTH, Nested, NodeId, Refusal, Value};

@@ -39,7 +39,6 @@ use Rattle.requests.specs.Taking.{takes}
 use Rattle.requests.specs.Lines.{AreSaid, AsksReslice, AsksResliceOf, AsksSay, AsksSayOf, IsEventAsked, IsRead, IsResliced, IsSaid, five, saying_in, slot_and_node_in, three, verb_in}
 use Rattle.requests.specs.Requests.{AreAllowed, AsksNode, AsksRoster, IsNode, IsRequest, IsRequestOf, IsRequested, IsReserved, budgets_in, shares_in}
 use Rattle.requests.specs.Telling.{Allowed, HasNoNode, IsBadOrder, IsBadRequest, IsBadToAsk, IsBare, RefusesAsked, RefusesOrder, is_unserved, may_apply}
-use Rattle.runs.specs.Followed.{also_followed}
 use Rattle.runs.specs.Hosting.{Hosting, IsNetworkBegun, logs_joined}
 use Rattle.runs.specs.declared.outcome.Outcome.{Outcome}
 use Rattle.runs.specs.declared.outcome.Outcome.TheVariants.{Declared, Answer, Answers, Settled}
@@ -266,7 +265,7 @@ named-has-nodes joins g (Some d) ws us old new h bare = h.1.1.some_nodes bare
 
 begun-has-nodes : (g : ℕ) (old new : Hosting) → IsNetworkBegun g old new → ¬ HasNoNode old.waiting g
 begun-has-nodes g old new begun =
-    named-has-nodes (also_followed logs_joined) g (waiting_at old.waiting g) old.waiting new.waiting (old.logs, old.followed) (new.logs, new.followed) begun.0
+    named-has-nodes logs_joined g (waiting_at old.waiting g) old.waiting new.waiting old.logs new.logs begun.0
 
 declared-has-nodes : (g : ℕ) (old new : Submitting) → IsNetworkDeclared g old new → ¬ HasNoNode old.waiting g
 declared-has-nodes g old new named = named-has-nodes declared_once g (waiting_at old.waiting g) old.waiting new.waiting old.history new.history named.0

@@ -1,7 +1,6 @@
 -- What lines that print nothing do is determined.
-use Rattle.std.proofs.Common.{◌≡◌, ◌≢◌, ◌∙◌, ◌==◌, ◌||◌, ◌&&◌, not, ℕ, Bool, true, false, List, [], ◌∷◌, Option, Some, None, Ok, Err, is_some, if◌then◌else◌, inl, inr, refl, sym, ap, subst}
-use Rattle.std.specs.Prelude.{All, Result, Vec, option_and_then, option_map}
-use Rattle.std.specs.Global.{Global}
+use Rattle.std.proofs.Common.{◌≡◌, ◌≢◌, ◌∙◌, ◌==◌, ◌||◌, ◌&&◌, ◌++◌, not, ℕ, Bool, true, false, List, [], ◌∷◌, Option, Some, None, Ok, Err, is_some, if◌then◌else◌, inl, inr, refl, sym, ap, subst}
+use Rattle.std.specs.Prelude.{All, Result}
 use Rattle.std.proofs.lemmas.Bool.{eqb-true}
 use Rattle.std.proofs.lemmas.List.Elements.{All-head, All-tail}
 use Rattle.std.proofs.lemmas.Option.{none-some}
@@ -12,15 +11,16 @@ use Rattle.types.specs.declared.event.Event.TheVariants as event
 use Rattle.types.specs.declared.event.Out.{Out}
 use Rattle.types.specs.declared.event.Refusal.{Refusal}
 use Rattle.types.specs.declared.event.Refusal.TheVariants.{NoMemory}
-use Rattle.protocol.specs.Networks.{Step}
-use Rattle.protocol.specs.Hosts.{Config}
-use Rattle.protocol.specs.Runs.{refusal_of}
+use Rattle.protocol.specs.Networks.{Step, emissions, is_open}
+use Rattle.protocol.specs.Runs.{refusal_of, state_of}
 use Rattle.protocol.specs.Rosters.{Shares}
 use Rattle.configuration.specs.Configs.{names_of}
 use Rattle.network.specs.Decoding.{step_of}
-use Rattle.network.specs.declared.plan.Emission.{Emission}
+use Rattle.network.specs.Marks.{named}
+use Rattle.network.specs.declared.emission.Emission.{Emission}
+use Rattle.hoststep.specs.declared.given.Given.{Given}
 use Rattle.hoststep.specs.Logs.{IsRefused, Log, with_entry}
-use Rattle.world.specs.Worlds.{IsAnsweredAt, items_of, log_at, logs_set, logs_without}
+use Rattle.world.specs.Worlds.{IsAnswered, IsAnsweredAt, items_of, log_at, logs_set, logs_without, marks_at}
 use Rattle.requests.specs.Naming.{IsForgotten, IsWithout, Named, is_in, named_with, served_with, with_number}
 use Rattle.requests.specs.Outlines.{IsRevised, Outlined, Waiting, waiting_at, waiting_set, waiting_without, with_roster}
 use Rattle.requests.specs.Preparing.{Prepares}
@@ -30,24 +30,23 @@ use Rattle.requests.specs.declared.order.Order.TheVariants as order
 use Rattle.requests.specs.declared.request.Declaration.{Declaration}
 use Rattle.requests.specs.declared.request.Declaration.TheVariants.{Net, Node, Roster}
 use Rattle.requests.specs.declared.request.Request.TheVariants.{Declare, Apply, Settle}
-use Rattle.runs.specs.Determined.{AreFollowedAlike, AreNamedAlike, AreRunsAlike, HaveSame}
-use Rattle.runs.specs.Emissions.{OpenSlot, OpenSlots, at_number, changed_at_number, first_emitted, handed_on, waits}
-use Rattle.runs.specs.Followed.{Followed, IsUnfollowed, after_turn, also_followed, followed_with, names_at, open_slot, turn_of, waiting}
-use Rattle.runs.specs.Hosting.{Hosting, IsEventApplied, IsNetworkBegun, logs_joined, noted_answer}
+use Rattle.runs.specs.Determined.{AreNamedAlike, AreRunsAlike, AreUnheardAlike, HaveSame}
+use Rattle.runs.specs.Hosting.{Hosting, IsNetworkBegun, logs_joined}
 use Rattle.runs.specs.Joining.{NetworkIsNamedAt}
 use Rattle.runs.specs.declared.outcome.Outcome.{Outcome}
 use Rattle.runs.specs.declared.outcome.Outcome.TheVariants.{Declared, Answer, Answers, Settled}
 use Rattle.runs.specs.Running.{Does, IsDeclaredSo, IsLineCarriedOut}
-use Rattle.runs.specs.ServedNetworks.{AllIsHeard as AllHeard, AreAllDelivered, AreDelivered, AreDeliveredTo, HaveOthersHeard, IsDropAnswered, IsEventServed, IsHeardAt, IsHeardByOthers, IsHeardOf}
+use Rattle.runs.specs.ServedNetworks.{AllIsHeard as AllHeard, AnswerIsHeardOf, AreAllDelivered, AreDelivered, AreDeliveredTo, HaveOthersHeard, IsDropAnswered, IsEventServed, IsHeardAt, IsHeardByOthers, hosted_names_in}
 use Rattle.runs.specs.ServedNetworks.AreDelivered.{next_node, none_left}
 use Rattle.runs.specs.ServedNetworks.HaveOthersHeard.{all_heard, one_heard}
-use Rattle.runs.specs.Settling.{AreHandedOn, HasSettled, HasSettledAt, IsHanded, IsHeardBy, handed_over, hearing, others}
+use Rattle.runs.specs.Settling.{AreHandedOn, HasSettled, HasSettledAt, HasSettledIn, IsGivenOut, IsHeardBy, hearing, others}
 use Rattle.runs.specs.Settling.AreHandedOn.{cut_short, none_waits, one_waits}
 use Rattle.runs.specs.Settling.IsHeardBy.{by_all, by_one, refused}
+use Rattle.runs.specs.Unheard.{WaitsAfter, Unheard, WaitThere, WaitsBehind, slot_closed_by, named_emissions, first_emitted, unheard_at}
 use Rattle.runs.specs.Unprinted.{HadMemory}
 use Rattle.runs.proofs.BadLines.{IsOfWords, two-orders}
 use Rattle.runs.proofs.Configured.{one-config}
-use Rattle.runs.proofs.NumberedRows.{at-changed, at-inserted, has-inserted, is-at}
+use Rattle.runs.proofs.NumberedRows.{has-inserted, is-at}
 
 -- ---- small laws
 
@@ -93,22 +92,6 @@ forgotten-alike g m n p q a h k = record {
   served = without-one g m.served n.served p.served q.served a.served h.served k.served;
 }
 
-changed-alike : (g : ℕ) (change : OpenSlots → OpenSlots) (f k : Followed) → AreFollowedAlike f k → AreFollowedAlike (changed_at_number f g change) (changed_at_number k g change)
-changed-alike g change f k same j =
-    at-changed g change j f ∙ (ap (λ (o : Option OpenSlots). if g == j then option_map change o else o) (same j) ∙ sym (at-changed g change j k))
-
-joined-alike : (c : Config) (f k : Followed) → AreFollowedAlike f k → AreFollowedAlike (followed_with c f) (followed_with c k)
-joined-alike c f k same j =
-    let m : OpenSlots = record { names = names_of c.nodes; slots = [] } in
-    at-inserted c.number m j f ∙ (ap (λ (o : Option OpenSlots). if c.number == j then Some m else o) (same j) ∙ sym (at-inserted c.number m j k))
-
-unfollowed-alike : (g : ℕ) (f k p q : Followed) → AreFollowedAlike f k → IsUnfollowed g f p → IsUnfollowed g k q → AreFollowedAlike p q
-unfollowed-alike g f k p q same h i j = go (g == j) refl
-  where
-    go : (b : Bool) → (g == j) ≡ b → at_number p j ≡ at_number q j
-    go true e = ap (at_number p) (sym (eqb-true g j e)) ∙ (h.gone ∙ (sym i.gone ∙ ap (at_number q) (eqb-true g j e)))
-    go false e = h.others j (is-at g j ∙ e) ∙ (same j ∙ sym (i.others j (is-at g j ∙ e)))
-
 -- ---- an event
 
 none-or-some : {A : Type 0} (o : Option A) (a : A) → o ≡ None → o ≡ Some a → ⊥
@@ -133,202 +116,229 @@ one-answer (Some l) logs new last e (Err r) (Err s) h k m n =
     (ap (λ x. Err x) (one-some o o r s refl (refusal-is l e r h.0 m) (refusal-is l e s k.0 n)), h.1 ∙ sym k.1)
 
 -- an answer is not that memory is short, whether its outs are a list or not
-items-had : (r : Result (Vec Out Global) Refusal) → r ≢ Err NoMemory → items_of r ≢ Err NoMemory
-items-had (Ok v) had h = ok-or-err v.items NoMemory h
+items-had : (r : Result Given Refusal) → r ≢ Err NoMemory → items_of r ≢ Err NoMemory
+items-had (Ok v) had h = ok-or-err v.outs.items NoMemory h
 items-had (Err r) had h = had (ap (λ x. Err x) (one-err r NoMemory h))
 
-noted-alike : (g : ℕ) (e : Event) (r : Result (List Out) Refusal) (f k : Followed) → AreFollowedAlike f k → AreFollowedAlike (noted_answer g e r f) (noted_answer g e r k)
-noted-alike g e (Ok outs) f k same = changed-alike g (after_turn (turn_of e) outs) f k same
-noted-alike g e (Err r) f k same = same
+-- what an event is answered, and the journals after it
+one-answered : (g : ℕ) (e : Event) (r s : Result Given Refusal) (old other new last : List Log) → old ≡ other → IsAnswered old g e r new → IsAnswered other g e s last → r ≢ Err NoMemory → s ≢ Err NoMemory
+    → (items_of r ≡ items_of s) × (new ≡ last)
+one-answered g e r s old other new last same h k m n =
+    one-answer (log_at old g) old new last (step_of e) (items_of r) (items_of s) h
+    (subst (λ (x : List Log). IsAnsweredAt (log_at x g) x (step_of e) (items_of s) last) (sym same) k) (items-had r m) (items-had s n)
 
--- what an event is answered, and what becomes of the networks
-pub one-applied : (g : ℕ) (e : Event) (r s : Result (Vec Out Global) Refusal) (old other new last : Hosting) → AreRunsAlike old other → IsEventApplied g e r old new → IsEventApplied g e s other last
-    → r ≢ Err NoMemory → s ≢ Err NoMemory → (items_of r ≡ items_of s) × AreRunsAlike new last
-one-applied g e r s old other new last a h k m n = (
-  answer.0,
-  record {
-    waiting = h.2.0 ∙ (a.waiting ∙ sym k.2.0);
-    named = subst (λ (x : Named × Named). AreNamedAlike x.0 x.1) (λ i. (sym h.2.1 i, sym k.2.1 i)) a.named;
-    followed = subst (λ (x : Followed × Followed). AreFollowedAlike x.0 x.1) (λ i. (sym h.1 i, sym same-noted i)) (noted-alike g e (items_of r) old.followed other.followed a.followed);
-    logs = answer.1;
-  },
-)
-  where
-    answer : (items_of r ≡ items_of s) × (new.logs ≡ last.logs)
-    answer =
-        one-answer (log_at old.logs g) old.logs new.logs last.logs (step_of e) (items_of r) (items_of s) h.0
-        (subst (λ (x : List Log). IsAnsweredAt (log_at x g) x (step_of e) (items_of s) last.logs) (sym a.logs) k.0) (items-had r m) (items-had s n)
+given-had : (r : Given) → ◌≢◌ {A = Result Given Refusal} (Ok r) (Err NoMemory)
+given-had r h = ok-or-err r NoMemory h
 
-    same-noted : last.followed ≡ noted_answer g e (items_of r) other.followed
-    same-noted = k.1 ∙ ap (λ x. noted_answer g e x other.followed) (sym answer.0)
+-- a refusal was not that memory is short
+refusal-had : (r : Refusal) → ◌≢◌ {A = Option Refusal} (Some r) (Some NoMemory) → ◌≢◌ {A = Result Given Refusal} (Err r) (Err NoMemory)
+refusal-had r had h = had (ap (λ x. Some x) (one-err r NoMemory h))
 
--- ---- what waits
+one-ok : (xs ys : List Out) → ◌≡◌ {A = Result (List Out) Refusal} (Ok xs) (Ok ys) → xs ≡ ys
+one-ok xs ys h = cc
 
-opens-alike : (g slot : ℕ) (f k : Followed) → AreFollowedAlike f k → open_slot f g slot ≡ open_slot k g slot
-opens-alike g slot f k same = ap (λ (o : Option OpenSlots). option_and_then (λ m. at_number m.slots slot) o) (same g)
+-- what an event gave out, by its outs and its marks
+same-emitted : (g : ℕ) (e : Event) (r s : Given) (old other : List Log) → old ≡ other → r.outs.items ≡ s.outs.items → r.marks.items ≡ marks_at old g e → s.marks.items ≡ marks_at other g e → named_emissions r ≡ named_emissions s
+same-emitted g e r s old other same outs marks also =
+    let ks : r.marks.items ≡ s.marks.items = marks ∙ (ap (λ ls. marks_at ls g e) same ∙ sym also) in
+    λ i. named (emissions (outs i)) (ks i)
 
-waits-alike : (g slot : ℕ) (f k : Followed) → AreFollowedAlike f k → waiting f g slot ≡ waiting k g slot
-waits-alike g slot f k same = ap (λ (o : Option OpenSlot). option_and_then waits o) (opens-alike g slot f k same)
+-- ---- hearings
 
-names-alike : (g : ℕ) (f k : Followed) → AreFollowedAlike f k → names_at f g ≡ names_at k g
-names-alike g f k same = ap (λ (o : Option OpenSlots). option_map (λ m. m.names) o) (same g)
-
-over-alike : (g slot : ℕ) (ended : Option Refusal) (old other : Hosting) → AreRunsAlike old other → AreRunsAlike (handed_over g slot ended old) (handed_over g slot ended other)
-over-alike g slot None old other a = record {
-  waiting = a.waiting;
-  named = a.named;
-  followed = changed-alike g (λ m. record m { slots = changed_at_number m.slots slot handed_on }) old.followed other.followed a.followed;
-  logs = a.logs;
-}
-over-alike g slot (Some r) old other a = a
+-- nodes that hear the same where the journals are the same
+one-hearing : (g slot : ℕ) (e d : Emission) (us vs : List ℕ) (old other new last : List Log) (more also_more : List Emission) (p q : Option Refusal) → e ≡ d → us ≡ vs → old ≡ other → IsHeardBy g slot e us old more p new
+    → IsHeardBy g slot d vs other also_more q last → p ≢ Some NoMemory → q ≢ Some NoMemory → (p ≡ q) × (more ≡ also_more) × (new ≡ last)
+one-hearing g slot e d us vs old other new last more also_more p q is names same by_all by_all m n = (refl, refl, same)
+one-hearing g slot e d us vs old other new last more also_more p q is names same by_all (by_one r given rest) m n = absurd (cc)
+one-hearing g slot e d us vs old other new last more also_more p q is names same by_all (refused r answer) m n = absurd (cc)
+one-hearing g slot e d us vs old other new last more also_more p q is names same (by_one r given rest) by_all m n = absurd (cc)
+one-hearing g slot e d us vs old other new last more also_more p q is names same (refused r answer) by_all m n = absurd (cc)
+one-hearing g slot e d us vs old other new last more also_more p q is names same (by_one {u = u} {us = us_left} {now = now} {more = some} r given rest) (by_one {u = v} {us = vs_left} {now = later} {more = also} s also_given also_rest) m n =
+    let first : u ≡ v = cc in
+    let left : us_left ≡ vs_left = cc in
+    let heard : hearing slot u e ≡ hearing slot v d = λ i. hearing slot (first i) (is i) in
+    let there = subst (λ (x : Event). IsGivenOut g x other s later) (sym heard) also_given in
+    let both = one-answered g (hearing slot u e) (Ok r) (Ok s) old other now later same given.0 there.0 (given-had r) (given-had s) in
+    let outs : r.outs.items ≡ s.outs.items = one-ok r.outs.items s.outs.items both.0 in
+    let behind = one-hearing g slot e d us_left vs_left now later new last some also p q is left both.1 rest also_rest m n in
+    (behind.0, (λ i. same-emitted g (hearing slot u e) r s old other same outs given.1 there.1 i ++ behind.1 i), behind.2)
+one-hearing g slot e d us vs old other new last more also_more p q is names same (by_one {u = u} {now = now} r given rest) (refused {u = v} s answer) m n =
+    let first : u ≡ v = cc in
+    let heard : hearing slot u e ≡ hearing slot v d = λ i. hearing slot (first i) (is i) in
+    let both = one-answered g (hearing slot u e) (Ok r) (Err s) old other now last same given.0 (subst (λ (x : Event). IsAnswered other g x (Err s) last) (sym heard) answer) (given-had r) (refusal-had s n) in
+    absurd (ok-or-err r.outs.items s both.0)
+one-hearing g slot e d us vs old other new last more also_more p q is names same (refused {u = u} r answer) (by_one {u = v} {now = later} s given rest) m n =
+    let first : u ≡ v = cc in
+    let heard : hearing slot u e ≡ hearing slot v d = λ i. hearing slot (first i) (is i) in
+    let both = one-answered g (hearing slot u e) (Err r) (Ok s) old other new later same answer (subst (λ (x : Event). IsAnswered other g x (Ok s) later) (sym heard) given.0) (refusal-had r m) (given-had s) in
+    absurd (ok-or-err s.outs.items r (sym both.0))
+one-hearing g slot e d us vs old other new last more also_more p q is names same (refused {u = u} r answer) (refused {u = v} s also) m n =
+    let first : u ≡ v = cc in
+    let heard : hearing slot u e ≡ hearing slot v d = λ i. hearing slot (first i) (is i) in
+    let both = one-answered g (hearing slot u e) (Err r) (Err s) old other new last same answer (subst (λ (x : Event). IsAnswered other g x (Err s) last) (sym heard) also) (refusal-had r m) (refusal-had s n) in
+    (ap (λ x. Some x) (one-err r s both.0), refl, both.1)
 
 none-is-no-memory : ◌≡◌ {A = Option Refusal} None (Some NoMemory) → ⊥
 none-is-no-memory h = none-some NoMemory h
 
--- a refusal was not that memory is short
-refusal-had : (r : Refusal) → ◌≢◌ {A = Option Refusal} (Some r) (Some NoMemory) → ◌≢◌ {A = Result (Vec Out Global) Refusal} (Err r) (Err NoMemory)
-refusal-had r had h = had (ap (λ x. Some x) (one-err r NoMemory h))
-
-outs-had : (outs : Vec Out Global) → ◌≢◌ {A = Result (Vec Out Global) Refusal} (Ok outs) (Err NoMemory)
-outs-had outs h = ok-or-err outs NoMemory h
-
--- nodes that hear the same where networks are alike
-pub one-hearing : (g slot : ℕ) (e : Emission) (us : List ℕ) (old other new last : Hosting) (p q : Option Refusal) → AreRunsAlike old other → IsHeardBy g slot e us old p new
-    → IsHeardBy g slot e us other q last → p ≢ Some NoMemory → q ≢ Some NoMemory → (p ≡ q) × AreRunsAlike new last
-one-hearing g slot e us old other new last p q a by_all by_all m n = (refl, a)
-one-hearing g slot e us old other new last p q a (by_one {u = u} outs answer rest) (by_one others_outs also more) m n =
-    let now = one-applied g (hearing slot u e) (Ok outs) (Ok others_outs) old other _ _ a answer also (outs-had outs) (outs-had others_outs) in
-    one-hearing g slot e _ _ _ new last p q now.1 rest more m n
-one-hearing g slot e us old other new last p q a (by_one {u = u} outs answer rest) (refused r also) m n =
-    let now = one-applied g (hearing slot u e) (Ok outs) (Err r) old other _ last a answer also (outs-had outs) (refusal-had r n) in
-    absurd (ok-or-err outs.items r now.0)
-one-hearing g slot e us old other new last p q a (refused {u = u} r answer) (by_one outs also more) m n =
-    let now = one-applied g (hearing slot u e) (Err r) (Ok outs) old other new _ a answer also (refusal-had r m) (outs-had outs) in
-    absurd (ok-or-err outs.items r (sym now.0))
-one-hearing g slot e us old other new last p q a (refused {u = u} r answer) (refused s also) m n =
-    let now = one-applied g (hearing slot u e) (Err r) (Err s) old other new last a answer also (refusal-had r m) (refusal-had s n) in
-    (ap (λ x. Some x) (one-err r s now.0), now.1)
-
 -- ---- a line that settles
 
--- the emission that waits first is handed on
-one-handed : (g slot : ℕ) (names : List ℕ) (e d : Emission) (old other new last : Hosting) (p q : Option Refusal) → AreRunsAlike old other → waiting old.followed g slot ≡ Some e
-    → waiting other.followed g slot ≡ Some d → IsHanded g slot e names old p new → IsHanded g slot d names other q last → p ≢ Some NoMemory → q ≢ Some NoMemory → (p ≡ q) × AreRunsAlike new last
-one-handed g slot names e d old other new last p q a h k heard also m n = (hearings.0, subst (λ (x : Hosting × Hosting). AreRunsAlike x.0 x.1) (λ i. (sym heard.2 i, sym last-is i)) (over-alike g slot p heard.0 also.0 hearings.1))
-  where
-    same : e ≡ d
-    same = one-some (waiting old.followed g slot) (waiting other.followed g slot) e d (waits-alike g slot old.followed other.followed a.followed) h k
-
-    hearings : (p ≡ q) × AreRunsAlike heard.0 also.0
-    hearings =
-        one-hearing g slot e (others e names) old other heard.0 also.0 p q a heard.1
-        (subst (λ (x : Emission). IsHeardBy g slot x (others x names) other q also.0) (sym same) also.1) m n
-
-    last-is : last ≡ handed_over g slot p also.0
-    last-is = also.2 ∙ ap (λ x. handed_over g slot x also.0) (sym hearings.0)
-
-pub one-handing : (g slot : ℕ) (names : List ℕ) (old other new last : Hosting) (p q : Option Refusal) → AreRunsAlike old other → AreHandedOn g slot names old p new
-    → AreHandedOn g slot names other q last → p ≢ Some NoMemory → q ≢ Some NoMemory → (p ≡ q) × AreRunsAlike new last
-one-handing g slot names old other new last p q a (none_waits h) (none_waits k) m n = (refl, a)
-one-handing g slot names old other new last p q a (none_waits h) (one_waits e k heard more) m n = absurd (none-or-some (waiting old.followed g slot) e h (waits-alike g slot old.followed other.followed a.followed ∙ k))
-one-handing g slot names old other new last p q a (none_waits h) (cut_short e r k heard) m n = absurd (none-or-some (waiting old.followed g slot) e h (waits-alike g slot old.followed other.followed a.followed ∙ k))
-one-handing g slot names old other new last p q a (one_waits e h heard rest) (none_waits k) m n = absurd (some-or-none _ _ e (waits-alike g slot old.followed other.followed a.followed) h k)
-one-handing g slot names old other new last p q a (cut_short e r h heard) (none_waits k) m n = absurd (some-or-none _ _ e (waits-alike g slot old.followed other.followed a.followed) h k)
-one-handing g slot names old other new last p q a (one_waits {now = now} e h heard rest) (one_waits {now = later} d k also more) m n =
-    let both = one-handed g slot names e d old other now later None None a h k heard also none-is-no-memory none-is-no-memory in
-    one-handing g slot names now later new last p q both.1 rest more m n
-one-handing g slot names old other new last p q a (one_waits {now = now} e h heard rest) (cut_short d r k also) m n =
-    let both = one-handed g slot names e d old other now last None (Some r) a h k heard also none-is-no-memory n in
+one-handing : (g slot : ℕ) (names : List ℕ) (old other new last : List Log) (es ds left also_left : List Emission) (p q : Option Refusal) → old ≡ other → es ≡ ds → AreHandedOn g slot names old es p left new
+    → AreHandedOn g slot names other ds q also_left last → p ≢ Some NoMemory → q ≢ Some NoMemory → (p ≡ q) × (left ≡ also_left) × (new ≡ last)
+one-handing g slot names old other new last es ds left also_left p q same wait none_waits none_waits m n = (refl, refl, same)
+one-handing g slot names old other new last es ds left also_left p q same wait none_waits (one_waits heard rest) m n = absurd (cc)
+one-handing g slot names old other new last es ds left also_left p q same wait none_waits (cut_short r heard) m n = absurd (cc)
+one-handing g slot names old other new last es ds left also_left p q same wait (one_waits heard rest) none_waits m n = absurd (cc)
+one-handing g slot names old other new last es ds left also_left p q same wait (cut_short r heard) none_waits m n = absurd (cc)
+one-handing g slot names old other new last es ds left also_left p q same wait (one_waits {now = now} {e = e} {es = behind} {more = more} heard rest) (one_waits {now = later} {e = d} {es = also_behind} {more = also_more} also also_rest) m n =
+    let first : e ≡ d = cc in
+    let others_wait : behind ≡ also_behind = cc in
+    let both = one-hearing g slot e d (others e names) (others d names) old other now later more also_more None None first (λ i. others (first i) names) same heard also none-is-no-memory none-is-no-memory in
+    one-handing g slot names now later new last (behind ++ more) (also_behind ++ also_more) left also_left p q both.2 (λ i. others_wait i ++ both.1 i) rest also_rest m n
+one-handing g slot names old other new last es ds left also_left p q same wait (one_waits {now = now} {e = e} {more = more} heard rest) (cut_short {e = d} {more = also_more} r also) m n =
+    let first : e ≡ d = cc in
+    let both = one-hearing g slot e d (others e names) (others d names) old other now last more also_more None (Some r) first (λ i. others (first i) names) same heard also none-is-no-memory n in
     absurd (none-some r both.0)
-one-handing g slot names old other new last p q a (cut_short e r h heard) (one_waits {now = later} d k also more) m n =
-    let both = one-handed g slot names e d old other new later (Some r) None a h k heard also m none-is-no-memory in
+one-handing g slot names old other new last es ds left also_left p q same wait (cut_short {e = e} {more = more} r heard) (one_waits {now = later} {e = d} {more = also_more} also also_rest) m n =
+    let first : e ≡ d = cc in
+    let both = one-hearing g slot e d (others e names) (others d names) old other new later more also_more (Some r) None first (λ i. others (first i) names) same heard also m none-is-no-memory in
     absurd (none-some r (sym both.0))
-one-handing g slot names old other new last p q a (cut_short e r h heard) (cut_short d s k also) m n =
-    one-handed g slot names e d old other new last (Some r) (Some s) a h k heard also m n
+one-handing g slot names old other new last es ds left also_left p q same wait (cut_short {e = e} {es = behind} {more = more} r heard) (cut_short {e = d} {es = also_behind} {more = also_more} s also) m n =
+    let first : e ≡ d = cc in
+    let both = one-hearing g slot e d (others e names) (others d names) old other new last more also_more (Some r) (Some s) first (λ i. others (first i) names) same heard also m n in
+    (both.0, (λ i. wait i ++ both.1 i), both.2)
 
-one-settling-at : (g slot : ℕ) (names : Option (List ℕ)) (o : Option OpenSlot) (old other new last : Hosting) (p q : Option Refusal) → AreRunsAlike old other
-    → HasSettledAt g slot names o old p new → HasSettledAt g slot names o other q last → p ≢ Some NoMemory → q ≢ Some NoMemory → AreRunsAlike new last
-one-settling-at g slot None o old other new last p q a h k m n = subst (λ (x : Hosting × Hosting). AreRunsAlike x.0 x.1) (λ i. (sym h.0 i, sym k.0 i)) a
-one-settling-at g slot (Some names) None old other new last p q a h k m n = subst (λ (x : Hosting × Hosting). AreRunsAlike x.0 x.1) (λ i. (sym h.0 i, sym k.0 i)) a
-one-settling-at g slot (Some names) (Some o) old other new last p q a h k m n = (one-handing g slot names old other new last p q a h k m n).1
+-- what waits at one slot is changed in the same way
+put-alike : (g i : ℕ) (es ds : List Emission) (old other new last : Unheard) → es ≡ ds → AreUnheardAlike old other → WaitThere g i es old new → WaitThere g i ds other last → AreUnheardAlike new last
+put-alike g i es ds old other new last is same h k j n = h j n ∙ ((λ z. if (g == j) && (i == n) then is z else same j n z) ∙ sym (k j n))
+
+as-before : (old other new last : Hosting) → new ≡ old → last ≡ other → AreRunsAlike old other → AreRunsAlike new last
+as-before old other new last h k a = subst (λ (x : Hosting × Hosting). AreRunsAlike x.0 x.1) (λ i. (sym h i, sym k i)) a
+
+one-settling-at : (b : Bool) (g slot : ℕ) (names : List ℕ) (old other new last : Hosting) (p q : Option Refusal) → AreRunsAlike old other
+    → HasSettledAt b g slot names old p new → HasSettledAt b g slot names other q last → p ≢ Some NoMemory → q ≢ Some NoMemory → AreRunsAlike new last
+one-settling-at false g slot names old other new last p q a h k m n = as-before old other new last h.0 k.0 a
+one-settling-at true g slot names old other new last p q a h k m n =
+    let both = one-handing g slot names old.logs other.logs new.logs last.logs (unheard_at old.unheard g slot) (unheard_at other.unheard g slot) h.0 k.0 p q a.logs (a.unheard g slot) h.1 k.1 m n in
+    record {
+      waiting = h.3.0 ∙ (a.waiting ∙ sym k.3.0);
+      named = subst (λ (x : Named × Named). AreNamedAlike x.0 x.1) (λ i. (sym h.3.1 i, sym k.3.1 i)) a.named;
+      unheard = put-alike g slot h.0 k.0 old.unheard other.unheard new.unheard last.unheard both.1 a.unheard h.2 k.2;
+      logs = both.2;
+    }
 
 one-settling : (g slot : ℕ) (old other new last : Hosting) (p q : Option Refusal) → AreRunsAlike old other → HasSettled g slot old p new → HasSettled g slot other q last
     → p ≢ Some NoMemory → q ≢ Some NoMemory → AreRunsAlike new last
 one-settling g slot old other new last p q a h k m n =
-    one-settling-at g slot (names_at old.followed g) (open_slot old.followed g slot) old other new last p q a h
-    (subst (λ (x : Option (List ℕ) × Option OpenSlot). HasSettledAt g slot x.0 x.1 other q last)
-    (λ i. (sym (names-alike g old.followed other.followed a.followed) i, sym (opens-alike g slot old.followed other.followed a.followed) i)) k) m n
+    go (log_at old.logs g) h (subst (λ (ls : List Log). HasSettledIn (log_at ls g) g slot other q last) (sym a.logs) k)
+  where
+    go : (l : Option Log) → HasSettledIn l g slot old p new → HasSettledIn l g slot other q last → AreRunsAlike new last
+    go None h k = as-before old other new last h.0 k.0 a
+    go (Some l) h k = one-settling-at (is_open (state_of l.config l.entries) slot) g slot (names_of l.config.nodes) old other new last p q a h k m n
 
 -- ---- a served network
 
-one-telling : (g slot : ℕ) (e : Emission) (us : List ℕ) (old other new last : Hosting) → AreRunsAlike old other → HaveOthersHeard g slot e us old new → HaveOthersHeard g slot e us other last → AreRunsAlike new last
-one-telling g slot e us old other new last a all_heard all_heard = a
-one-telling g slot e us old other new last a (one_heard {u = u} {now = now} ended heard memory rest) (one_heard {now = later} finished also had more) =
-    let both = one-hearing g slot e (others e (u ∷ [])) old other now later ended finished a heard also memory had in
-    one-telling g slot e _ now later new last both.1 rest more
+one-telling : (g slot : ℕ) (e d : Emission) (us vs : List ℕ) (old other new last : List Log) (more also_more : List Emission) → e ≡ d → us ≡ vs → old ≡ other → HaveOthersHeard g slot e us old more new → HaveOthersHeard g slot d vs other also_more last
+    → (more ≡ also_more) × (new ≡ last)
+one-telling g slot e d us vs old other new last more also_more is names same all_heard all_heard = (refl, same)
+one-telling g slot e d us vs old other new last more also_more is names same all_heard (one_heard ended heard memory rest) = absurd (cc)
+one-telling g slot e d us vs old other new last more also_more is names same (one_heard ended heard memory rest) all_heard = absurd (cc)
+one-telling g slot e d us vs old other new last more also_more is names same (one_heard {u = u} {us = us_left} {now = now} {some = some} {more = later_more} ended heard memory rest) (one_heard {u = v} {us = vs_left} {now = later} {some = also} {more = also_later} finished also_heard had also_rest) =
+    let first : u ≡ v = cc in
+    let left : us_left ≡ vs_left = cc in
+    let both = one-hearing g slot e d (others e (u ∷ [])) (others d (v ∷ [])) old other now later some also ended finished is (λ i. others (is i) (first i ∷ [])) same heard also_heard memory had in
+    let behind = one-telling g slot e d us_left vs_left now later new last later_more also_later is left both.2 rest also_rest in
+    ((λ i. both.1 i ++ behind.0 i), behind.1)
 
-one-all-heard : (g slot : ℕ) (names : List ℕ) (old other new last : Hosting) → AreRunsAlike old other → AllHeard g slot names old new → AllHeard g slot names other last → AreRunsAlike new last
-one-all-heard g slot names old other new last a (AllHeard.none_waits h) (AllHeard.none_waits k) = a
-one-all-heard g slot names old other new last a (AllHeard.none_waits h) (AllHeard.one_waits e k told more) =
-    absurd (none-or-some (waiting old.followed g slot) e h (waits-alike g slot old.followed other.followed a.followed ∙ k))
-one-all-heard g slot names old other new last a (AllHeard.one_waits e h told rest) (AllHeard.none_waits k) =
-    absurd (some-or-none _ _ e (waits-alike g slot old.followed other.followed a.followed) h k)
-one-all-heard g slot names old other new last a (AllHeard.one_waits {now = now} e h told rest) (AllHeard.one_waits {now = later} d k also more) =
-    let same : e ≡ d = one-some (waiting old.followed g slot) (waiting other.followed g slot) e d (waits-alike g slot old.followed other.followed a.followed) h k in
-    let both : AreRunsAlike now later = one-telling g slot e names old other now later a told (subst (λ (x : Emission). HaveOthersHeard g slot x names other later) (sym same) also) in
-    one-all-heard g slot names _ _ new last (over-alike g slot None now later both) rest more
+one-all-heard : (g slot : ℕ) (names : List ℕ) (old other new last : List Log) (es ds : List Emission) → old ≡ other → es ≡ ds → AllHeard g slot names old es new → AllHeard g slot names other ds last → new ≡ last
+one-all-heard g slot names old other new last es ds same wait AllHeard.none_waits AllHeard.none_waits = same
+one-all-heard g slot names old other new last es ds same wait AllHeard.none_waits (AllHeard.one_waits told more) = absurd (cc)
+one-all-heard g slot names old other new last es ds same wait (AllHeard.one_waits told rest) AllHeard.none_waits = absurd (cc)
+one-all-heard g slot names old other new last es ds same wait (AllHeard.one_waits {now = now} {e = e} {es = behind} {more = more} told rest) (AllHeard.one_waits {now = later} {e = d} {es = also_behind} {more = also_more} also also_rest) =
+    let first : e ≡ d = cc in
+    let others_wait : behind ≡ also_behind = cc in
+    let both = one-telling g slot e d names names old other now later more also_more first refl same told also in
+    one-all-heard g slot names now later new last (behind ++ more) (also_behind ++ also_more) both.1 (λ i. others_wait i ++ both.0 i) rest also_rest
 
-one-heard-by-others : (g slot : ℕ) (names : Option (List ℕ)) (old other new last : Hosting) → AreRunsAlike old other → IsHeardByOthers g slot names old new → IsHeardByOthers g slot names other last
-    → AreRunsAlike new last
-one-heard-by-others g slot None old other new last a h k = subst (λ (x : Hosting × Hosting). AreRunsAlike x.0 x.1) (λ i. (sym h i, sym k i)) a
-one-heard-by-others g slot (Some names) old other new last a h k = one-all-heard g slot names old other new last a h k
+one-heard-at : (g : ℕ) (o o_too : Option Sent) (r s : Given) (old other new last : List Log) → o ≡ o_too → named_emissions r ≡ named_emissions s → old ≡ other → IsHeardAt g o r old new → IsHeardAt g o_too s other last → new ≡ last
+one-heard-at g o o_too r s old other new last first emitted same h k = at o h (subst (λ x. IsHeardAt g x s other last) (sym first) k)
+  where
+    by : (x : Sent) (names : Option (List ℕ)) → IsHeardByOthers g x.slot names old (named_emissions r) new → IsHeardByOthers g x.slot names other (named_emissions s) last → new ≡ last
+    by x None h k = h ∙ (same ∙ sym k)
+    by x (Some names) h k = one-all-heard g x.slot names old other new last (named_emissions r) (named_emissions s) same emitted h k
 
-one-heard-at : (g : ℕ) (e : Option Sent) (old other new last : Hosting) → AreRunsAlike old other → IsHeardAt g e old new → IsHeardAt g e other last → AreRunsAlike new last
-one-heard-at g None old other new last a h k = subst (λ (x : Hosting × Hosting). AreRunsAlike x.0 x.1) (λ i. (sym h i, sym k i)) a
-one-heard-at g (Some e) old other new last a h k =
-    one-heard-by-others g e.slot (names_at old.followed g) old other new last a h
-    (subst (λ (x : Option (List ℕ)). IsHeardByOthers g e.slot x other last) (sym (names-alike g old.followed other.followed a.followed)) k)
+    at : (o : Option Sent) → IsHeardAt g o r old new → IsHeardAt g o s other last → new ≡ last
+    at None h k = h ∙ (same ∙ sym k)
+    at (Some x) h k = by x (hosted_names_in (log_at old g)) h (subst (λ (ls : List Log). IsHeardByOthers g x.slot (hosted_names_in (log_at ls g)) other (named_emissions s) last) (sym same) k)
 
-one-heard-of : (b : Bool) (g : ℕ) (r : Result (List Out) Refusal) (old other new last : Hosting) → AreRunsAlike old other → IsHeardOf b g r old new → IsHeardOf b g r other last → AreRunsAlike new last
-one-heard-of false g r old other new last a h k = subst (λ (x : Hosting × Hosting). AreRunsAlike x.0 x.1) (λ i. (sym h i, sym k i)) a
-one-heard-of true g (Err r) old other new last a h k = subst (λ (x : Hosting × Hosting). AreRunsAlike x.0 x.1) (λ i. (sym h i, sym k i)) a
-one-heard-of true g (Ok outs) old other new last a h k = one-heard-at g (first_emitted outs) old other new last a h k
+-- ---- an event
 
-one-serving : (g : ℕ) (e : Event) (r s : Result (Vec Out Global) Refusal) (old other new last : Hosting) → AreRunsAlike old other → IsEventServed g e r old new → IsEventServed g e s other last
+one-noting : (c : Option ℕ) (g : ℕ) (r s : Given) (old other new last : Unheard) → r.outs.items ≡ s.outs.items → named_emissions r ≡ named_emissions s → AreUnheardAlike old other → WaitsAfter c g r old new → WaitsAfter c g s other last
+    → AreUnheardAlike new last
+one-noting (Some i) g r s old other new last outs emitted a h k = put-alike g i [] [] old other new last refl a h k
+one-noting None g r s old other new last outs emitted a h k = go (first_emitted r.outs.items) h (subst (λ o. WaitsBehind o g s other last) (sym (ap first_emitted outs)) k)
+  where
+    go : (o : Option Sent) → WaitsBehind o g r old new → WaitsBehind o g s other last → AreUnheardAlike new last
+    go None h k = λ j n. ap (λ u. unheard_at u j n) h ∙ (a j n ∙ sym (ap (λ u. unheard_at u j n) k))
+    go (Some x) h k = put-alike g x.slot _ _ old other new last (λ i. a g x.slot i ++ emitted i) a h k
+
+one-serving : (g : ℕ) (e : Event) (r s : Result Given Refusal) (old other new last : Hosting) → AreRunsAlike old other → IsEventServed g e r old new → IsEventServed g e s other last
     → r ≢ Err NoMemory → s ≢ Err NoMemory → AreRunsAlike new last
 one-serving g e r s old other new last a h k m n =
-    let now = one-applied g e r s old other h.0 k.0 a h.1 k.1 m n in
-    one-heard-of (is_in old.named.served g) g (items_of r) h.0 k.0 new last now.1 h.2
-    (subst (λ (x : Bool × Result (List Out) Refusal). IsHeardOf x.0 g x.1 k.0 last) (λ i. (sym (a.named.served g) i, sym now.0 i)) k.2)
+    let after = all (is_in old.named.served g) r s both.0 h.2 (subst (λ (b : Bool). AnswerIsHeardOf b g e s k.0 other last) (sym (a.named.served g)) k.2) in
+    record {
+      waiting = h.3.0 ∙ (a.waiting ∙ sym k.3.0);
+      named = subst (λ (x : Named × Named). AreNamedAlike x.0 x.1) (λ i. (sym h.3.1 i, sym k.3.1 i)) a.named;
+      unheard = after.1;
+      logs = after.0;
+    }
+  where
+    both : (items_of r ≡ items_of s) × (h.0 ≡ k.0)
+    both = one-answered g e r s old.logs other.logs h.0 k.0 a.logs h.1 k.1 m n
 
-one-delivery : (g : ℕ) (bytes : Bytes) (us : List ℕ) (old other new last : Hosting) (rs ss : List (Result (Vec Out Global) Refusal)) → AreRunsAlike old other
+    all : (b : Bool) (x y : Result Given Refusal) → items_of x ≡ items_of y → AnswerIsHeardOf b g e x h.0 old new → AnswerIsHeardOf b g e y k.0 other last → (new.logs ≡ last.logs) × AreUnheardAlike new.unheard last.unheard
+    all b (Ok x) (Err y) is heard also = absurd (ok-or-err x.outs.items y is)
+    all b (Err x) (Ok y) is heard also = absurd (ok-or-err y.outs.items x (sym is))
+    all b (Err x) (Err y) is heard also = (heard.0 ∙ (both.1 ∙ sym also.0), λ j i. ap (λ u. unheard_at u j i) heard.1 ∙ (a.unheard j i ∙ sym (ap (λ u. unheard_at u j i) also.1)))
+    all true (Ok x) (Ok y) is heard also =
+        let outs = one-ok x.outs.items y.outs.items is in
+        let emitted = same-emitted g e x y old.logs other.logs a.logs outs heard.0 also.0 in (
+          one-heard-at g (first_emitted x.outs.items) (first_emitted y.outs.items) x y h.0 k.0 new.logs last.logs (ap first_emitted outs) emitted both.1 heard.1.0 also.1.0,
+          λ j i. ap (λ u. unheard_at u j i) heard.1.1 ∙ (a.unheard j i ∙ sym (ap (λ u. unheard_at u j i) also.1.1)),
+        )
+    all false (Ok x) (Ok y) is heard also =
+        let outs = one-ok x.outs.items y.outs.items is in
+        let emitted = same-emitted g e x y old.logs other.logs a.logs outs heard.0 also.0 in
+        (heard.1.0 ∙ (both.1 ∙ sym also.1.0), one-noting (slot_closed_by e) g x y old.unheard other.unheard new.unheard last.unheard outs emitted a.unheard heard.1.1 also.1.1)
+
+one-delivery : (g : ℕ) (bytes : Bytes) (us : List ℕ) (old other new last : Hosting) (rs ss : List (Result Given Refusal)) → AreRunsAlike old other
     → AreDelivered g bytes us old rs new → AreDelivered g bytes us other ss last → All (λ r. r ≢ Err NoMemory) rs → All (λ r. r ≢ Err NoMemory) ss → AreRunsAlike new last
 one-delivery g bytes us old other new last rs ss a none_left none_left m n = a
 one-delivery g bytes us old other new last rs ss a (next_node {u = u} {now = now} {rs = others_rs} r one rest) (next_node {now = later} {rs = others_ss} s also more) m n =
-    let had : Result (Vec Out Global) Refusal → Type 0 = λ x. x ≢ Err NoMemory in
+    let had : Result Given Refusal → Type 0 = λ x. x ≢ Err NoMemory in
     let both = one-serving g (event.Deliver u bytes) r s old other now later a one also (All-head had r others_rs m) (All-head had s others_ss n) in
     one-delivery g bytes _ now later new last others_rs others_ss both rest more (All-tail had r others_rs m) (All-tail had s others_ss n)
 
-one-delivery-to : (g : ℕ) (bytes : Bytes) (names : Option (List ℕ)) (old other new last : Hosting) (rs ss : List (Result (Vec Out Global) Refusal)) → AreRunsAlike old other
+one-delivery-to : (g : ℕ) (bytes : Bytes) (names : Option (List ℕ)) (old other new last : Hosting) (rs ss : List (Result Given Refusal)) → AreRunsAlike old other
     → AreDeliveredTo g bytes names old rs new → AreDeliveredTo g bytes names other ss last → All (λ r. r ≢ Err NoMemory) rs → All (λ r. r ≢ Err NoMemory) ss → AreRunsAlike new last
-one-delivery-to g bytes None old other new last rs ss a h k m n = subst (λ (x : Hosting × Hosting). AreRunsAlike x.0 x.1) (λ i. (sym h.0 i, sym k.0 i)) a
+one-delivery-to g bytes None old other new last rs ss a h k m n = as-before old other new last h.0 k.0 a
 one-delivery-to g bytes (Some names) old other new last rs ss a h k m n = one-delivery g bytes names old other new last rs ss a h k m n
 
-one-delivery-to-all : (g : ℕ) (bytes : Bytes) (old other new last : Hosting) (rs ss : List (Result (Vec Out Global) Refusal)) → AreRunsAlike old other
+one-delivery-to-all : (g : ℕ) (bytes : Bytes) (old other new last : Hosting) (rs ss : List (Result Given Refusal)) → AreRunsAlike old other
     → AreAllDelivered g bytes old rs new → AreAllDelivered g bytes other ss last → All (λ r. r ≢ Err NoMemory) rs → All (λ r. r ≢ Err NoMemory) ss → AreRunsAlike new last
 one-delivery-to-all g bytes old other new last rs ss a h k m n =
-    one-delivery-to g bytes (names_at old.followed g) old other new last rs ss a h
-    (subst (λ (x : Option (List ℕ)). AreDeliveredTo g bytes x other ss last) (sym (names-alike g old.followed other.followed a.followed)) k) m n
+    one-delivery-to g bytes (hosted_names_in (log_at old.logs g)) old other new last rs ss a h
+    (subst (λ (ls : List Log). AreDeliveredTo g bytes (hosted_names_in (log_at ls g)) other ss last) (sym a.logs) k) m n
 
 one-drop : (b c : Bool) (g : ℕ) (old other new last : Hosting) (r s : Result (List Out) Refusal) → b ≡ c → AreRunsAlike old other → IsDropAnswered b g old r new → IsDropAnswered c g other s last → AreRunsAlike new last
 one-drop b c g old other new last r s same a h k = go b h (subst (λ (x : Bool). IsDropAnswered x g other s last) (sym same) k)
   where
     go : (x : Bool) → IsDropAnswered x g old r new → IsDropAnswered x g other s last → AreRunsAlike new last
-    go false h k = subst (λ (x : Hosting × Hosting). AreRunsAlike x.0 x.1) (λ i. (sym h.1 i, sym k.1 i)) a
+    go false h k = as-before old other new last h.1 k.1 a
     go true h k = record {
       waiting = h.1.waiting ∙ (ap (λ ws. waiting_without ws g) a.waiting ∙ sym k.1.waiting);
       named = forgotten-alike g old.named other.named new.named last.named a.named h.1.named k.1.named;
-      followed = unfollowed-alike g old.followed other.followed new.followed last.followed a.followed h.1.followed k.1.followed;
+      unheard = λ j i. ap (λ u. unheard_at u j i) h.1.unheard ∙ (a.unheard j i ∙ sym (ap (λ u. unheard_at u j i) k.1.unheard));
       logs = h.1.logs ∙ (ap (λ ls. logs_without g ls) a.logs ∙ sym k.1.logs);
     }
 
@@ -336,26 +346,27 @@ one-drop b c g old other new last r s same a h k = go b h (subst (λ (x : Bool).
 
 one-beginning : (g : ℕ) (old other new last : Hosting) → AreRunsAlike old other → IsNetworkBegun g old new → IsNetworkBegun g other last → AreRunsAlike new last
 one-beginning g old other new last a h k =
-    go (waiting_at old.waiting g) h.0 h.1 (subst (λ (x : Waiting). NetworkIsNamedAt (also_followed logs_joined) g (waiting_at x g) x last.waiting (other.logs, other.followed) (last.logs, last.followed)) (sym a.waiting) k.0)
-    (k.1 ∙ ap (λ ws. named_with g (waiting_at ws g) other.named) (sym a.waiting))
+    go (waiting_at old.waiting g) h.0 h.2 (subst (λ (x : Waiting). NetworkIsNamedAt logs_joined g (waiting_at x g) x last.waiting other.logs last.logs) (sym a.waiting) k.0)
+    (k.2 ∙ ap (λ ws. named_with g (waiting_at ws g) other.named) (sym a.waiting))
   where
-    go : (o : Option Outlined) → NetworkIsNamedAt (also_followed logs_joined) g o old.waiting new.waiting (old.logs, old.followed) (new.logs, new.followed) → new.named ≡ named_with g o old.named
-        → NetworkIsNamedAt (also_followed logs_joined) g o old.waiting last.waiting (other.logs, other.followed) (last.logs, last.followed) → last.named ≡ named_with g o other.named → AreRunsAlike new last
+    wait : AreUnheardAlike new.unheard last.unheard
+    wait j i = ap (λ u. unheard_at u j i) h.1 ∙ (a.unheard j i ∙ sym (ap (λ u. unheard_at u j i) k.1))
+
+    go : (o : Option Outlined) → NetworkIsNamedAt logs_joined g o old.waiting new.waiting old.logs new.logs → new.named ≡ named_with g o old.named
+        → NetworkIsNamedAt logs_joined g o old.waiting last.waiting other.logs last.logs → last.named ≡ named_with g o other.named → AreRunsAlike new last
     go None h n k m = record {
       waiting = h.0 ∙ sym k.0;
       named = subst (λ (x : Named × Named). AreNamedAlike x.0 x.1) (λ i. (sym n i, sym m i)) (named-alike g None old.named other.named a.named);
-      followed = subst (λ (x : Followed × Followed). AreFollowedAlike x.0 x.1) (λ i. ((sym h.1 i).1, (sym k.1 i).1)) a.followed;
-      logs = ap (λ (x : List Log × Followed). x.0) h.1 ∙ (a.logs ∙ sym (ap (λ (x : List Log × Followed). x.0) k.1));
+      unheard = wait;
+      logs = h.1 ∙ (a.logs ∙ sym k.1);
     }
     go (Some d) h n k m =
         let same : h.1.0 ≡ k.1.0 = one-config g d h.1.0 k.1.0 h.1.1 k.1.1 in
-        let joins : (last.logs, last.followed) ≡ also_followed logs_joined h.1.0 (other.logs, other.followed) =
-        k.1.2 ∙ ap (λ c. also_followed logs_joined c (other.logs, other.followed)) (sym same) in
         record {
           waiting = h.0 ∙ sym k.0;
           named = subst (λ (x : Named × Named). AreNamedAlike x.0 x.1) (λ i. (sym n i, sym m i)) (named-alike g (Some d) old.named other.named a.named);
-          followed = subst (λ (x : Followed × Followed). AreFollowedAlike x.0 x.1) (λ i. ((sym h.1.2 i).1, (sym joins i).1)) (joined-alike h.1.0 old.followed other.followed a.followed);
-          logs = ap (λ (x : List Log × Followed). x.0) h.1.2 ∙ (ap (λ ls. logs_joined h.1.0 ls) a.logs ∙ sym (ap (λ (x : List Log × Followed). x.0) joins));
+          unheard = wait;
+          logs = h.1.2 ∙ ((λ i. logs_joined (same i) (a.logs i)) ∙ sym k.1.2);
         }
 
 one-revision : (g : ℕ) (change : Outlined → Outlined) (ws us vs : Waiting) → IsRevised g change ws us → IsRevised g change ws vs → us ≡ vs
@@ -371,7 +382,7 @@ one-declaration : (g : ℕ) (d : Declaration) (m n : Named) (old other new last 
 one-declaration g d m n old other new last a same h k = record {
   waiting = one-preparation g d old.waiting new.waiting last.waiting h.prepared (subst (λ (ws : Waiting). Prepares g d ws last.waiting) (sym a.waiting) k.prepared);
   named = subst (λ (x : Named × Named). AreNamedAlike x.0 x.1) (λ i. (sym h.named_is i, sym k.named_is i)) same;
-  followed = subst (λ (x : Followed × Followed). AreFollowedAlike x.0 x.1) (λ i. (sym h.followed i, sym k.followed i)) a.followed;
+  unheard = λ j i. ap (λ u. unheard_at u j i) h.unheard ∙ (a.unheard j i ∙ sym (ap (λ u. unheard_at u j i) k.unheard));
   logs = h.logs ∙ (a.logs ∙ sym k.logs);
 }
 
@@ -406,7 +417,7 @@ does-roster g old new Declared d e names shares h = record {
   taken = sym taken-too ∙ h.taken;
   prepared = subst (λ (x : List ℕ × Shares). IsRevised g (λ o. with_roster o x.0 x.1) old.waiting new.waiting) (λ i. (names i, shares i)) h.prepared;
   named_is = h.named_is;
-  followed = h.followed;
+  unheard = h.unheard;
   logs = h.logs;
 }
   where

@@ -17,7 +17,7 @@ use Rattle.runs.proofs.OneCut.{one-fields}
 
 -- networks are alike themselves
 pub alike : (h : Hosting) → AreRunsAlike h h
-alike h = record { waiting = refl; named = record { numbers = λ g. refl; running = λ g. refl; served = λ g. refl }; followed = λ g. refl; logs = refl }
+alike h = record { waiting = refl; named = record { numbers = λ g. refl; running = λ g. refl; served = λ g. refl }; unheard = λ g i. refl; logs = refl }
 
 pub lines_do_one_thing : LinesDoOneThing
 lines_do_one_thing one other new last fields p q a (g, outcome, done, silent, memory, trace) (k, also, does, quiet, had, traced) =

@@ -1,44 +1,52 @@
--- What is kept of open slots is what the journals have.
-use Rattle.std.proofs.Common.{◌≡◌, ◌∙◌, ◌==◌, ◌||◌, ◌&&◌, ◌+◌, ◌≤◌, ◌<◌, ℕ, suc, Bool, true, false, not, nat_lt, List, [], ◌∷◌, length, Option, Some, None, Ok, Err, cond, is_some, if◌then◌else◌, refl, sym, ap, ap₂, subst, arith, slice_get}
-use Rattle.std.specs.Prelude.{Result, Vec, option_map}
-use Rattle.std.specs.Global.{Global}
+-- What waits to be handed on is found in the journals.
+use Rattle.std.proofs.Common.{◌≡◌, ◌∙◌, ◌==◌, ◌||◌, ◌&&◌, ◌+◌, ◌≤◌, ◌<◌, ◌++◌, ◌⊎◌, ℕ, suc, Bool, true, false, not, nat_lt, List, [], ◌∷◌, length, Option, Some, None, Ok, Err, cond, is_some, if◌then◌else◌, inl, inr, refl, sym, ap, ap₂, subst, append_assoc, arith}
+use Rattle.std.specs.Prelude.{Result}
 use Rattle.std.proofs.lemmas.Bool.{and_parts, eqb-true, false≢true, lt-ltb, ltb-true, not-true, or_parts}
+use Rattle.types.specs.Statements.{Sent}
 use Rattle.types.specs.declared.event.Event.{Event}
-use Rattle.types.specs.declared.event.Event.TheVariants as event
 use Rattle.types.specs.declared.event.Out.{Out}
 use Rattle.types.specs.declared.event.Refusal.{Refusal}
-use Rattle.types.specs.Trees.{all_differ}
-use Rattle.protocol.specs.Networks.{Step}
-use Rattle.protocol.specs.Counts.{since_opened}
-use Rattle.protocol.specs.Hosts.{Config, Entry}
-use Rattle.protocol.specs.Runs.{net_after, IsRun}
+use Rattle.protocol.specs.Networks.{Budgets, Step, emissions, is_open}
+use Rattle.protocol.specs.Hosts.{Config}
+use Rattle.protocol.specs.Runs.{state_of}
 use Rattle.configuration.specs.Configs.{names_of}
-use Rattle.configuration.proofs.Names.{names-differ}
+use Rattle.network.specs.declared.emission.Emission.{Emission}
 use Rattle.network.specs.Decoding.{step_of}
+use Rattle.network.specs.Marks.{named, slot_and_node_of}
+use Rattle.hoststep.specs.declared.given.Given.{Given}
 use Rattle.hoststep.specs.Logs.{Log, with_entry}
 use Rattle.std.specs.BTreeMap.{is_at}
 use Rattle.std.specs.Map.{remove_entry}
 use Rattle.std.specs.Ordering.{nat_cmp}
-use Rattle.world.specs.Worlds.{IsAnsweredAt, items_of, log_at, logs_set, logs_with, logs_without}
+use Rattle.world.specs.Worlds.{IsAnswered, IsAnsweredAt, items_of, log_at, logs_set, logs_with, logs_without, marks_in_log}
 use Rattle.world.proofs.Histories.{has-number}
 use Rattle.world.proofs.Leaving.{at-left}
-use Rattle.hoststep.proofs.Growing.{run-grows}
 use Rattle.requests.specs.Outlines.{Outlined, IsConfigOf, IsRevised, Waiting, bare_outline, waiting_at, waiting_without}
-use Rattle.runs.specs.Emissions.{OpenSlot, OpenSlots, at_number, changed_at_number, handed_on}
-use Rattle.runs.specs.Followed.{Followed, IsUnfollowed, also_followed, followed_with, turn_of, after_turn, with_handed}
-use Rattle.runs.specs.Hosting.{Hosting, IsEventApplied, IsNetworkBegun, logs_joined, noted_answer, new_hosting}
+use Rattle.runs.specs.Hosting.{Hosting, IsNetworkBegun, logs_joined, new_hosting}
 use Rattle.runs.specs.Joining.{NetworkIsNamedAt}
 use Rattle.requests.specs.Naming.{IsForgotten, Named, is_in, named_with, served_with}
 use Rattle.requests.specs.Preparing.{Prepares}
 use Rattle.runs.specs.Running.{IsDeclaredSo}
-use Rattle.runs.specs.ServedNetworks.{IsTakenBack}
+use Rattle.runs.specs.ServedNetworks.{AnswerIsHeardOf, IsEventServed, IsTakenBack}
+use Rattle.runs.specs.Settling.{AreHandedOn, HasSettled, HasSettledAt, HasSettledIn, IsGivenOut, IsHeardBy, hearing}
+use Rattle.runs.specs.Settling.IsHeardBy.{by_all, by_one, refused}
+use Rattle.runs.specs.Settling.AreHandedOn.{none_waits, one_waits, cut_short}
 use Rattle.requests.specs.Taking.{declared_count, takes}
 use Rattle.requests.specs.declared.request.Declaration.{Declaration}
 use Rattle.requests.specs.declared.request.Declaration.TheVariants.{Net, Node, Roster}
-use Rattle.runs.specs.ByJournals.{AreFollowed, AreSlotsAt, AreSlotsBy, CanAllJoin, FollowsJournals, IsSlotBy, LinesFollowJournals, RunsFollowJournals}
-use Rattle.runs.proofs.NumberedRows.{at-changed, at-inserted, at-removed, at-set, equal-flip, has-inserted, is-at, keys-inserted, length-inserted, length-removed, length-set, once-changed, once-inserted, once-removed, once-set}
-use Rattle.runs.proofs.NetsByEntries.{slots-next, turn_in}
-use Rattle.runs.proofs.Keeping.{EventsKeep, LinesKeep, at-slot, line-keeps, runs-keep, served-keeps, settled-keeps}
+use Rattle.runs.specs.ByJournals.{EmissionsAreFound, EmissionsAreFoundIn, CanAllJoin, FollowsJournals, LinesFollowJournals, RunsFollowJournals, at_number}
+use Rattle.runs.specs.Unheard.{WaitsAfter, WaitThere, WaitsBehind, slot_closed_by, named_emissions, first_emitted, unheard_at}
+use Rattle.runs.proofs.NumberedRows.{at-inserted, at-removed, at-set, equal-flip, equal-self, has-inserted, is-at, keys-inserted, length-inserted, length-removed, length-set, once-inserted, once-removed, once-set}
+use Rattle.runs.proofs.OutsAtPlaces.{first-from}
+use Rattle.runs.proofs.MarkedEmissions.{closes-as, found-both, found-later, found-now, given-there, nothing-given}
+use Rattle.runs.proofs.Keeping.{HearingsKeep, LinesKeep, handed-on-keeps, heard-of-keeps, line-keeps, runs-keep}
+
+is-none : {A : Type 0} (o : Option A) → is_some o ≡ false → o ≡ None
+is-none None h = refl
+is-none (Some x) h = absurd (false≢true (sym h))
+
+equal-itself : (n : ℕ) → (n == n) ≡ true
+equal-itself n = equal-self n
 
 -- ---- journals by number
 
@@ -100,54 +108,114 @@ length-log-with (k ∷ ks) l = go (nat_lt k.config.number l.config.number) (leng
 
 -- ---- an event
 
-turn-is : (e : Event) → turn_of e ≡ turn_in (step_of e)
-turn-is (event.OpenSlot slot) = refl
-turn-is (event.CloseSlot slot) = refl
-turn-is (event.Propose slot u x) = refl
-turn-is (event.Deliver u bytes) = refl
-turn-is (event.Hear slot u from kind k) = refl
-turn-is (event.NominationTimer slot u r) = refl
-turn-is (event.BallotTimer slot u n) = refl
-turn-is (event.Reslice slot u q) = refl
-
--- the network of a number, with another journal and other slots
-module _ (logs now : List Log) (f kept : Followed) (g : ℕ) (l new : Log) (change : OpenSlots → OpenSlots)
-    (at : log_at logs g ≡ Some l) (logs_now : (j : ℕ) → log_at now j ≡ (if g == j then Some new else log_at logs j)) (kept_now : (j : ℕ) → at_number kept j ≡ (if g == j then option_map change (at_number f j) else at_number f j))
-    (goes_on : IsRun l.config l.entries → IsRun new.config new.entries) (changes : (m : OpenSlots) → AreSlotsBy l.config l.entries m → AreSlotsBy new.config new.entries (change m)) where
-  changed-follows : AreFollowed logs f → AreFollowed now kept
-  changed-follows h j = subst (λ (o : Option Log). AreSlotsAt o (at_number kept j)) (sym (logs_now j)) (subst (λ (o : Option OpenSlots). AreSlotsAt (if g == j then Some new else log_at logs j) o) (sym (kept_now j)) (go (g == j) refl))
-    where
-      there : (o : Option OpenSlots) → AreSlotsAt (Some l) o → AreSlotsAt (Some new) (option_map change o)
-      there None s = s
-      there (Some m) s = (goes_on s.0, changes m s.1)
-
-      go : (b : Bool) → (g == j) ≡ b → AreSlotsAt (if b then Some new else log_at logs j) (if b then option_map change (at_number f j) else at_number f j)
-      go true e = there (at_number f j) (subst (λ (o : Option Log). AreSlotsAt o (at_number f j)) (ap (log_at logs) (sym (eqb-true g j e)) ∙ at) (h j))
-      go false e = h j
-
 no-ok : {A B : Type 0} (x : A) (y : B) → ◌≡◌ {A = Result A B} (Ok x) (Err y) → ⊥
 no-ok x y h = cc
 
--- what is kept follows an answer
-answer-follows : (logs now : List Log) (f kept : Followed) (g : ℕ) (e : Event) (r : Result (List Out) Refusal) (o : Option Log) → log_at logs g ≡ o → IsAnsweredAt o logs (step_of e) r now
-    → kept ≡ noted_answer g e r f → AreFollowed logs f → AreFollowed now kept
-answer-follows logs now f kept g e (Ok os) None at h k s = absurd (no-ok _ _ h.0)
-answer-follows logs now f kept g e (Err r) None at h k s = λ j. subst (λ (x : List Log × Followed). AreSlotsAt (log_at x.0 j) (at_number x.1 j)) (λ i. (sym h.1 i, sym k i)) (s j)
-answer-follows logs now f kept g e (Err r) (Some l) at h k s = λ j. subst (λ (x : List Log × Followed). AreSlotsAt (log_at x.0 j) (at_number x.1 j)) (λ i. (sym h.1 i, sym k i)) (s j)
-answer-follows logs now f kept g e (Ok os) (Some l) at h k s =
-    let new : Log = with_entry l (step_of e) os in
+-- an event of the network of a number leaves a slot open: it is of another network, or it does not close the slot
+abbrev IsLeftOpen : ℕ → Event → ℕ → ℕ → Type 0
+IsLeftOpen g e j i = ((g == j) ≡ false) ⊎ ((c : ℕ) → slot_closed_by e ≡ Some c → (c == i) ≡ false)
+
+-- the journals after an event that was applied
+now-at : (logs now : List Log) (g j : ℕ) (l : Log) (e : Step) (os : List Out) → log_at logs g ≡ Some l → now ≡ logs_set (with_entry l e os) logs → log_at now j ≡ (if g == j then Some (with_entry l e os) else log_at logs j)
+now-at logs now g j l e os at is =
+    let new : Log = with_entry l e os in
     let named : new.config.number ≡ g = has-number logs g l at in
     let there : is_some (log_at logs new.config.number) ≡ true = ap (λ n. is_some (log_at logs n)) named ∙ ap (λ (o : Option Log). is_some o) at in
-    changed-follows logs now f kept g l new (after_turn (turn_of e) os) at
-    (λ j. ap (λ (xs : List Log). log_at xs j) h.1 ∙ (log-set logs new j there ∙ ap (λ n. if n == j then Some new else log_at logs j) named))
-    (λ j. ap (λ (xs : Followed). at_number xs j) k ∙ at-changed g (after_turn (turn_of e) os) j f)
-    (λ run. run-grows l.config l.entries (record { event = step_of e; outs = os }) run h.0)
-    (λ m sm. subst (λ t. AreSlotsBy l.config new.entries (after_turn t os m)) (sym (turn-is e)) (slots-next l.config l.entries m (step_of e) os sm h.0.0 h.0.1)) s
+    ap (λ (xs : List Log). log_at xs j) is ∙ (log-set logs new j there ∙ ap (λ n. if n == j then Some new else log_at logs j) named)
 
+-- what is found at a slot that is left open is found after the event
+answer-finds : (logs now : List Log) (g : ℕ) (e : Event) (r : Result (List Out) Refusal) (o : Option Log) → log_at logs g ≡ o → IsAnsweredAt o logs (step_of e) r now → (j i : ℕ) (es : List Emission) → IsLeftOpen g e j i
+    → EmissionsAreFoundIn (log_at logs j) i es → EmissionsAreFoundIn (log_at now j) i es
+answer-finds logs now g e (Ok os) None at h j i es left found = absurd (no-ok _ _ h.0)
+answer-finds logs now g e (Err r) None at h j i es left found = subst (λ (ls : List Log). EmissionsAreFoundIn (log_at ls j) i es) (sym h.1) found
+answer-finds logs now g e (Err r) (Some l) at h j i es left found = subst (λ (ls : List Log). EmissionsAreFoundIn (log_at ls j) i es) (sym h.1) found
+answer-finds logs now g e (Ok os) (Some l) at h j i es left found =
+    subst (λ (o : Option Log). EmissionsAreFoundIn o i es) (sym (now-at logs now g j l (step_of e) os at h.1)) (go (g == j) refl left)
+  where
+    go : (b : Bool) → (g == j) ≡ b → IsLeftOpen g e j i → EmissionsAreFoundIn (if b then Some (with_entry l (step_of e) os) else log_at logs j) i es
+    go false is w = found
+    go true is (inl other) = absurd (false≢true (sym other ∙ is))
+    go true is (inr w) =
+        found-later l (step_of e) os i es h.0 (closes-as e i w) (subst (λ (o : Option Log). EmissionsAreFoundIn o i es) (ap (log_at logs) (sym (eqb-true g j is)) ∙ at) found)
+
+pub answered-finds : (g : ℕ) (e : Event) (r : Result Given Refusal) (logs now : List Log) → IsAnswered logs g e r now → (j i : ℕ) (es : List Emission) → IsLeftOpen g e j i → EmissionsAreFoundIn (log_at logs j) i es → EmissionsAreFoundIn (log_at now j) i es
+answered-finds g e r logs now h = answer-finds logs now g e (items_of r) (log_at logs g) refl h
+
+-- what an event emitted is found after it, at the slot of the event
+given-finds : (g : ℕ) (e : Event) (logs now : List Log) (r : Given) (i u : ℕ) → slot_and_node_of (step_of e) ≡ Some (i, u) → IsGivenOut g e logs r now → EmissionsAreFoundIn (log_at now g) i (named_emissions r)
+given-finds g e logs now r i u place h = go (log_at logs g) refl h.0 h.1
+  where
+    go : (o : Option Log) → log_at logs g ≡ o → IsAnsweredAt o logs (step_of e) (Ok r.outs.items) now → r.marks.items ≡ marks_in_log o (step_of e) → EmissionsAreFoundIn (log_at now g) i (named_emissions r)
+    go None at k marks = absurd (no-ok _ _ k.0)
+    go (Some l) at k marks =
+        subst (λ (o : Option Log). EmissionsAreFoundIn o i (named_emissions r)) (sym (now-at logs now g g l (step_of e) r.outs.items at k.1 ∙ itself (g == g) (equal-itself g)))
+        (subst (λ (ks : List ℕ). EmissionsAreFound (state_of l.config (with_entry l (step_of e) r.outs.items).entries) i (named (emissions r.outs.items) ks)) (sym marks) (found-now l (step_of e) r.outs.items i u k.0 place))
+      where
+        itself : (b : Bool) → b ≡ true → (if b then Some (with_entry l (step_of e) r.outs.items) else log_at logs g) ≡ Some (with_entry l (step_of e) r.outs.items)
+        itself true is = refl
+        itself false is = absurd (false≢true is)
+
+-- what is emitted first is of the slot of the event
+first-place : (g : ℕ) (e : Event) (logs now : List Log) (r : Given) (x : Sent) → IsGivenOut g e logs r now → first_emitted r.outs.items ≡ Some x → (u : ℕ) × (slot_and_node_of (step_of e) ≡ Some (x.slot, u))
+first-place g e logs now r x h first = go (log_at logs g) h.0
+  where
+    nothing-first : (os : List Out) → os ≡ [] → first_emitted os ≡ Some x → ⊥
+    nothing-first os none is = let gone : None ≡ Some x = sym (ap first_emitted none) ∙ is in cc
+
+    by : (l : Log) (o : Option (ℕ × ℕ)) → slot_and_node_of (step_of e) ≡ o → IsAnsweredAt (Some l) logs (step_of e) (Ok r.outs.items) now → (u : ℕ) × (slot_and_node_of (step_of e) ≡ Some (x.slot, u))
+    by l None place k = absurd (nothing-first r.outs.items (nothing-given l (step_of e) r.outs.items k.0 place) first)
+    by l (Some at) place k =
+        let own = first-from at.0 at.1 r.outs.items x (given-there l (step_of e) r.outs.items at.0 at.1 k.0 place) first in
+        (at.1, place ∙ ap (λ n. Some (n, at.1)) (sym own.1))
+
+    go : (o : Option Log) → IsAnsweredAt o logs (step_of e) (Ok r.outs.items) now → (u : ℕ) × (slot_and_node_of (step_of e) ≡ Some (x.slot, u))
+    go None k = absurd (no-ok _ _ k.0)
+    go (Some l) k = by l (slot_and_node_of (step_of e)) refl k
+
+-- ---- hearings
+
+-- a hearing leaves all slots open
+hearing-finds : (j i : ℕ) (es : List Emission) (g slot : ℕ) → HearingsKeep (λ logs. EmissionsAreFoundIn (log_at logs j) i es) g slot
+hearing-finds j i es g slot u e r old new p h = answered-finds g (hearing slot u e) r old new h j i es (inr (λ c is. absurd (none-closed c is))) p
+  where
+    none-closed : (c : ℕ) → None ≡ Some c → ⊥
+    none-closed c h = cc
+
+join-found : (o : Option Log) (i : ℕ) (es ds : List Emission) → EmissionsAreFoundIn o i es → EmissionsAreFoundIn o i ds → EmissionsAreFoundIn o i (es ++ ds)
+join-found None i es ds h k = ap (λ (xs : List Emission). xs ++ ds) h ∙ k
+join-found (Some l) i es ds h k = found-both (state_of l.config l.entries) i es ds h k
+
+none-found : (o : Option Log) (i : ℕ) → EmissionsAreFoundIn o i []
+none-found None i = refl
+none-found (Some l) i = tt
+
+tail-found : (o : Option Log) (i : ℕ) (e : Emission) (es : List Emission) → EmissionsAreFoundIn o i (e ∷ es) → EmissionsAreFoundIn o i es
+tail-found None i e es h = absurd (cc)
+tail-found (Some l) i e es h = h.1
+
+heard-finds : (g slot : ℕ) (e : Emission) (us : List ℕ) (old new : List Log) (more : List Emission) (ended : Option Refusal) (es : List Emission) → IsHeardBy g slot e us old more ended new
+    → EmissionsAreFoundIn (log_at old g) slot es → EmissionsAreFoundIn (log_at new g) slot (es ++ more)
+heard-finds g slot e us old new more ended es by_all found = join-found (log_at old g) slot es [] found (none-found (log_at old g) slot)
+heard-finds g slot e us old new more ended es (by_one {u = u} {now = now} {more = rest} r given later) found =
+    subst (λ (xs : List Emission). EmissionsAreFoundIn (log_at new g) slot xs) (append_assoc es (named_emissions r) rest)
+    (heard-finds g slot e _ now new rest ended (es ++ named_emissions r) later
+    (join-found (log_at now g) slot es (named_emissions r) (hearing-finds g slot es g slot u e (Ok r) old now found given.0) (given-finds g (hearing slot u e) old now r slot u refl given)))
+heard-finds g slot e us old new more ended es (refused {u = u} r answer) found =
+    join-found (log_at new g) slot es [] (hearing-finds g slot es g slot u e (Err r) old new found answer) (none-found (log_at new g) slot)
+
+left-found : (g slot : ℕ) (names : List ℕ) (old new : List Log) (es left : List Emission) (ended : Option Refusal) → AreHandedOn g slot names old es ended left new → EmissionsAreFoundIn (log_at old g) slot es → EmissionsAreFoundIn (log_at new g) slot left
+left-found g slot names old new es left ended none_waits found = found
+left-found g slot names old new es left ended (one_waits {now = now} {e = e} {es = rest} {more = more} h later) found =
+    left-found g slot names now new (rest ++ more) left ended later (heard-finds g slot e _ old now more None rest h (tail-found (log_at old g) slot e rest found))
+left-found g slot names old new es left ended (cut_short {e = e} {es = rest} {more = more} r h) found = heard-finds g slot e _ old new more (Some r) (e ∷ rest) h found
+
+-- ---- an event and who hears of it
+
+-- no network comes or goes while nodes hear
 -- no network comes or goes
-record SameNumbers (logs now : List Log) : Type 0 where
-  there : (j : ℕ) → is_some (log_at now j) ≡ is_some (log_at logs j)
-  count : length now ≡ length logs
+pub record SameNumbers (logs now : List Log) : Type 0 where
+  pub there : (j : ℕ) → is_some (log_at now j) ≡ is_some (log_at logs j)
+  pub count : length now ≡ length logs
 
 same-numbers : (logs now : List Log) → now ≡ logs → SameNumbers logs now
 same-numbers logs now e = record { there = λ j. ap (λ (xs : List Log). is_some (log_at xs j)) e; count = ap (λ (xs : List Log). length xs) e }
@@ -177,31 +245,146 @@ room-as ws us n k logs now w e same h =
     subst (λ (x : Waiting × Named). CanAllJoin x.0 x.1 now) (λ i. (sym w i, sym e i))
     (record { joined = λ g. same.there g ∙ h.joined g; counted = short; apart = h.apart; once = h.once; few = h.few })
 
-pub applied-follows : (g : ℕ) (e : Event) (r : Result (Vec Out Global) Refusal) (old new : Hosting) → FollowsJournals old → IsEventApplied g e r old new → FollowsJournals new
-applied-follows g e r old new s h = record {
-  room = room-as old.waiting new.waiting old.named new.named old.logs new.logs h.2.0 h.2.1 (answer-numbers old.logs new.logs g (step_of e) (items_of r) (log_at old.logs g) refl h.0) s.room;
-  slots = answer-follows old.logs new.logs old.followed new.followed g e (items_of r) (log_at old.logs g) refl h.0 h.1 s.slots;
-}
+another : (us : List ℕ) (g j : ℕ) → is_in us g ≡ false → is_in us j ≡ true → (g == j) ≡ false
+another us g j absent there = go (g == j) refl
+  where
+    go : (b : Bool) → (g == j) ≡ b → b ≡ false
+    go true is = absurd (false≢true (sym absent ∙ (ap (is_in us) (eqb-true g j is) ∙ there)))
+    go false is = refl
+
+pub answered-numbers : (g : ℕ) (e : Event) (r : Result Given Refusal) (logs now : List Log) → IsAnswered logs g e r now → SameNumbers logs now
+answered-numbers g e r logs now h = answer-numbers logs now g (step_of e) (items_of r) (log_at logs g) refl h
+
+hearing-numbers : (logs : List Log) (g slot : ℕ) → HearingsKeep (λ now. SameNumbers logs now) g slot
+hearing-numbers logs g slot u e r old new p h =
+    let more = answered-numbers g (hearing slot u e) r old new h in
+    record { there = λ j. more.there j ∙ p.there j; count = more.count ∙ p.count }
+
+-- what waits at a slot is found, where these emissions wait there now
+waits-found : (logs : List Log) (g i : ℕ) (es : List Emission) (old new : _) → WaitThere g i es old new → EmissionsAreFoundIn (log_at logs g) i es → ((j k : ℕ) → ((g == j) && (i == k)) ≡ false → EmissionsAreFoundIn (log_at logs j) k (unheard_at old j k))
+    → (j k : ℕ) → EmissionsAreFoundIn (log_at logs j) k (unheard_at new j k)
+waits-found logs g i es old new wait here others j k = subst (λ (xs : List Emission). EmissionsAreFoundIn (log_at logs j) k xs) (sym (wait j k)) (go (g == j) refl (i == k) refl)
+  where
+    go : (a : Bool) → (g == j) ≡ a → (b : Bool) → (i == k) ≡ b → EmissionsAreFoundIn (log_at logs j) k (if a && b then es else unheard_at old j k)
+    go true e true f = subst (λ (x : ℕ × ℕ). EmissionsAreFoundIn (log_at logs x.0) x.1 es) (λ z. (eqb-true g j e z, eqb-true i k f z)) here
+    go true e false f = others j k (ap (λ b. b && (i == k)) e ∙ f)
+    go false e b f = others j k (ap (λ c. c && (i == k)) e)
+
+module _ (g : ℕ) (e : Event) (r : Result Given Refusal) (old new : Hosting) (s : FollowsJournals old) (h : IsEventServed g e r old new) where
+  -- what waits at a slot that the event leaves open
+  still : (j k : ℕ) → IsLeftOpen g e j k → EmissionsAreFoundIn (log_at h.0 j) k (unheard_at old.unheard j k)
+  still j k left = answered-finds g e r old.logs h.0 h.1 j k (unheard_at old.unheard j k) left (s.found j k)
+
+  -- what waits where the network is served, or where the event is of another one
+  else_where : (j k : ℕ) → is_in old.named.served g ≡ true → EmissionsAreFoundIn (log_at h.0 j) k (unheard_at old.unheard j k)
+  else_where j k plain = go (g == j) refl
+    where
+      go : (b : Bool) → (g == j) ≡ b → EmissionsAreFoundIn (log_at h.0 j) k (unheard_at old.unheard j k)
+      go false is = still j k (inl is)
+      go true is =
+          subst (λ (xs : List Emission). EmissionsAreFoundIn (log_at h.0 j) k xs) (sym (s.served j k (ap (is_in old.named.served) (sym (eqb-true g j is)) ∙ plain))) (none-found (log_at h.0 j) k)
+
+  refused-closes : (x : Refusal) → r ≡ Err x → (j k : ℕ) → EmissionsAreFoundIn (log_at h.0 j) k (unheard_at old.unheard j k)
+  refused-closes x is j k = subst (λ (ls : List Log). EmissionsAreFoundIn (log_at ls j) k (unheard_at old.unheard j k)) (sym (go (log_at old.logs g) (subst (λ (a : Result Given Refusal). IsAnswered old.logs g e a h.0) is h.1))) (s.found j k)
+    where
+      go : (l : Option Log) → IsAnsweredAt l old.logs (step_of e) (Err x) h.0 → h.0 ≡ old.logs
+      go None k = k.1
+      go (Some l) k = k.1
+
+  noted-found : (x : Given) → IsGivenOut g e old.logs x h.0 → (c : Option ℕ) → slot_closed_by e ≡ c → WaitsAfter c g x old.unheard new.unheard → (j k : ℕ) → EmissionsAreFoundIn (log_at h.0 j) k (unheard_at new.unheard j k)
+  noted-found x given (Some i) closed noted =
+      waits-found h.0 g i [] old.unheard new.unheard noted (none-found (log_at h.0 g) i) (λ j k other. still j k (left j k (g == j) refl other))
+    where
+      left : (j k : ℕ) (b : Bool) → (g == j) ≡ b → ((g == j) && (i == k)) ≡ false → IsLeftOpen g e j k
+      left j k false is other = inl is
+      left j k true is other = inr (λ c same. ap (λ n. n == k) (one c (sym closed ∙ same)) ∙ (sym (ap (λ b. b && (i == k)) is) ∙ other))
+        where
+          one : (c : ℕ) → Some i ≡ Some c → c ≡ i
+          one c h = cc
+  noted-found x given None closed noted = behind (first_emitted x.outs.items) refl noted
+    where
+      open-still : (j k : ℕ) → EmissionsAreFoundIn (log_at h.0 j) k (unheard_at old.unheard j k)
+      open-still j k = still j k (inr (λ c same. absurd (none-closed c (sym closed ∙ same))))
+        where
+          none-closed : (c : ℕ) → None ≡ Some c → ⊥
+          none-closed c h = cc
+
+      behind : (o : Option Sent) → first_emitted x.outs.items ≡ o → WaitsBehind o g x old.unheard new.unheard → (j k : ℕ) → EmissionsAreFoundIn (log_at h.0 j) k (unheard_at new.unheard j k)
+      behind None first w j k = subst (λ u. EmissionsAreFoundIn (log_at h.0 j) k (unheard_at u j k)) (sym w) (open-still j k)
+      behind (Some y) first w j k =
+          let place = first-place g e old.logs h.0 x y given first in
+          waits-found h.0 g y.slot (unheard_at old.unheard g y.slot ++ named_emissions x) old.unheard new.unheard w
+          (join-found (log_at h.0 g) y.slot (unheard_at old.unheard g y.slot) (named_emissions x) (open-still g y.slot) (given-finds g e old.logs h.0 x y.slot place.0 place.1 given))
+          (λ m n other. open-still m n) j k
+
+  -- where all has been heard of
+  all-found : (b : Bool) → is_in old.named.served g ≡ b → (a : Result Given Refusal) → r ≡ a → AnswerIsHeardOf b g e a h.0 old new → (j k : ℕ) → EmissionsAreFoundIn (log_at new.logs j) k (unheard_at new.unheard j k)
+  all-found b plain (Err x) is heard j k =
+      subst (λ (p : List Log × List Emission). EmissionsAreFoundIn (log_at p.0 j) k p.1) (λ i. (sym heard.0 i, unheard_at (sym heard.1 i) j k)) (refused-closes x is j k)
+  all-found true plain (Ok x) is heard j k =
+      subst (λ u. EmissionsAreFoundIn (log_at new.logs j) k (unheard_at u j k)) (sym heard.1.1)
+      (heard-of-keeps (λ logs. EmissionsAreFoundIn (log_at logs j) k (unheard_at old.unheard j k)) g (λ slot. hearing-finds j k (unheard_at old.unheard j k) g slot) (first_emitted x.outs.items) x h.0 new.logs (else_where j k plain) heard.1.0)
+  all-found false plain (Ok x) is heard j k =
+      subst (λ (ls : List Log). EmissionsAreFoundIn (log_at ls j) k (unheard_at new.unheard j k)) (sym heard.1.0)
+      (noted-found x (subst (λ (a : Result Given Refusal). IsAnswered old.logs g e a h.0) is h.1, heard.0) (slot_closed_by e) refl heard.1.1 j k)
+
+  same-after : (b : Bool) (a : Result Given Refusal) → AnswerIsHeardOf b g e a h.0 old new → SameNumbers old.logs new.logs
+  same-after b (Err x) heard = subst (λ (ls : List Log). SameNumbers old.logs ls) (sym heard.0) (answered-numbers g e r old.logs h.0 h.1)
+  same-after true (Ok x) heard =
+      heard-of-keeps (λ logs. SameNumbers old.logs logs) g (λ slot. hearing-numbers old.logs g slot) (first_emitted x.outs.items) x h.0 new.logs (answered-numbers g e r old.logs h.0 h.1) heard.1.0
+  same-after false (Ok x) heard = subst (λ (ls : List Log). SameNumbers old.logs ls) (sym heard.1.0) (answered-numbers g e r old.logs h.0 h.1)
+
+  -- in other networks that are served nothing waits
+  noted-elsewhere : (x : Given) (c : Option ℕ) → WaitsAfter c g x old.unheard new.unheard → (j k : ℕ) → (g == j) ≡ false → unheard_at new.unheard j k ≡ unheard_at old.unheard j k
+  noted-elsewhere x (Some i) noted j k other = noted j k ∙ ap (λ b. if b && (i == k) then [] else unheard_at old.unheard j k) other
+  noted-elsewhere x None noted j k other = behind (first_emitted x.outs.items) noted
+    where
+      behind : (o : Option Sent) → WaitsBehind o g x old.unheard new.unheard → unheard_at new.unheard j k ≡ unheard_at old.unheard j k
+      behind None w = ap (λ u. unheard_at u j k) w
+      behind (Some y) w = w j k ∙ ap (λ b. if b && (y.slot == k) then unheard_at old.unheard g y.slot ++ named_emissions x else unheard_at old.unheard j k) other
+
+  nothing-served : (b : Bool) → is_in old.named.served g ≡ b → (a : Result Given Refusal) → AnswerIsHeardOf b g e a h.0 old new → (j k : ℕ) → is_in old.named.served j ≡ true → unheard_at new.unheard j k ≡ []
+  nothing-served b plain (Err x) heard j k is = ap (λ u. unheard_at u j k) heard.1 ∙ s.served j k is
+  nothing-served true plain (Ok x) heard j k is = ap (λ u. unheard_at u j k) heard.1.1 ∙ s.served j k is
+  nothing-served false plain (Ok x) heard j k is = noted-elsewhere x (slot_closed_by e) heard.1.1 j k (another old.named.served g j plain is) ∙ s.served j k is
+
+  served-follows : FollowsJournals new
+  served-follows = record {
+    room = room-as old.waiting new.waiting old.named new.named old.logs new.logs h.3.0 h.3.1 (same-after (is_in old.named.served g) r h.2) s.room;
+    found = all-found (is_in old.named.served g) refl r refl h.2;
+    served = λ j k is. nothing-served (is_in old.named.served g) refl r h.2 j k (ap (λ (n : Named). is_in n.served j) (sym h.3.1) ∙ is);
+  }
+
+-- ---- a line that settles
+
+settled-follows : (g slot : ℕ) (ended : Option Refusal) (old new : Hosting) → is_in old.named.served g ≡ false → FollowsJournals old → HasSettled g slot old ended new → FollowsJournals new
+settled-follows g slot ended old new plain s h = go (log_at old.logs g) h
+  where
+    all : (names : List ℕ) → HasSettledAt true g slot names old ended new → FollowsJournals new
+    all names (left, handed, wait, declares) = record {
+      room = room-as old.waiting new.waiting old.named new.named old.logs new.logs declares.0 declares.1
+          (handed-on-keeps (λ logs. SameNumbers old.logs logs) g slot (hearing-numbers old.logs g slot) names old.logs new.logs (unheard_at old.unheard g slot) left ended (same-numbers old.logs old.logs refl) handed) s.room;
+      found = waits-found new.logs g slot left old.unheard new.unheard wait (left-found g slot names old.logs new.logs (unheard_at old.unheard g slot) left ended handed (s.found g slot))
+          (λ j k other. handed-on-keeps (λ logs. EmissionsAreFoundIn (log_at logs j) k (unheard_at old.unheard j k)) g slot (hearing-finds j k (unheard_at old.unheard j k) g slot) names old.logs new.logs (unheard_at old.unheard g slot) left ended (s.found j k) handed);
+      served = λ j k is.
+          let before = ap (λ (n : Named). is_in n.served j) (sym declares.1) ∙ is in
+          wait j k ∙ (ap (λ b. if b && (slot == k) then left else unheard_at old.unheard j k) (another old.named.served g j plain before) ∙ s.served j k before);
+    }
+
+    by : (b : Bool) (names : List ℕ) → HasSettledAt b g slot names old ended new → FollowsJournals new
+    by false names k = subst FollowsJournals (sym k.0) s
+    by true names k = all names k
+
+    go : (o : Option Log) → HasSettledIn o g slot old ended new → FollowsJournals new
+    go None k = subst FollowsJournals (sym k.0) s
+    go (Some l) k = by (is_open (state_of l.config l.entries) slot) (names_of l.config.nodes) k
 
 -- ---- a network that joins
-
-none-opened : (c : Config) → all_differ (names_of c.nodes) ≡ true → AreSlotsBy c [] (record { names = names_of c.nodes; slots = [] })
-unfolding net_after
-none-opened c single = record { names = refl; single = single; once = tt; opens = λ i. refl; kept = λ i o at. absurd (none-there o at) }
-  where
-    none-there : (o : OpenSlot) → None ≡ Some o → ⊥
-    none-there o h = cc
-
-nothing-run : (c : Config) → IsRun c []
-nothing-run c = record { applied = λ k x at. absurd (nothing-there k x at); outs = λ k x at. absurd (nothing-there k x at) }
-  where
-    nothing-there : (k : ℕ) (x : Entry) → slice_get [] k ≡ Some x → ⊥
-    nothing-there k x at = cc
 
 some-less : (a b c d : ℕ) → a + 1 ≡ b → b + c ≤ 4096 → d ≤ c → d < 4096
 some-less a b c d e f h = omega (arith, e, f, h)
 
-module _ (ws : Waiting) (n : Named) (logs : List Log) (f : Followed) (g : ℕ) (d : Outlined) (c : Config) (room : CanAllJoin ws n logs) (at : waiting_at ws g ≡ Some d) (is : IsConfigOf g d c) where
+module _ (ws : Waiting) (n : Named) (logs : List Log) (g : ℕ) (d : Outlined) (c : Config) (room : CanAllJoin ws n logs) (at : waiting_at ws g ≡ Some d) (is : IsConfigOf g d c) where
   waits-there : is_some (waiting_at ws g) ≡ true
   waits-there = ap (λ (o : Option Outlined). is_some o) at
 
@@ -223,16 +406,20 @@ module _ (ws : Waiting) (n : Named) (logs : List Log) (f : Followed) (g : ℕ) (
       ap (λ b. if b then logs_with (record { config = c; entries = [] }) logs else logs)
       (ap₂ (λ a b. not a && b) (ap (λ k. is_some (log_at logs k)) is.number ∙ not-joined) (lt-ltb (length logs) 4096 few-joined))
 
-  joined-follows : AreFollowed logs f → AreFollowed (logs_joined c logs) (followed_with c f)
-  joined-follows s j =
-      subst (λ (xs : List Log). AreSlotsAt (log_at xs j) (at_number (followed_with c f) j)) (sym joins-there)
-      (subst (λ (o : Option Log). AreSlotsAt o (at_number (followed_with c f) j)) (sym (log-with logs (record { config = c; entries = [] }) j))
-      (subst (λ (o : Option OpenSlots). AreSlotsAt (if c.number == j then Some (record { config = c; entries = [] }) else log_at logs j) o) (sym (at-inserted c.number (record { names = names_of c.nodes; slots = [] }) j f))
-      (go (c.number == j))))
+  joined-found : (j i : ℕ) (es : List Emission) → EmissionsAreFoundIn (log_at logs j) i es → EmissionsAreFoundIn (log_at (logs_joined c logs) j) i es
+  joined-found j i es h =
+      subst (λ (xs : List Log). EmissionsAreFoundIn (log_at xs j) i es) (sym joins-there)
+      (subst (λ (o : Option Log). EmissionsAreFoundIn o i es) (sym (log-with logs (record { config = c; entries = [] }) j)) (go (c.number == j) refl))
     where
-      go : (b : Bool) → AreSlotsAt (if b then Some (record { config = c; entries = [] }) else log_at logs j) (if b then Some (record { names = names_of c.nodes; slots = [] }) else at_number f j)
-      go true = (nothing-run c, none-opened c (names-differ (names_of c.nodes) is.ascending))
-      go false = s j
+      nothing : es ≡ [] → EmissionsAreFoundIn (Some (record { config = c; entries = [] })) i es
+      nothing none = subst (λ (xs : List Emission). EmissionsAreFoundIn (Some (record { config = c; entries = [] })) i xs) (sym none) tt
+
+      absent : (c.number == j) ≡ true → log_at logs j ≡ None
+      absent e = is-none (log_at logs j) (ap (λ n. is_some (log_at logs n)) (sym (eqb-true c.number j e) ∙ is.number) ∙ not-joined)
+
+      go : (b : Bool) → (c.number == j) ≡ b → EmissionsAreFoundIn (if b then Some (record { config = c; entries = [] }) else log_at logs j) i es
+      go true e = nothing (subst (λ (o : Option Log). EmissionsAreFoundIn o i es) (absent e) h)
+      go false e = h
 
   joined-room : CanAllJoin (waiting_without ws g) (named_with g (Some d) n) (logs_joined c logs)
   joined-room = record {
@@ -259,16 +446,27 @@ module _ (ws : Waiting) (n : Named) (logs : List Log) (f : Followed) (g : ℕ) (
       apart j false e h = rw e (room.apart j (sym (ap (λ b. is_some (if b then None else at_number ws j)) e) ∙ h))
 
 pub begun-follows : (g : ℕ) (old new : Hosting) → FollowsJournals old → IsNetworkBegun g old new → FollowsJournals new
-begun-follows g old new s h = go (waiting_at old.waiting g) refl h.0 h.1
+begun-follows g old new s h = go (waiting_at old.waiting g) refl h.0 h.2
   where
-    go : (o : Option Outlined) → waiting_at old.waiting g ≡ o → NetworkIsNamedAt (also_followed logs_joined) g o old.waiting new.waiting (old.logs, old.followed) (new.logs, new.followed) → new.named ≡ named_with g o old.named → FollowsJournals new
+    served-same : (o : Option Outlined) → new.named ≡ named_with g o old.named → (j : ℕ) → is_in new.named.served j ≡ is_in old.named.served j
+    served-same None named j = ap (λ (n : Named). is_in n.served j) named
+    served-same (Some d) named j = ap (λ (n : Named). is_in n.served j) named
+
+    nothing : (o : Option Outlined) → new.named ≡ named_with g o old.named → (j i : ℕ) → is_in new.named.served j ≡ true → unheard_at new.unheard j i ≡ []
+    nothing o named j i is = ap (λ u. unheard_at u j i) h.1 ∙ s.served j i (sym (served-same o named j) ∙ is)
+
+    go : (o : Option Outlined) → waiting_at old.waiting g ≡ o → NetworkIsNamedAt logs_joined g o old.waiting new.waiting old.logs new.logs → new.named ≡ named_with g o old.named → FollowsJournals new
     go None at k named = record {
-      room = subst (λ (x : Waiting × Named × List Log). CanAllJoin x.0 x.1 x.2) (λ i. (sym k.0 i, sym named i, (sym k.1 i).0)) (record { joined = s.room.joined; counted = s.room.counted; apart = s.room.apart; once = s.room.once; few = s.room.few });
-      slots = subst (λ (x : List Log × Followed). AreFollowed x.0 x.1) (sym k.1) s.slots;
+      room = subst (λ (x : Waiting × Named × List Log). CanAllJoin x.0 x.1 x.2) (λ i. (sym k.0 i, sym named i, sym k.1 i)) (record { joined = s.room.joined; counted = s.room.counted; apart = s.room.apart; once = s.room.once; few = s.room.few });
+      found = λ j i. subst (λ (x : List Log × List Emission). EmissionsAreFoundIn (log_at x.0 j) i x.1) (λ z. (sym k.1 z, unheard_at (sym h.1 z) j i)) (s.found j i);
+      served = nothing None named;
     }
     go (Some d) at k named = record {
-      room = subst (λ (x : Waiting × Named × List Log). CanAllJoin x.0 x.1 x.2) (λ i. (sym k.0 i, sym named i, (sym k.1.2 i).0)) (joined-room old.waiting old.named old.logs old.followed g d k.1.0 s.room at k.1.1);
-      slots = subst (λ (x : List Log × Followed). AreFollowed x.0 x.1) (sym k.1.2) (joined-follows old.waiting old.named old.logs old.followed g d k.1.0 s.room at k.1.1 s.slots);
+      room = subst (λ (x : Waiting × Named × List Log). CanAllJoin x.0 x.1 x.2) (λ i. (sym k.0 i, sym named i, sym k.1.2 i)) (joined-room old.waiting old.named old.logs g d k.1.0 s.room at k.1.1);
+      found = λ j i.
+          subst (λ (x : List Log × List Emission). EmissionsAreFoundIn (log_at x.0 j) i x.1) (λ z. (sym k.1.2 z, unheard_at (sym h.1 z) j i))
+          (joined-found old.waiting old.named old.logs g d k.1.0 s.room at k.1.1 j i (unheard_at old.unheard j i) (s.found j i));
+      served = nothing (Some d) named;
     }
 
 -- ---- a declaration
@@ -314,58 +512,6 @@ declared-room g (Net b) ws us n logs t p room =
     apart j true e k = ap (is_in n.running) (sym (eqb-true g j e)) ∙ new
     apart j false e k = room.apart j (sym (ap (λ c. is_some (if c then Some (bare_outline b) else at_number ws j)) e) ∙ k)
 
--- ---- a line that settles
-
-one-handed : (names : List ℕ) (i : ℕ) (since : List Entry) (o : OpenSlot) → IsSlotBy names i since o → IsSlotBy names i since (handed_on o)
-one-handed names i since o s = record { speakers = s.speakers; emissions = s.emissions; handed = go (nat_lt o.handed (length o.emissions)) refl }
-  where
-    go : (b : Bool) → nat_lt o.handed (length o.emissions) ≡ b → (if b then o.handed + 1 else o.handed) ≤ length o.emissions
-    go true e = let less = ltb-true o.handed (length o.emissions) e in omega (arith, less)
-    go false e = s.handed
-
-slots-handed : (config : Config) (entries : List Entry) (slot : ℕ) (m : OpenSlots) → AreSlotsBy config entries m → AreSlotsBy config entries (record m { slots = changed_at_number m.slots slot handed_on })
-slots-handed config entries slot m s = record {
-  names = s.names;
-  single = s.single;
-  once = once-changed slot handed_on m.slots s.once;
-  opens = λ i. ap (λ (o : Option OpenSlot). is_some o) (at-changed slot handed_on i m.slots) ∙ (as-open (slot == i) (at_number m.slots i) ∙ s.opens i);
-  kept = λ i o at. kept i o (slot == i) (at_number m.slots i) refl (sym (at-changed slot handed_on i m.slots) ∙ at);
-}
-  where
-    as-open : (b : Bool) (o : Option OpenSlot) → is_some (if b then option_map handed_on o else o) ≡ is_some o
-    as-open true None = refl
-    as-open true (Some o) = refl
-    as-open false o = refl
-
-    none-there : (o : OpenSlot) → None ≡ Some o → ⊥
-    none-there o h = cc
-
-    one-there : (a b : OpenSlot) → Some a ≡ Some b → a ≡ b
-    one-there a b h = cc
-
-    kept : (i : ℕ) (o : OpenSlot) (b : Bool) (p : Option OpenSlot) → at_number m.slots i ≡ p → (if b then option_map handed_on (at_number m.slots i) else at_number m.slots i) ≡ Some o → IsSlotBy m.names i (since_opened i entries) o
-    kept i o false p is at = s.kept i o at
-    kept i o true None is at = absurd (none-there o (ap (option_map handed_on) (sym is) ∙ at))
-    kept i o true (Some x) is at =
-        subst (λ y. IsSlotBy m.names i (since_opened i entries) y) (one-there (handed_on x) o (ap (option_map handed_on) (sym is) ∙ at)) (one-handed m.names i (since_opened i entries) x (s.kept i x is))
-
-abbrev with_handed_on : ℕ → OpenSlots → OpenSlots
-with_handed_on slot m = record m { slots = changed_at_number m.slots slot handed_on }
-
-handed-follows : (g slot : ℕ) (logs : List Log) (f : Followed) → AreFollowed logs f → AreFollowed logs (with_handed g slot f)
-handed-follows g slot logs f s j =
-    subst (λ (o : Option OpenSlots). AreSlotsAt (log_at logs j) o) (sym (at-changed g (with_handed_on slot) j f)) (go (g == j) (log_at logs j) (at_number f j) (s j))
-  where
-    go : (b : Bool) (l : Option Log) (o : Option OpenSlots) → AreSlotsAt l o → AreSlotsAt l (if b then option_map (with_handed_on slot) o else o)
-    go false l o h = h
-    go true None None h = h
-    go true None (Some m) h = h
-    go true (Some l) None h = h
-    go true (Some l) (Some m) h = (h.0, slots-handed l.config l.entries slot m h.1)
-
-pub events-follow : EventsKeep FollowsJournals
-events-follow = record { applied = applied-follows; over = λ g slot h s. record { room = s.room; slots = handed-follows g slot h.logs h.followed s.slots } }
-
 -- ---- a network that is taken back
 
 length-without : (g : ℕ) (ls : List Log) → length (logs_without g ls) + (if is_some (log_at ls g) then 1 else 0) ≤ length ls
@@ -387,7 +533,7 @@ entries-without g (e ∷ es) = go (is_at (nat_cmp g) e.0) (entries-without g es)
     go true h = omega arith
     go false h = omega (arith, h)
 
-module _ (g : ℕ) (old : Hosting) (n : Named) (f : Followed) (s : FollowsJournals old) (named : IsForgotten g old.named n) (followed : IsUnfollowed g old.followed f) where
+module _ (g : ℕ) (old : Hosting) (n : Named) (s : FollowsJournals old) (named : IsForgotten g old.named n) (served : is_in old.named.served g ≡ true) where
   joined-without : (j : ℕ) → is_some (log_at (logs_without g old.logs) j) ≡ is_in n.running j
   joined-without j = ap (λ (o : Option Log). is_some o) (at-left g old.logs j) ∙ go (g == j) refl
     where
@@ -418,46 +564,68 @@ module _ (g : ℕ) (old : Hosting) (n : Named) (f : Followed) (s : FollowsJourna
       fewer : (a b c d x : ℕ) → a ≤ b → c + x ≡ d → b + d ≤ 4096 → a + c ≤ 4096
       fewer a b c d x h k l = omega (arith, h, k, l)
 
-  slots-without : AreFollowed (logs_without g old.logs) f
-  slots-without j =
-      subst (λ (o : Option Log). AreSlotsAt o (at_number f j)) (sym (at-left g old.logs j)) (go (g == j) refl)
+  found-without : (j i : ℕ) → EmissionsAreFoundIn (log_at (logs_without g old.logs) j) i (unheard_at old.unheard j i)
+  found-without j i = subst (λ (o : Option Log). EmissionsAreFoundIn o i (unheard_at old.unheard j i)) (sym (at-left g old.logs j)) (go (g == j) refl)
     where
-      go : (b : Bool) → (g == j) ≡ b → AreSlotsAt (if b then None else log_at old.logs j) (at_number f j)
-      go true e = subst (λ (o : Option OpenSlots). AreSlotsAt None o) (sym (ap (at_number f) (sym (eqb-true g j e)) ∙ followed.gone)) tt
-      go false e = subst (λ (o : Option OpenSlots). AreSlotsAt (log_at old.logs j) o) (sym (followed.others j (is-at g j ∙ e))) (s.slots j)
+      go : (b : Bool) → (g == j) ≡ b → EmissionsAreFoundIn (if b then None else log_at old.logs j) i (unheard_at old.unheard j i)
+      go true e = subst (λ k. unheard_at old.unheard k i ≡ []) (eqb-true g j e) (s.served g i served)
+      go false e = s.found j i
 
-taken-back-follows : (g : ℕ) (old new : Hosting) → FollowsJournals old → IsTakenBack g old new → FollowsJournals new
-taken-back-follows g old new s h = record {
-  room = subst (λ (x : Waiting × List Log). CanAllJoin x.0 new.named x.1) (λ i. (sym h.waiting i, sym h.logs i)) (room-without g old new.named new.followed s h.named h.followed);
-  slots = subst (λ (x : List Log). AreFollowed x new.followed) (sym h.logs) (slots-without g old new.named new.followed s h.named h.followed);
+taken-back-follows : (g : ℕ) (old new : Hosting) → is_in old.named.served g ≡ true → FollowsJournals old → IsTakenBack g old new → FollowsJournals new
+taken-back-follows g old new served s h = record {
+  room = subst (λ (x : Waiting × List Log). CanAllJoin x.0 new.named x.1) (λ i. (sym h.waiting i, sym h.logs i)) (room-without g old new.named s h.named served);
+  found = λ j i. subst (λ (x : List Log × List Emission). EmissionsAreFoundIn (log_at x.0 j) i x.1) (λ z. (sym h.logs z, unheard_at (sym h.unheard z) j i)) (found-without g old new.named s h.named served j i);
+  served = λ j i is. ap (λ u. unheard_at u j i) h.unheard ∙ s.served j i (was j (g == j) refl is);
 }
+  where
+    was : (j : ℕ) (b : Bool) → (g == j) ≡ b → is_in new.named.served j ≡ true → is_in old.named.served j ≡ true
+    was j true e is = ap (is_in old.named.served) (sym (eqb-true g j e)) ∙ served
+    was j false e is = sym (h.named.served.others j (is-at g j ∙ e)) ∙ is
 
 -- ---- a line, and all lines
 
 served-room : (g : ℕ) (ws : Waiting) (n : Named) (logs : List Log) → CanAllJoin ws n logs → CanAllJoin ws (served_with g n) logs
 served-room g ws n logs room = record { joined = room.joined; counted = room.counted; apart = room.apart; once = room.once; few = room.few }
 
-declared-follows : (g : ℕ) (d : Declaration) (n : Named) (old new : Hosting) → FollowsJournals old → CanAllJoin new.waiting n old.logs → IsDeclaredSo g d n old new → FollowsJournals new
-declared-follows g d n old new s room h = record {
+declared-follows : (g : ℕ) (d : Declaration) (n : Named) (old new : Hosting) → FollowsJournals old → CanAllJoin new.waiting n old.logs → ((j i : ℕ) → is_in n.served j ≡ true → unheard_at old.unheard j i ≡ []) → IsDeclaredSo g d n old new
+    → FollowsJournals new
+declared-follows g d n old new s room nothing h = record {
   room = subst (λ (x : Named × List Log). CanAllJoin new.waiting x.0 x.1) (λ i. (sym h.named_is i, sym h.logs i)) room;
-  slots = subst (λ (x : List Log × Followed). AreFollowed x.0 x.1) (λ i. (sym h.logs i, sym h.followed i)) s.slots;
+  found = λ j i. subst (λ (x : List Log × List Emission). EmissionsAreFoundIn (log_at x.0 j) i x.1) (λ z. (sym h.logs z, unheard_at (sym h.unheard z) j i)) (s.found j i);
+  served = λ j i is. ap (λ u. unheard_at u j i) h.unheard ∙ nothing j i (ap (λ (m : Named). is_in m.served j) (sym h.named_is) ∙ is);
 }
+
+-- nothing waits in a network that is declared only now
+new-waits : (g : ℕ) (b : Budgets) (old : Hosting) → FollowsJournals old → takes old.waiting old.named g (Net b) ≡ true → (j i : ℕ) → is_in (served_with g old.named).served j ≡ true → unheard_at old.unheard j i ≡ []
+new-waits g b old s t j i is = go (g == j) refl (sym (has-inserted g j old.named.served) ∙ is)
+  where
+    taken : (not (is_some (waiting_at old.waiting g) || is_in old.named.running g) ≡ true) × (nat_lt (declared_count old.waiting old.named) 4096 ≡ true)
+    taken = and_parts (not (is_some (waiting_at old.waiting g) || is_in old.named.running g)) (nat_lt (declared_count old.waiting old.named) 4096) t
+
+    absent : log_at old.logs g ≡ None
+    absent = is-none (log_at old.logs g) (s.room.joined g ∙ (or_parts (is_some (waiting_at old.waiting g)) (is_in old.named.running g) (not-true (is_some (waiting_at old.waiting g) || is_in old.named.running g) taken.0)).1)
+
+    go : (c : Bool) → (g == j) ≡ c → ((g == j) || is_in old.named.served j) ≡ true → unheard_at old.unheard j i ≡ []
+    go true e k = subst (λ n. unheard_at old.unheard n i ≡ []) (eqb-true g j e) (subst (λ (o : Option Log). EmissionsAreFoundIn o i (unheard_at old.unheard g i)) absent (s.found g i))
+    go false e k = s.served j i (sym (ap (λ c. c || is_in old.named.served j) e) ∙ k)
 
 pub lines-follow : LinesKeep FollowsJournals
 lines-follow = record {
   begun = begun-follows;
-  declared = λ g d old new s h. declared-follows g d old.named old new s (declared-room g d old.waiting new.waiting old.named old.logs h.taken h.prepared s.room) h;
+  declared = λ g d old new s h. declared-follows g d old.named old new s (declared-room g d old.waiting new.waiting old.named old.logs h.taken h.prepared s.room) s.served h;
   serves = λ g b old new s h.
-      declared-follows g (Net b) (served_with g old.named) old new s (served-room g new.waiting old.named old.logs (declared-room g (Net b) old.waiting new.waiting old.named old.logs h.taken h.prepared s.room)) h;
-  served = served-keeps FollowsJournals events-follow;
-  settled = λ g slot ended old new plain s h. settled-keeps FollowsJournals g slot (at-slot FollowsJournals events-follow g slot) _ _ old new ended s h;
-  taken_back = taken-back-follows;
+      declared-follows g (Net b) (served_with g old.named) old new s (served-room g new.waiting old.named old.logs (declared-room g (Net b) old.waiting new.waiting old.named old.logs h.taken h.prepared s.room))
+      (new-waits g b old s h.taken) h;
+  served = λ g e r old new s h. served-follows g e r old new s h;
+  settled = λ g slot ended old new plain s h. settled-follows g slot ended old new plain s h;
+  taken_back = λ g old new served s h. taken-back-follows g old new served s h;
 }
 
-pub first-follows : FollowsJournals new_hosting
+first-follows : FollowsJournals new_hosting
 first-follows = record {
   room = record { joined = λ g. refl; counted = omega arith; apart = λ g h. absurd (false≢true h); once = tt; few = omega arith };
-  slots = λ g. tt;
+  found = λ g i. refl;
+  served = λ g i is. refl;
 }
 
 pub lines_follow_journals : LinesFollowJournals

@@ -1,25 +1,30 @@
 -- The journals of scripts are those of histories of hosts.
 use Rattle.std.proofs.Common.{◌≡◌, ◌≢◌, ◌&&◌, ℕ, Bool, true, false, not, nat_lt, List, [], length, Option, Some, None, Ok, Err, is_some, if◌then◌else◌, refl, sym, subst, inl, inr}
-use Rattle.std.specs.Prelude.{Result, Vec}
-use Rattle.std.specs.Global.{Global}
+use Rattle.std.specs.Prelude.{Result}
 use Rattle.scripts.specs.Script.{Bytes}
 use Rattle.types.specs.declared.event.Event.{Event}
-use Rattle.types.specs.declared.event.Out.{Out}
 use Rattle.types.specs.declared.event.Refusal.{Refusal}
 use Rattle.types.specs.declared.event.Refusal.TheVariants.{NoMemory}
 use Rattle.protocol.specs.Hosts.{Config}
+use Rattle.protocol.specs.Networks.{is_open}
+use Rattle.protocol.specs.Runs.{state_of}
+use Rattle.configuration.specs.Configs.{names_of}
+use Rattle.requests.specs.Naming.{is_in}
 use Rattle.network.specs.Decoding.{step_of}
+use Rattle.hoststep.specs.declared.given.Given.{Given}
 use Rattle.hoststep.specs.Logs.{Log}
-use Rattle.world.specs.Worlds.{IsAnsweredAt, and_then, history_without, log_at, logs_with, with_new_network}
+use Rattle.world.specs.Worlds.{IsAnswered, IsAnsweredAt, and_then, history_without, log_at, logs_with, with_new_network}
 use Rattle.world.proofs.Histories.{history-answered, history-joined}
 use Rattle.world.proofs.Leaving.{history-left}
 use Rattle.requests.specs.Outlines.{Outlined, Waiting, waiting_at}
-use Rattle.runs.specs.Followed.{also_followed}
 use Rattle.runs.specs.Histories.{HaveHistory, ScriptsHaveHistories}
-use Rattle.runs.specs.Hosting.{Hosting, IsEventApplied, IsNetworkBegun, logs_joined}
+use Rattle.runs.specs.Hosting.{Hosting, IsNetworkBegun, logs_joined}
 use Rattle.runs.specs.Joining.{HasJoined, HaveJoined, NetworkIsNamedAt}
 use Rattle.runs.specs.Unprinted.{IsFinishedUnprinted, TellsUnprinted, Unprinted}
-use Rattle.runs.proofs.Keeping.{EventsKeep, LinesKeep, at-slot, order-keeps, served-keeps, settled-keeps}
+use Rattle.runs.specs.ServedNetworks.{AnswerIsHeardOf, IsEventServed}
+use Rattle.runs.specs.Settling.{HasSettled, HasSettledAt, HasSettledIn, hearing}
+use Rattle.runs.specs.Unheard.{first_emitted, unheard_at}
+use Rattle.runs.proofs.Keeping.{HearingsKeep, LinesKeep, handed-on-keeps, heard-of-keeps, order-keeps}
 
 -- ---- networks that join
 
@@ -35,9 +40,9 @@ joined-has c logs has = go (log_at logs c.number) refl (nat_lt (length logs) 409
 begun-has : (g : ℕ) (old new : Hosting) → HaveHistory old.logs → IsNetworkBegun g old new → HaveHistory new.logs
 begun-has g old new has h = go (waiting_at old.waiting g) h.0
   where
-    go : (o : Option Outlined) → NetworkIsNamedAt (also_followed logs_joined) g o old.waiting new.waiting (old.logs, old.followed) (new.logs, new.followed) → HaveHistory new.logs
-    go None k = subst (λ (x : List Log). HaveHistory x) (λ i. (sym k.1 i).0) has
-    go (Some d) k = subst (λ (x : List Log). HaveHistory x) (λ i. (sym k.1.2 i).0) (joined-has k.1.0 old.logs has)
+    go : (o : Option Outlined) → NetworkIsNamedAt logs_joined g o old.waiting new.waiting old.logs new.logs → HaveHistory new.logs
+    go None k = subst (λ (x : List Log). HaveHistory x) (sym k.1) has
+    go (Some d) k = subst (λ (x : List Log). HaveHistory x) (sym k.1.2) (joined-has k.1.0 old.logs has)
 
 finished-has : (ws : Waiting) (old new : List Log) → HaveHistory old → HaveJoined logs_joined ws old new → HaveHistory new
 finished-has ws old new has HaveJoined.none = has
@@ -49,34 +54,59 @@ finished-has ws old new has (HaveJoined.next one more) = finished-has _ _ new (b
 
 -- ---- events
 
-no-refusal : (v : Vec Out Global) (r : Refusal) → ◌≢◌ {A = Result (Vec Out Global) Refusal} (Ok v) (Err r)
+no-refusal : (v : Given) (r : Refusal) → ◌≢◌ {A = Result Given Refusal} (Ok v) (Err r)
 no-refusal v r is = cc
 
 -- what is refused changes no journal
-applied-has : (g : ℕ) (e : Event) (r : Result (Vec Out Global) Refusal) (old new : Hosting) → HaveHistory old.logs → IsEventApplied g e r old new → HaveHistory new.logs
-applied-has g e (Ok outs) old new has h = (and_then has.0 g e, history-answered has.0 old.logs new.logs g e (Ok outs) has.1 h.0 (no-refusal outs NoMemory))
-applied-has g e (Err x) old new has h = go (log_at old.logs g) h.0
+answered-has : (g : ℕ) (e : Event) (r : Result Given Refusal) (old new : List Log) → HaveHistory old → IsAnswered old g e r new → HaveHistory new
+answered-has g e (Ok given) old new has h = (and_then has.0 g e, history-answered has.0 old new g e (Ok given) has.1 h (no-refusal given NoMemory))
+answered-has g e (Err x) old new has h = go (log_at old g) h
   where
-    go : (l : Option Log) → IsAnsweredAt l old.logs (step_of e) (Err x) new.logs → HaveHistory new.logs
+    go : (l : Option Log) → IsAnsweredAt l old (step_of e) (Err x) new → HaveHistory new
     go None k = subst (λ (x : List Log). HaveHistory x) (sym k.1) has
     go (Some l) k = subst (λ (x : List Log). HaveHistory x) (sym k.1) has
+
+hearing-has : (g slot : ℕ) → HearingsKeep HaveHistory g slot
+hearing-has g slot u e r old new has h = answered-has g (hearing slot u e) r old new has h
+
+served-has : (g : ℕ) (e : Event) (r : Result Given Refusal) (old new : Hosting) → HaveHistory old.logs → IsEventServed g e r old new → HaveHistory new.logs
+served-has g e r old new has h = go (is_in old.named.served g) r h.2
+  where
+    now : HaveHistory h.0
+    now = answered-has g e r old.logs h.0 has h.1
+
+    go : (b : Bool) (a : Result Given Refusal) → AnswerIsHeardOf b g e a h.0 old new → HaveHistory new.logs
+    go b (Err x) heard = subst (λ (x : List Log). HaveHistory x) (sym heard.0) now
+    go true (Ok x) heard = heard-of-keeps HaveHistory g (hearing-has g) (first_emitted x.outs.items) x h.0 new.logs now heard.1.0
+    go false (Ok x) heard = subst (λ (x : List Log). HaveHistory x) (sym heard.1.0) now
+
+settled-has : (g slot : ℕ) (ended : Option Refusal) (old new : Hosting) → HaveHistory old.logs → HasSettled g slot old ended new → HaveHistory new.logs
+settled-has g slot ended old new has h = go (log_at old.logs g) h
+  where
+    as-it-was : new ≡ old → HaveHistory new.logs
+    as-it-was same = subst (λ (x : Hosting). HaveHistory x.logs) (sym same) has
+
+    by : (b : Bool) (names : List ℕ) → HasSettledAt b g slot names old ended new → HaveHistory new.logs
+    by false names k = as-it-was k.0
+    by true names k = handed-on-keeps HaveHistory g slot (hearing-has g slot) names old.logs new.logs (unheard_at old.unheard g slot) k.0 ended has k.1
+
+    go : (l : Option Log) → HasSettledIn l g slot old ended new → HaveHistory new.logs
+    go None k = as-it-was k.0
+    go (Some l) k = by (is_open (state_of l.config l.entries) slot) (names_of l.config.nodes) k
 
 -- ---- lines
 
 abbrev Has : Hosting → Type 0
 Has h = HaveHistory h.logs
 
-events-have : EventsKeep Has
-events-have = record { applied = applied-has; over = λ g slot h has. has }
-
 lines-have : LinesKeep Has
 lines-have = record {
   begun = begun-has;
   declared = λ g d old new has h. subst (λ (x : List Log). HaveHistory x) (sym h.logs) has;
   serves = λ g b old new has h. subst (λ (x : List Log). HaveHistory x) (sym h.logs) has;
-  served = served-keeps Has events-have;
-  settled = λ g slot ended old new plain has h. settled-keeps Has g slot (at-slot Has events-have g slot) _ _ old new ended has h;
-  taken_back = λ g old new has h. subst (λ (x : List Log). HaveHistory x) (sym h.logs) (history_without g has.0, history-left has.0 old.logs g has.1);
+  served = served-has;
+  settled = λ g slot ended old new plain has h. settled-has g slot ended old new has h;
+  taken_back = λ g old new served has h. subst (λ (x : List Log). HaveHistory x) (sym h.logs) (history_without g has.0, history-left has.0 old.logs g has.1);
 }
 
 unprinted-has : (old new : Unprinted) (fields : List Bytes) (printed : Option Bytes) → Has old.hosting → TellsUnprinted old fields printed new → Has new.hosting

@@ -1,7 +1,7 @@
--- What events keep, and networks that join, are declared or taken back, is kept by lines, and so by all lines of a script.
-use Rattle.std.proofs.Common.{◌≡◌, ◌∙◌, ℕ, Bool, true, false, List, Option, Some, None, Ok, Err, refl, sym, ap, subst}
-use Rattle.std.specs.Prelude.{Result, Vec}
-use Rattle.std.specs.Global.{Global}
+-- What hearings keep, and networks that join, are declared or taken back, is kept by lines, and so by all lines of a script.
+use Rattle.std.proofs.Common.{◌≡◌, ◌∙◌, ◌&&◌, ℕ, Bool, true, false, not, List, Option, Some, None, Ok, Err, refl, sym, ap, subst}
+use Rattle.std.specs.Prelude.{Result}
+use Rattle.std.proofs.lemmas.Bool.{false≢true, true≢false}
 use Rattle.std.specs.List.{enumerate_from}
 use Rattle.scripts.specs.Script.{Bytes}
 use Rattle.scripts.specs.Runs.{HasRun, Passes, Runs}
@@ -14,11 +14,14 @@ use Rattle.types.specs.declared.event.Event.TheVariants as event
 use Rattle.types.specs.declared.event.Out.{Out}
 use Rattle.types.specs.declared.event.Refusal.{Refusal}
 use Rattle.protocol.specs.Networks.{Budgets}
-use Rattle.network.specs.declared.plan.Emission.{Emission}
-use Rattle.world.specs.Worlds.{items_of}
+use Rattle.network.specs.declared.emission.Emission.{Emission}
+use Rattle.hoststep.specs.declared.given.Given.{Given}
+use Rattle.hoststep.specs.Logs.{Log}
+use Rattle.world.specs.Worlds.{IsAnswered, items_of, log_at}
 use Rattle.requests.specs.Naming.{Named, is_in, named_with, served_with}
 use Rattle.requests.specs.Outlines.{Outlined, waiting_at}
 use Rattle.requests.specs.Taking.{is_declared}
+use Rattle.requests.specs.Telling.{is_unserved}
 use Rattle.requests.specs.declared.order.Order.{Order}
 use Rattle.requests.specs.declared.order.Order.TheVariants as order
 use Rattle.requests.specs.declared.request.Declaration.{Declaration}
@@ -26,74 +29,49 @@ use Rattle.requests.specs.declared.request.Declaration.TheVariants.{Net}
 use Rattle.requests.specs.declared.request.Request.TheVariants.{Declare, Apply, Settle}
 use Rattle.runs.specs.declared.outcome.Outcome.{Outcome}
 use Rattle.runs.specs.declared.outcome.Outcome.TheVariants.{Declared, Answer, Answers, Settled}
-use Rattle.runs.specs.Emissions.{OpenSlot, first_emitted}
-use Rattle.runs.specs.Followed.{names_at}
-use Rattle.runs.specs.Hosting.{Hosting, IsEventApplied, IsNetworkBegun, new_hosting}
+use Rattle.runs.specs.Hosting.{Hosting, IsNetworkBegun, new_hosting}
 use Rattle.runs.specs.Running.{Does, IsDeclaredSo, RefusesLine, Tells}
-use Rattle.runs.specs.ServedNetworks.{AllIsHeard as heard, AreDelivered, AreDeliveredTo, HaveOthersHeard, IsDropAnswered, IsEventServed, IsHeardAt, IsHeardByOthers, IsHeardOf, IsTakenBack}
+use Rattle.runs.specs.ServedNetworks.{AllIsHeard as heard, AreDelivered, AreDeliveredTo, HaveOthersHeard, IsDropAnswered, IsEventServed, IsHeardAt, IsHeardByOthers, IsTakenBack, hosted_names_in}
 use Rattle.runs.specs.ServedNetworks.AreDelivered.{next_node, none_left}
 use Rattle.runs.specs.ServedNetworks.HaveOthersHeard.{all_heard, one_heard}
-use Rattle.runs.specs.Settling.{AreHandedOn, HasSettled, HasSettledAt, IsHeardBy, handed_over, hearing}
+use Rattle.runs.specs.Settling.{AreHandedOn, HasSettled, IsHeardBy, hearing}
 use Rattle.runs.specs.Settling.IsHeardBy.{by_all, by_one, refused}
 use Rattle.runs.specs.Settling.AreHandedOn.{none_waits, one_waits, cut_short}
+use Rattle.runs.specs.Unheard.{named_emissions}
 
 -- ---- hearings at a slot
 
--- each hearing at a slot keeps this, and so does an emission there that has been handed on
-pub record HearingsKeep (P : Hosting → Type 0) (g slot : ℕ) : Type 0 where
-  pub hears : (u : ℕ) (e : Emission) (r : Result (Vec Out Global) Refusal) (old new : Hosting) → P old → IsEventApplied g (hearing slot u e) r old new → P new
-  pub over : (h : Hosting) → P h → P (handed_over g slot None h)
+-- each hearing at a slot keeps this of the journals
+abbrev pub HearingsKeep : (List Log → Type 0) → ℕ → ℕ → Type 0
+HearingsKeep P g slot = (u : ℕ) (e : Emission) (r : Result Given Refusal) (old new : List Log) → P old → IsAnswered old g (hearing slot u e) r new → P new
 
-module _ (P : Hosting → Type 0) (g slot : ℕ) (k : HearingsKeep P g slot) where
-  heard-keeps : (e : Emission) (us : List ℕ) (old new : Hosting) (ended : Option Refusal) → P old → IsHeardBy g slot e us old ended new → P new
-  heard-keeps e us old new ended p by_all = p
-  heard-keeps e us old new ended p (by_one {u = u} outs answer rest) = heard-keeps e _ _ new ended (k.hears u e (Ok outs) old _ p answer) rest
-  heard-keeps e us old new ended p (refused {u = u} r answer) = k.hears u e (Err r) old new p answer
+module _ (P : List Log → Type 0) (g slot : ℕ) (k : HearingsKeep P g slot) where
+  pub heard-keeps : (e : Emission) (us : List ℕ) (old new : List Log) (more : List Emission) (ended : Option Refusal) → P old → IsHeardBy g slot e us old more ended new → P new
+  heard-keeps e us old new more ended p by_all = p
+  heard-keeps e us old new more ended p (by_one {u = u} r answer rest) = heard-keeps e _ _ new _ ended (k u e (Ok r) old _ p answer.0) rest
+  heard-keeps e us old new more ended p (refused {u = u} r answer) = k u e (Err r) old new p answer
 
-  pub handed-on-keeps : (names : List ℕ) (old new : Hosting) (ended : Option Refusal) → P old → AreHandedOn g slot names old ended new → P new
-  handed-on-keeps names old new ended p (none_waits none) = p
-  handed-on-keeps names old new ended p (one_waits e waits h rest) = handed-on-keeps names _ new ended (subst P (sym h.2) (k.over h.0 (heard-keeps e _ old h.0 None p h.1))) rest
-  handed-on-keeps names old new ended p (cut_short e r waits h) = subst P (sym h.2) (heard-keeps e _ old h.0 (Some r) p h.1)
+  pub handed-on-keeps : (names : List ℕ) (old new : List Log) (es left : List Emission) (ended : Option Refusal) → P old → AreHandedOn g slot names old es ended left new → P new
+  handed-on-keeps names old new es left ended p none_waits = p
+  handed-on-keeps names old new es left ended p (one_waits {now = now} h rest) = handed-on-keeps names now new _ left ended (heard-keeps _ _ old now _ None p h) rest
+  handed-on-keeps names old new es left ended p (cut_short r h) = heard-keeps _ _ old new _ (Some r) p h
 
-  pub settled-keeps : (names : Option (List ℕ)) (o : Option OpenSlot) (old new : Hosting) (ended : Option Refusal) → P old → HasSettledAt g slot names o old ended new → P new
-  settled-keeps None o old new ended p h = subst P (sym h.0) p
-  settled-keeps (Some names) None old new ended p h = subst P (sym h.0) p
-  settled-keeps (Some names) (Some o) old new ended p h = handed-on-keeps names old new ended p h
+  told-keeps : (e : Emission) (us : List ℕ) (old new : List Log) (more : List Emission) → P old → HaveOthersHeard g slot e us old more new → P new
+  told-keeps e us old new more p all_heard = p
+  told-keeps e us old new more p (one_heard {now = now} ended one memory rest) = told-keeps e _ now new _ (heard-keeps e _ old now _ ended p one) rest
 
-  told-keeps : (e : Emission) (us : List ℕ) (old new : Hosting) → P old → HaveOthersHeard g slot e us old new → P new
-  told-keeps e us old new p all_heard = p
-  told-keeps e us old new p (one_heard ended one memory rest) = told-keeps e _ _ new (heard-keeps e _ old _ ended p one) rest
+  pub all-heard-keeps : (names : List ℕ) (old new : List Log) (es : List Emission) → P old → heard g slot names old es new → P new
+  all-heard-keeps names old new es p heard.none_waits = p
+  all-heard-keeps names old new es p (heard.one_waits {now = now} each rest) = all-heard-keeps names now new _ (told-keeps _ names old now _ p each) rest
 
-  pub all-heard-keeps : (names : List ℕ) (old new : Hosting) → P old → heard g slot names old new → P new
-  all-heard-keeps names old new p (heard.none_waits none) = p
-  all-heard-keeps names old new p (heard.one_waits {now = now} e is each rest) = all-heard-keeps names (handed_over g slot None now) new (k.over now (told-keeps e names old now p each)) rest
-
--- ---- events
-
--- each event keeps this, and so does an emission that has been handed on
-pub record EventsKeep (P : Hosting → Type 0) : Type 0 where
-  pub applied : (g : ℕ) (e : Event) (r : Result (Vec Out Global) Refusal) (old new : Hosting) → P old → IsEventApplied g e r old new → P new
-  pub over : (g slot : ℕ) (h : Hosting) → P h → P (handed_over g slot None h)
-
-module _ (P : Hosting → Type 0) (k : EventsKeep P) where
-  pub at-slot : (g slot : ℕ) → HearingsKeep P g slot
-  at-slot g slot = record { hears = λ u e r old new p h. k.applied g (hearing slot u e) r old new p h; over = k.over g slot }
-
-  pub heard-of-keeps : (b : Bool) (g : ℕ) (r : Result (List Out) Refusal) (old new : Hosting) → P old → IsHeardOf b g r old new → P new
-  heard-of-keeps false g r old new p h = subst P (sym h) p
-  heard-of-keeps true g (Err r) old new p h = subst P (sym h) p
-  heard-of-keeps true g (Ok outs) old new p h = at (first_emitted outs) h
-    where
-      by : (slot : ℕ) (names : Option (List ℕ)) → IsHeardByOthers g slot names old new → P new
-      by slot None h = subst P (sym h) p
-      by slot (Some names) h = all-heard-keeps P g slot (at-slot g slot) names old new p h
-
-      at : (e : Option Sent) → IsHeardAt g e old new → P new
-      at None h = subst P (sym h) p
-      at (Some e) h = by e.slot (names_at old.followed g) h
-
-  pub served-keeps : (g : ℕ) (e : Event) (r : Result (Vec Out Global) Refusal) (old new : Hosting) → P old → IsEventServed g e r old new → P new
-  served-keeps g e r old new p h = heard-of-keeps (is_in old.named.served g) g (items_of r) h.0 new (k.applied g e r old h.0 p h.1) h.2
+-- the others hear what an event of a served network gave out
+pub heard-of-keeps : (P : List Log → Type 0) (g : ℕ) → ((slot : ℕ) → HearingsKeep P g slot) → (o : Option Sent) (r : Given) (old new : List Log) → P old → IsHeardAt g o r old new → P new
+heard-of-keeps P g k None r old new p h = subst P (sym h) p
+heard-of-keeps P g k (Some e) r old new p h = by (hosted_names_in (log_at old g)) h
+  where
+    by : (names : Option (List ℕ)) → IsHeardByOthers g e.slot names old (named_emissions r) new → P new
+    by None h = subst P (sym h) p
+    by (Some names) h = all-heard-keeps P g e.slot (k e.slot) names old new (named_emissions r) p h
 
 -- ---- lines
 
@@ -102,41 +80,46 @@ pub record LinesKeep (P : Hosting → Type 0) : Type 0 where
   pub begun : (g : ℕ) (old new : Hosting) → P old → IsNetworkBegun g old new → P new
   pub declared : (g : ℕ) (d : Declaration) (old new : Hosting) → P old → IsDeclaredSo g d old.named old new → P new
   pub serves : (g : ℕ) (b : Budgets) (old new : Hosting) → P old → IsDeclaredSo g (Net b) (served_with g old.named) old new → P new
-  pub served : (g : ℕ) (e : Event) (r : Result (Vec Out Global) Refusal) (old new : Hosting) → P old → IsEventServed g e r old new → P new
+  pub served : (g : ℕ) (e : Event) (r : Result Given Refusal) (old new : Hosting) → P old → IsEventServed g e r old new → P new
   pub settled : (g slot : ℕ) (ended : Option Refusal) (old new : Hosting) → is_in old.named.served g ≡ false → P old → HasSettled g slot old ended new → P new
-  pub taken_back : (g : ℕ) (old new : Hosting) → P old → IsTakenBack g old new → P new
+  pub taken_back : (g : ℕ) (old new : Hosting) → is_in old.named.served g ≡ true → P old → IsTakenBack g old new → P new
 
 -- which networks are served stays where one is named
 begun-served : (g j : ℕ) (old new : Hosting) → IsNetworkBegun g old new → is_in new.named.served j ≡ is_in old.named.served j
-begun-served g j old new h = go (waiting_at old.waiting g) h.1
+begun-served g j old new h = go (waiting_at old.waiting g) h.2
   where
     go : (o : Option Outlined) → new.named ≡ named_with g o old.named → is_in new.named.served j ≡ is_in old.named.served j
     go None named = ap (λ (n : Named). is_in n.served j) named
     go (Some d) named = ap (λ (n : Named). is_in n.served j) named
 
+by-both : (b c : Bool) → b ≡ true → (b && not c) ≡ false → c ≡ true
+by-both true true e h = refl
+by-both true false e h = absurd (true≢false h)
+by-both false c e h = absurd (false≢true e)
+
 no-ok : {A B : Type 0} (x : A) (y : B) → ◌≡◌ {A = Result A B} (Ok x) (Err y) → ⊥
 no-ok x y h = cc
 
 module _ (P : Hosting → Type 0) (k : LinesKeep P) where
-  delivered-keeps : (g : ℕ) (bytes : Bytes) (us : List ℕ) (old new : Hosting) (rs : List (Result (Vec Out Global) Refusal)) → P old → AreDelivered g bytes us old rs new → P new
+  delivered-keeps : (g : ℕ) (bytes : Bytes) (us : List ℕ) (old new : Hosting) (rs : List (Result Given Refusal)) → P old → AreDelivered g bytes us old rs new → P new
   delivered-keeps g bytes us old new rs p none_left = p
   delivered-keeps g bytes us old new rs p (next_node {u = u} r one rest) = delivered-keeps g bytes _ _ new _ (k.served g (event.Deliver u bytes) r old _ p one) rest
 
-  delivered-to-keeps : (g : ℕ) (bytes : Bytes) (names : Option (List ℕ)) (old new : Hosting) (rs : List (Result (Vec Out Global) Refusal)) → P old → AreDeliveredTo g bytes names old rs new → P new
+  delivered-to-keeps : (g : ℕ) (bytes : Bytes) (names : Option (List ℕ)) (old new : Hosting) (rs : List (Result Given Refusal)) → P old → AreDeliveredTo g bytes names old rs new → P new
   delivered-to-keeps g bytes None old new rs p h = subst P (sym h.0) p
   delivered-to-keeps g bytes (Some names) old new rs p h = delivered-keeps g bytes names old new rs p h
 
-  dropped-keeps : (b : Bool) (g : ℕ) (old new : Hosting) (r : Result (List Out) Refusal) → P old → IsDropAnswered b g old r new → P new
-  dropped-keeps false g old new r p h = subst P (sym h.1) p
-  dropped-keeps true g old new r p h = k.taken_back g old new p h.1
+  dropped-keeps : (b : Bool) (g : ℕ) (old new : Hosting) (r : Result (List Out) Refusal) → is_declared old.waiting old.named g ≡ b → is_unserved old.waiting old.named g ≡ false → P old → IsDropAnswered b g old r new → P new
+  dropped-keeps false g old new r declared served p h = subst P (sym h.1) p
+  dropped-keeps true g old new r declared served p h = k.taken_back g old new (by-both (is_declared old.waiting old.named g) (is_in old.named.served g) declared served) p h.1
 
   pub order-keeps : (g : ℕ) (o : Order) (old new : Hosting) (outcome : Outcome) → P old → Does g o old outcome new → P new
   order-keeps g (order.Request (Declare d)) old new Declared p h = k.declared g d old new p h
   order-keeps g (order.Request (Apply e)) old new (Answer r) p h = k.served g e r h.1.0 new (k.begun g old h.1.0 p h.1.1) h.1.2
   order-keeps g (order.Request (Settle slot)) old new (Settled i ended) p h = k.settled g slot ended h.1.0 new (begun-served g g old h.1.0 h.1.1 ∙ h.0) (k.begun g old h.1.0 p h.1.1) h.1.2
   order-keeps g (order.Serve b) old new Declared p h = k.serves g b old new p h
-  order-keeps g (order.ForAll bytes) old new (Answers rs) p h = delivered-to-keeps g bytes (names_at h.1.0.followed g) h.1.0 new rs.items (k.begun g old h.1.0 p h.1.1) h.1.2
-  order-keeps g order.Drop old new (Answer r) p h = dropped-keeps (is_declared old.waiting old.named g) g old new (items_of r) p h.1
+  order-keeps g (order.ForAll bytes) old new (Answers rs) p h = delivered-to-keeps g bytes (hosted_names_in (log_at h.1.0.logs g)) h.1.0 new rs.items (k.begun g old h.1.0 p h.1.1) h.1.2
+  order-keeps g order.Drop old new (Answer r) p h = dropped-keeps (is_declared old.waiting old.named g) g old new (items_of r) refl h.0 p h.1
   order-keeps g o old new outcome p h = absurd h
 
   pub line-keeps : (old new : Hosting) (fields : List Bytes) (printed : Option Bytes) → P old → Tells old fields printed new → P new

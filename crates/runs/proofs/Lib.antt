@@ -1,17 +1,12 @@
 pub mod BadLines
-mod Hearings
 mod Keeping
 mod JoiningLaws
 mod Origins
-mod Places
 mod NumberedRows
-mod SlotsByEntries
+mod HearingLaws
 mod OutsAtPlaces
-mod NetsByEntries
+mod MarkedEmissions
 pub mod FollowedLaws
-pub mod Handing
-pub mod HeardByNumber
-pub mod Waiting
 pub mod HistoryLaws
 mod Configured
 pub mod OneCut

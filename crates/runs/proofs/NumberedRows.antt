@@ -1,6 +1,5 @@
 -- Lists by number, with one more, one changed and one gone.
 use Rattle.std.proofs.Common.{◌≡◌, ◌∙◌, ◌==◌, ◌||◌, ◌+◌, ◌≤◌, ℕ, suc, Bool, true, false, nat_lt, cond, List, [], ◌∷◌, length, Option, Some, None, is_some, if◌then◌else◌, refl, sym, ap, arith}
-use Rattle.std.specs.Prelude.{option_map}
 use Rattle.std.specs.List.{list_any}
 use Rattle.std.proofs.lemmas.Bool.{eqb-true, eq-eqb, false≢true, ltb-true, or_parts}
 use Rattle.std.specs.Ordering.{nat_cmp, is_eq}
@@ -8,8 +7,7 @@ use Rattle.std.proofs.Common.{Less, Equal, Greater}
 use Rattle.std.specs.BTreeMap.{insert_entry, is_at}
 use Rattle.std.specs.BTreeSet.{insert_key}
 use Rattle.std.specs.Map.{remove_entry, set_value}
-use Rattle.runs.specs.Emissions.{at_number, changed_at_number, replace_found}
-use Rattle.runs.specs.ByJournals.{StandOnce}
+use Rattle.runs.specs.ByJournals.{StandOnce, at_number}
 
 -- ---- tests of numbers
 
@@ -142,19 +140,6 @@ module _ {X : Type 0} (k : ℕ) where
       by false eq ih =
           rw (is-at k e.0, eq) (at-behind n k (Some w) e es (set_value (is_at (nat_cmp k)) es w) eq (ih (sym (ap (λ o. is_some o) (at-later k e es eq)) ∙ there)))
 
-  -- what stands at each number after what stands at one was changed
-  pub at-changed : (change : X → X) (n : ℕ) (es : List (ℕ × X)) → at_number (changed_at_number es k change) n ≡ (if k == n then option_map change (at_number es n) else at_number es n)
-  at-changed change n es = by (at_number es k) refl (k == n) refl
-    where
-      by : (o : Option X) → at_number es k ≡ o → (b : Bool) → (k == n) ≡ b → at_number (replace_found o es k change) n ≡ (if b then option_map change (at_number es n) else at_number es n)
-      by None e true h = at ∙ sym (ap (option_map change) at)
-        where
-          at : at_number es n ≡ None
-          at = ap (at_number es) (sym (eqb-true k n h)) ∙ e
-      by None e false h = refl
-      by (Some x) e true h = at-set (change x) n es (ap (λ o. is_some o) e) ∙ ap (λ b. if b then Some (change x) else at_number es n) h ∙ sym (ap (option_map change) (ap (at_number es) (sym (eqb-true k n h)) ∙ e))
-      by (Some x) e false h = at-set (change x) n es (ap (λ o. is_some o) e) ∙ ap (λ b. if b then Some (change x) else at_number es n) h
-
   pub once-set : (w : X) (es : List (ℕ × X)) → is_some (at_number es k) ≡ true → StandOnce es → StandOnce (set_value (is_at (nat_cmp k)) es w)
   once-set w [] there once = tt
   once-set w (e ∷ es) there once = by (k == e.0) refl (once-set w es)
@@ -164,13 +149,6 @@ module _ {X : Type 0} (k : ℕ) where
       by false eq ih =
           let more : is_some (at_number es k) ≡ true = sym (ap (λ o. is_some o) (at-later k e es eq)) ∙ there in
           rw (is-at k e.0, eq) (at-set w e.0 es more ∙ rw eq once.0, ih more once.1)
-
-  pub once-changed : (change : X → X) (es : List (ℕ × X)) → StandOnce es → StandOnce (changed_at_number es k change)
-  once-changed change es once = by (at_number es k) refl
-    where
-      by : (o : Option X) → at_number es k ≡ o → StandOnce (replace_found o es k change)
-      by None e = once
-      by (Some x) e = once-set (change x) es (ap (λ o. is_some o) e) once
 
   pub length-set : (w : X) (es : List (ℕ × X)) → length (set_value (is_at (nat_cmp k)) es w) ≡ length es
   length-set w [] = refl

@@ -1,14 +1,10 @@
--- What an event gives out is its node's, at its slot, and what it decides it also emits.
-use Rattle.std.proofs.Common.{◌≡◌, ◌∙◌, ◌==◌, ◌&&◌, ◌+◌, ◌++◌, ℕ, Bool, true, false, not, cond, List, [], ◌∷◌, map, filter, Option, Some, None, is_none, if◌then◌else◌, refl, sym, ap, ap₂, subst}
-use Rattle.std.specs.Prelude.{option_map}
+-- What an event emits is its node's, at its slot.
+use Rattle.std.proofs.Common.{◌≡◌, ◌∙◌, ◌==◌, ◌&&◌, ◌+◌, ◌++◌, ℕ, zero, suc, Bool, true, false, not, cond, List, [], ◌∷◌, map, filter, Option, Some, None, is_none, slice_get, if◌then◌else◌, refl, sym, ap, subst}
 use Rattle.std.specs.List.{AllByRecursion}
 use Rattle.std.proofs.lemmas.Bool.{eqb-true}
-use Rattle.std.proofs.lemmas.List.Elements.{filter_map-append}
 use Rattle.types.specs.Statements.{Sent}
 use Rattle.types.specs.declared.ballot.Ballot.{Ballot}
 use Rattle.types.specs.declared.statement.Statement.{Statement}
-use Rattle.types.specs.declared.state.Phase.{Phase}
-use Rattle.types.specs.declared.state.Phase.TheVariants as phase
 use Rattle.types.specs.declared.state.Votes.{Votes}
 use Rattle.types.specs.declared.event.NodeEvent.{NodeEvent}
 use Rattle.types.specs.declared.event.NodeEvent.TheVariants.{Propose, Take, NominationTimer, BallotTimer, Reslice}
@@ -16,7 +12,7 @@ use Rattle.types.specs.declared.event.Out.{Out}
 use Rattle.types.specs.declared.event.Out.TheVariants.{ArmNomination, ArmBallot, Emit, Externalized}
 use Rattle.types.specs.declared.event.Refusal.{Refusal}
 use Rattle.protocol.specs.Rows.{is_taken, with_row}
-use Rattle.protocol.specs.States.{counter_of, sent_in, sent_nomination, sent_vote}
+use Rattle.protocol.specs.States.{counter_of, sent_nomination, sent_vote}
 use Rattle.protocol.specs.Sameness.{same_sent}
 use Rattle.protocol.specs.Nodes.{Node, after_change, node_and_outs, change, externalization, emission_between, fresh, in_round, is_counter_live, is_externalized, is_round_live, outs, after_pass, with_slices, settle, with_settled_votes, step, with_timeout, when, most_passes}
 use Rattle.protocol.specs.Networks.{HostedNode, Net, Instance, Slot, Step, act, act_in, act_known, effect, emission, emissions, first_that, node_where_open, after_event, net_step, instances_of_new_slot, outs_at, node_named, instances_at, state_and_reply, tests}
@@ -25,79 +21,43 @@ use Rattle.protocol.specs.Networks.Step.{Opens, Closes, Proposes, Delivers, Hear
 use Rattle.protocol.specs.Hosts.{Entry}
 use Rattle.protocol.specs.Runs.{net_after}
 use Rattle.network.specs.Marks.{slot_and_node_of}
-use Rattle.hoststep.specs.Deciding.{externalized_values}
-use Rattle.hoststep.proofs.DecidedOnce.{no-values-emitted, values-append}
-use Rattle.runs.proofs.SlotsByEntries.{AreFrom}
+use Rattle.runs.specs.Unheard.{first_emitted}
 
--- all that is emitted is this node's, at this slot; and where nothing is emitted, nothing is decided
-pub record IsGivenBy (i u : ℕ) (os : List Out) : Type 0 where
-  pub from : AreFrom i u (emissions os)
-  pub beside : emissions os ≡ [] → externalized_values os ≡ []
+-- all that is emitted is this node's, at this slot
+abbrev pub IsGivenBy : ℕ → ℕ → List Out → Type 0
+IsGivenBy i u os = AllByRecursion (λ e. (e.sender ≡ u) × (e.slot ≡ i)) (emissions os)
 
 -- what an event gives out, by the slot and the node that it names
 abbrev pub IsGivenAt : Option (ℕ × ℕ) → List Out → Type 0
 IsGivenAt None os = os ≡ []
 IsGivenAt (Some at) os = IsGivenBy at.0 at.1 os
 
-nothing-given : (i u : ℕ) → IsGivenBy i u []
-nothing-given i u = record { from = tt; beside = λ e. refl }
-
 -- ---- a node
 
 module _ (i u : ℕ) where
-  from-both : (xs ys : List Out) → AreFrom i u (emissions xs) → AreFrom i u (emissions ys) → AreFrom i u (emissions (xs ++ ys))
+  from-both : (xs ys : List Out) → IsGivenBy i u xs → IsGivenBy i u ys → IsGivenBy i u (xs ++ ys)
   from-both [] ys h k = k
   from-both (ArmNomination r ∷ xs) ys h k = from-both xs ys h k
   from-both (ArmBallot n ∷ xs) ys h k = from-both xs ys h k
   from-both (Emit e ∷ xs) ys h k = (h.0, from-both xs ys h.1 k)
   from-both (Externalized x ∷ xs) ys h k = from-both xs ys h k
 
-  from-timer : (b : Bool) (x : Out) → AreFrom i u (emissions (x ∷ [])) → AreFrom i u (emissions (when b x))
+  from-timer : (b : Bool) (x : Out) → IsGivenBy i u (x ∷ []) → IsGivenBy i u (when b x)
   from-timer true x h = h
   from-timer false x h = tt
 
-  from-decided : (b : Bool) (x : Option Ballot) → AreFrom i u (emissions (if b then externalization x else []))
+  from-decided : (b : Bool) (x : Option Ballot) → IsGivenBy i u (if b then externalization x else [])
   from-decided true None = tt
   from-decided true (Some x) = tt
   from-decided false x = tt
 
-from-emitted : (n : Node) (old new : Option Statement) → AreFrom n.slot n.name (emissions (emission_between n old new))
+from-emitted : (n : Node) (old new : Option Statement) → IsGivenBy n.slot n.name (emission_between n old new)
 from-emitted n old None = tt
 from-emitted n old (Some s) = go (same_sent old (Some s))
   where
-    go : (b : Bool) → AreFrom n.slot n.name (emissions (if b then [] else Emit (record { sender = n.name; slot = n.slot; slices = n.slices; body = s }) ∷ []))
+    go : (b : Bool) → IsGivenBy n.slot n.name (if b then [] else Emit (record { sender = n.name; slot = n.slot; slices = n.slices; body = s }) ∷ [])
     go true = tt
     go false = ((refl, refl), tt)
-
-no-values : (xs ys : List Out) → externalized_values xs ≡ [] → externalized_values ys ≡ [] → externalized_values (xs ++ ys) ≡ []
-no-values xs ys h k = values-append xs ys ∙ ap₂ (λ (a b : List (List ℕ)). a ++ b) h k
-
-no-values-timer : (b : Bool) (x : Out) → externalized_values (x ∷ []) ≡ [] → externalized_values (when b x) ≡ []
-no-values-timer true x h = h
-no-values-timer false x h = refl
-
-none-of-either : {A : Type 0} (xs ys : List A) → xs ++ ys ≡ [] → (xs ≡ []) × (ys ≡ [])
-none-of-either [] ys h = (refl, h)
-none-of-either (x ∷ xs) ys h = absurd (cc)
-
-none-emitted : (xs ys : List Out) → emissions (xs ++ ys) ≡ [] → (emissions xs ≡ []) × (emissions ys ≡ [])
-none-emitted xs ys h = none-of-either (emissions xs) (emissions ys) (sym (filter_map-append _ xs ys) ∙ h)
-
--- a node that externalizes emits that
-emits-decision : (n : Node) (old new : Votes) → emissions (emission_between n (sent_vote old) (sent_vote new)) ≡ [] → externalized_values (if is_externalized new.phase && not (is_externalized old.phase) then externalization new.ballot else []) ≡ []
-unfolding sent_vote sent_in
-emits-decision n old new h = go new.phase old.phase new.ballot old.ballot h
-  where
-    go : (p q : Phase) (b c : Option Ballot) → emissions (emission_between n (option_map (sent_in q old) c) (option_map (sent_in p new) b)) ≡ [] → externalized_values (if is_externalized p && not (is_externalized q) then externalization b else []) ≡ []
-    go phase.Preparing q b c h = refl
-    go phase.Committing q b c h = refl
-    go phase.Externalized phase.Externalized b c h = refl
-    go phase.Externalized phase.Preparing None c h = refl
-    go phase.Externalized phase.Preparing (Some b) None h = absurd (cc)
-    go phase.Externalized phase.Preparing (Some b) (Some c) h = absurd (cc)
-    go phase.Externalized phase.Committing None c h = refl
-    go phase.Externalized phase.Committing (Some b) None h = absurd (cc)
-    go phase.Externalized phase.Committing (Some b) (Some c) h = absurd (cc)
 
 outs-given-by : (old new : Node) → IsGivenBy new.slot new.name (outs old new)
 unfolding outs
@@ -108,25 +68,13 @@ outs-given-by old new =
     let d = emission_between new (sent_vote old.votes) (sent_vote new.votes) in
     let now = is_externalized new.votes.phase && not (is_externalized old.votes.phase) in
     let e = if now then externalization new.votes.ballot else [] in
-    record {
-      from = from-both new.slot new.name (((a ++ b) ++ c) ++ d) e
-          (from-both new.slot new.name ((a ++ b) ++ c) d
-          (from-both new.slot new.name (a ++ b) c
-          (from-both new.slot new.name a b (from-timer new.slot new.name _ (ArmNomination new.inputs.round) tt) (from-timer new.slot new.name _ (ArmBallot new.votes.armed) tt))
-          (from-emitted new (sent_nomination old.votes) (sent_nomination new.votes)))
-          (from-emitted new (sent_vote old.votes) (sent_vote new.votes)))
-          (from-decided new.slot new.name now new.votes.ballot);
-      beside = λ none.
-          let before = none-emitted (((a ++ b) ++ c) ++ d) e none in
-          let last = none-emitted ((a ++ b) ++ c) d before.0 in
-          no-values (((a ++ b) ++ c) ++ d) e
-          (no-values ((a ++ b) ++ c) d
-          (no-values (a ++ b) c
-          (no-values a b (no-values-timer _ (ArmNomination new.inputs.round) refl) (no-values-timer _ (ArmBallot new.votes.armed) refl))
-          (no-values-emitted new (sent_nomination old.votes) (sent_nomination new.votes)))
-          (no-values-emitted new (sent_vote old.votes) (sent_vote new.votes)))
-          (emits-decision new old.votes new.votes last.1);
-    }
+    from-both new.slot new.name (((a ++ b) ++ c) ++ d) e
+    (from-both new.slot new.name ((a ++ b) ++ c) d
+    (from-both new.slot new.name (a ++ b) c
+    (from-both new.slot new.name a b (from-timer new.slot new.name _ (ArmNomination new.inputs.round) tt) (from-timer new.slot new.name _ (ArmBallot new.votes.armed) tt))
+    (from-emitted new (sent_nomination old.votes) (sent_nomination new.votes)))
+    (from-emitted new (sent_vote old.votes) (sent_vote new.votes)))
+    (from-decided new.slot new.name now new.votes.ballot)
 
 -- ---- a step of a node
 
@@ -137,13 +85,13 @@ pub record StaysAt (i u : ℕ) (r : Node × List Out) : Type 0 where
   pub given : IsGivenBy i u r.1
 
 with_settled_votes-stays : (n m : Node) (o : Option Votes) → m.name ≡ n.name → m.slot ≡ n.slot → StaysAt n.slot n.name (node_and_outs n (with_settled_votes m o))
-with_settled_votes-stays n m None name slot = record { name = refl; slot = refl; given = nothing-given n.slot n.name }
+with_settled_votes-stays n m None name slot = record { name = refl; slot = refl; given = tt }
 with_settled_votes-stays n m (Some w) name slot =
     let new : Node = record m { votes = w } in
     record { name = name; slot = slot; given = subst (λ i. IsGivenBy i n.name (outs n new)) slot (subst (λ u. IsGivenBy m.slot u (outs n new)) name (outs-given-by n new)) }
 
 stays : (n : Node) (b : Bool) (m : Node) → m.name ≡ n.name → m.slot ≡ n.slot → StaysAt n.slot n.name (node_and_outs n (after_change (if b then Some m else None)))
-stays n false m name slot = record { name = refl; slot = refl; given = nothing-given n.slot n.name }
+stays n false m name slot = record { name = refl; slot = refl; given = tt }
 stays n true m name slot = with_settled_votes-stays n m (settle most_passes (after_pass m) m.votes) name slot
 
 step-stays : (n : Node) (e : NodeEvent) → StaysAt n.slot n.name (step n e)
@@ -256,13 +204,13 @@ unfolding act
 act-given net i u e h = go (node_where_open (instances_at net.slots i) u) refl
   where
     go : (o : Option Instance) → node_where_open (instances_at net.slots i) u ≡ o → IsGivenBy i u (outs_at e o)
-    go None k = nothing-given i u
+    go None k = tt
     go (Some p) k =
         let so = node_where_open-so net.slots i u p k h in
         subst (λ j. IsGivenBy j u (step p.node e).1) so.1 (subst (λ w. IsGivenBy p.node.slot w (step p.node e).1) so.0 ((step-stays p.node e).given))
 
 heard-given : (net : Net) (i u : ℕ) (o : Option Sent) → AreInPlace net.slots → IsGivenBy i u (act_known net i u o).1
-heard-given net i u None h = nothing-given i u
+heard-given net i u None h = tt
 heard-given net i u (Some e) h = act-given net i u (Take e) h
 
 pub effect-given : (net : Net) (e : Step) → AreInPlace net.slots → IsGivenAt (slot_and_node_of e) (effect net e).1
@@ -276,3 +224,18 @@ effect-given net (Hears i u from kind k) h = heard-given net i u (emission (node
 effect-given net (NominationTimerFires i u r) h = act-given net i u (NominationTimer r) h
 effect-given net (BallotTimerFires i u n) h = act-given net i u (BallotTimer n) h
 effect-given net (Reslices i u q) h = act-given net i u (Reslice q) h
+
+-- ---- what was emitted first
+
+pub first-from : (i u : ℕ) (os : List Out) (e : Sent) → IsGivenBy i u os → first_emitted os ≡ Some e → (e.sender ≡ u) × (e.slot ≡ i)
+first-from i u [] e by is = absurd (cc)
+first-from i u (ArmNomination r ∷ os) e by is = first-from i u os e by is
+first-from i u (ArmBallot n ∷ os) e by is = first-from i u os e by is
+first-from i u (Emit x ∷ os) e by is = let same : x ≡ e = cc in (sym (ap (λ (y : Sent). y.sender) same) ∙ by.0.0, sym (ap (λ (y : Sent). y.slot) same) ∙ by.0.1)
+first-from i u (Externalized x ∷ os) e by is = first-from i u os e by is
+
+-- one of them, by its place
+pub one-from : (i u : ℕ) (es : List Sent) (n : ℕ) (x : Sent) → AllByRecursion (λ e. (e.sender ≡ u) × (e.slot ≡ i)) es → slice_get es n ≡ Some x → (x.sender ≡ u) × (x.slot ≡ i)
+one-from i u [] n x by at = absurd (cc)
+one-from i u (e ∷ es) zero x by at = let same : e ≡ x = cc in (sym (ap (λ (y : Sent). y.sender) same) ∙ by.0.0, sym (ap (λ (y : Sent). y.slot) same) ∙ by.0.1)
+one-from i u (e ∷ es) (suc n) x by at = one-from i u es n x by.1 at

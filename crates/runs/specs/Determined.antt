@@ -3,9 +3,8 @@ use Rattle.std.specs.Prelude.{◌≡◌, ℕ, List, Option, Ok}
 use Rattle.scripts.specs.Script.{Bytes}
 use Rattle.scripts.specs.Runs.{Runs}
 use Rattle.requests.specs.Naming.{Named, is_in}
-use Rattle.runs.specs.Emissions.{at_number}
-use Rattle.runs.specs.Followed.{Followed}
 use Rattle.runs.specs.Hosting.{Hosting}
+use Rattle.runs.specs.Unheard.{Unheard, unheard_at}
 use Rattle.runs.specs.Unprinted.{IsFinishedUnprinted, RefusesUnprinted, TellsUnprinted, Unprinted}
 
 -- the same numbers are among these and among those
@@ -18,16 +17,16 @@ pub record AreNamedAlike (one other : Named) : Type 0 where
   pub running : HaveSame one.running other.running
   pub served : HaveSame one.served other.served
 
--- of the network of each number the same is followed
-abbrev pub AreFollowedAlike : Followed → Followed → Type 0
-AreFollowedAlike one other = (g : ℕ) → at_number one g ≡ at_number other g
+-- at each slot of each network the same waits
+abbrev pub AreUnheardAlike : Unheard → Unheard → Type 0
+AreUnheardAlike one other = (g i : ℕ) → unheard_at one g i ≡ unheard_at other g i
 
--- the networks of two scripts are alike: the same wait, the same numbers are named, the same is followed of each
--- network, and the journals are the same. In which order numbers and followed networks are kept does not matter.
+-- the networks of two scripts are alike: the same wait, the same numbers are named, the same waits to be handed on, and
+-- the journals are the same. In which order numbers and slots are kept does not matter.
 pub record AreRunsAlike (one other : Hosting) : Type 0 where
   pub waiting : one.waiting ≡ other.waiting
   pub named : AreNamedAlike one.named other.named
-  pub followed : AreFollowedAlike one.followed other.followed
+  pub unheard : AreUnheardAlike one.unheard other.unheard
   pub logs : one.logs ≡ other.logs
 
 -- afterwards the networks are alike, and the traces are the same if they were the same before

@@ -1,8 +1,7 @@
 pub mod ReplyLines
 pub mod Hosting
 pub mod Joining
-pub mod Emissions
-pub mod Followed
+pub mod Unheard
 pub mod SettledLines
 pub mod Settling
 pub mod ServedNetworks

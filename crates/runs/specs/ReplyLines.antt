@@ -1,11 +1,11 @@
 -- Replies to what was submitted, as answers; and the lines of answers.
-use Rattle.std.specs.Prelude.{◌++◌, List, [], ◌∷◌, Result, Ok, Err, Vec}
-use Rattle.std.specs.Global.{Global}
+use Rattle.std.specs.Prelude.{◌++◌, List, [], ◌∷◌, Result, Ok, Err}
 use Rattle.std.specs.List.{flat_map}
 use Rattle.crowds.specs.declared.reply.Reply.{Reply}
 use Rattle.crowds.specs.declared.reply.Reply.TheVariants as reply
 use Rattle.types.specs.declared.event.Out.{Out}
 use Rattle.types.specs.declared.event.Refusal.{Refusal}
+use Rattle.hoststep.specs.declared.given.Given.{Given}
 use Rattle.scripts.specs.Script.{Bytes}
 use Rattle.world.specs.Worlds.{items_of}
 use Rattle.requests.specs.Replies.{reply_text}
@@ -16,10 +16,10 @@ answer_of (reply.Done outs) = Ok outs.items
 answer_of (reply.Refused r) = Err r
 
 -- the line of an answer behind a line feed (10)
-abbrev pub line_behind : Result (Vec Out Global) Refusal → Bytes
+abbrev pub line_behind : Result Given Refusal → Bytes
 line_behind r = 10 ∷ reply_text (items_of r)
 
 -- the lines of answers, with a line feed between each and the next
-abbrev pub reply_lines : List (Result (Vec Out Global) Refusal) → Bytes
+abbrev pub reply_lines : List (Result Given Refusal) → Bytes
 reply_lines [] = []
 reply_lines (r ∷ rs) = reply_text (items_of r) ++ flat_map line_behind rs

@@ -1,8 +1,8 @@
 -- What the lines of a script tell its networks to become, and what they print.
-use Rattle.std.specs.Prelude.{◌≡◌, ℕ, true, false, List, Option, Some, None, Result, Vec}
-use Rattle.std.specs.Global.{Global}
+use Rattle.std.specs.Prelude.{◌≡◌, ℕ, true, false, List, Option, Some, None, Result}
 use Rattle.scripts.specs.Script.{Bytes}
-use Rattle.types.specs.declared.event.Out.{Out}
+use Rattle.hoststep.specs.declared.given.Given.{Given}
+use Rattle.hoststep.specs.Logs.{Log}
 use Rattle.types.specs.declared.event.Refusal.{Refusal}
 use Rattle.requests.specs.declared.request.Declaration.{Declaration}
 use Rattle.requests.specs.declared.request.Declaration.TheVariants.{Net}
@@ -15,10 +15,9 @@ use Rattle.requests.specs.Preparing.{Prepares}
 use Rattle.requests.specs.Replies.{reply_text}
 use Rattle.requests.specs.Taking.{is_declared, takes}
 use Rattle.requests.specs.Telling.{BadLinesAreUntold, RefusesOrder, is_unserved, may_apply}
-use Rattle.world.specs.Worlds.{items_of}
+use Rattle.world.specs.Worlds.{items_of, log_at}
 use Rattle.runs.specs.declared.outcome.Outcome.{Outcome}
 use Rattle.runs.specs.declared.outcome.Outcome.TheVariants.{Declared, Answer, Answers, Settled}
-use Rattle.runs.specs.Followed.{Followed, open_slot}
 use Rattle.runs.specs.Hosting.{Hosting, IsNetworkBegun}
 use Rattle.runs.specs.ReplyLines.{reply_lines}
 use Rattle.runs.specs.ServedNetworks.{AreAllDelivered, IsDropAnswered, IsEventPut}
@@ -30,11 +29,11 @@ pub record IsDeclaredSo (g : ℕ) (d : Declaration) (named : Named) (old new : H
   pub taken : takes old.waiting old.named g d ≡ true
   pub prepared : Prepares g d old.waiting new.waiting
   pub named_is : new.named ≡ named
-  pub followed : new.followed ≡ old.followed
+  pub unheard : new.unheard ≡ old.unheard
   pub logs : new.logs ≡ old.logs
 
 -- bytes come to all nodes of the network of a number, and these are the answers
-abbrev pub IsPutToAll : ℕ → Bytes → Hosting → List (Result (Vec Out Global) Refusal) → Hosting → Type 0
+abbrev pub IsPutToAll : ℕ → Bytes → Hosting → List (Result Given Refusal) → Hosting → Type 0
 IsPutToAll g bytes old rs new = (begun : Hosting) × IsNetworkBegun g old begun × AreAllDelivered g bytes begun rs new
 
 -- What a line does that orders this of the network of a number, and what comes of it. A declaration that is taken names
@@ -57,19 +56,19 @@ Does g o old outcome new = ⊥
 abbrev pub IsLineCarriedOut : ℕ → List Bytes → Hosting → Outcome → Hosting → Type 0
 IsLineCarriedOut g fields old outcome new = (o : Order) × Orders fields g o × Does g o old outcome new
 
--- What is printed of what came of a line, by what is followed after it. Of a declaration it is nothing, of an event or
--- a `drop` its answer, and of bytes for all nodes each answer. Of a slot that settles it is the refusal that ended it,
--- or else what has been decided. What others hear of an event in a served network prints nothing.
-abbrev pub printed_of : Outcome → ℕ → Followed → Option Bytes
-printed_of Declared g f = None
-printed_of (Answer r) g f = Some (reply_text (items_of r))
-printed_of (Answers rs) g f = Some (reply_lines rs.items)
-printed_of (Settled slot ended) g f = Some (settling_line ended (open_slot f g slot))
+-- What is printed of what came of a line, by the journal of its network after it. Of a declaration it is nothing, of an
+-- event or a `drop` its answer, and of bytes for all nodes each answer. Of a slot that settles it is the refusal that
+-- ended it, or else what has been decided. What others hear of an event in a served network prints nothing.
+abbrev pub printed_of : Outcome → Option Log → Option Bytes
+printed_of Declared l = None
+printed_of (Answer r) l = Some (reply_text (items_of r))
+printed_of (Answers rs) l = Some (reply_lines rs.items)
+printed_of (Settled slot ended) l = Some (settling_line ended l slot)
 
 -- what a line tells: what it orders is done, and what comes of it printed
 abbrev pub Tells : Hosting → List Bytes → Option Bytes → Hosting → Type 0
 Tells old fields printed new =
-    (g : ℕ) × (outcome : Outcome) × IsLineCarriedOut g fields old outcome new × (printed ≡ printed_of outcome g new.followed)
+    (g : ℕ) × (outcome : Outcome) × IsLineCarriedOut g fields old outcome new × (printed ≡ printed_of outcome (log_at new.logs g))
 
 -- a line is bad in a script of networks: it has none of the forms, or what it orders is not taken
 abbrev pub RefusesLine : Hosting → List Bytes → Type 0

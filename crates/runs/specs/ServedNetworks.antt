@@ -1,6 +1,5 @@
--- What events of a served network do, and what others hear of them.
-use Rattle.std.specs.Prelude.{◌≡◌, ◌≢◌, ℕ, Bool, true, false, List, [], ◌∷◌, Option, Some, None, Result, Ok, Err, Vec}
-use Rattle.std.specs.Global.{Global}
+-- What events do to a network, and what others hear of them if it is served.
+use Rattle.std.specs.Prelude.{◌≡◌, ◌≢◌, ◌++◌, ℕ, Bool, true, false, List, [], ◌∷◌, Option, Some, None, Result, Ok, Err, option_map}
 use Rattle.scripts.specs.Script.{Bytes}
 use Rattle.types.specs.Statements.{Sent}
 use Rattle.types.specs.declared.event.Event.{Event}
@@ -8,86 +7,98 @@ use Rattle.types.specs.declared.event.Event.TheVariants.{Deliver}
 use Rattle.types.specs.declared.event.Out.{Out}
 use Rattle.types.specs.declared.event.Refusal.{Refusal}
 use Rattle.types.specs.declared.event.Refusal.TheVariants.{NoMemory, NoSuchNetwork}
-use Rattle.network.specs.declared.plan.Emission.{Emission}
-use Rattle.world.specs.Worlds.{items_of, logs_without}
+use Rattle.configuration.specs.Configs.{names_of}
+use Rattle.network.specs.declared.emission.Emission.{Emission}
+use Rattle.hoststep.specs.declared.given.Given.{Given}
+use Rattle.hoststep.specs.Logs.{Log}
+use Rattle.world.specs.Worlds.{IsAnswered, log_at, logs_without, marks_at}
 use Rattle.requests.specs.Naming.{IsForgotten, is_in}
 use Rattle.requests.specs.Outlines.{waiting_without}
-use Rattle.runs.specs.Emissions.{first_emitted}
-use Rattle.runs.specs.Followed.{IsUnfollowed, names_at, waiting}
-use Rattle.runs.specs.Hosting.{Hosting, IsEventApplied, IsNetworkBegun}
-use Rattle.runs.specs.Settling.{IsHeardBy, handed_over, others}
+use Rattle.runs.specs.Hosting.{DeclaresNothing, Hosting, IsNetworkBegun}
+use Rattle.runs.specs.Settling.{IsHeardBy, others}
+use Rattle.runs.specs.Unheard.{WaitsAfter, slot_closed_by, named_emissions, first_emitted}
+
+-- the hosted nodes of a network, ascending, by its journal, if it is there
+abbrev pub hosted_names_in : Option Log → Option (List ℕ)
+hosted_names_in l = option_map (λ x. names_of x.config.nodes) l
 
 -- ---- who hears of an event
 
--- each of these nodes hears an emission, unless it is its own, one after the other; a hearing that is refused is not tried
--- again, and the next one follows. Memory is enough for each.
-pub data HaveOthersHeard (g slot : ℕ) (e : Emission) : List ℕ → Hosting → Hosting → Type 0 where
-  all_heard : {h : Hosting} → HaveOthersHeard g slot e [] h h
-  one_heard : {u : ℕ} {us : List ℕ} {old now new : Hosting} (ended : Option Refusal)
-      → IsHeardBy g slot e (others e (u ∷ [])) old ended now → ended ≢ Some NoMemory
-      → HaveOthersHeard g slot e us now new → HaveOthersHeard g slot e (u ∷ us) old new
+-- Each of these nodes hears an emission, unless it is its own, one after the other. What they emit meanwhile is this. A
+-- hearing that is refused is not tried again, and the next one follows. Memory is enough for each.
+pub data HaveOthersHeard (g slot : ℕ) (e : Emission) : List ℕ → List Log → List Emission → List Log → Type 0 where
+  all_heard : {logs : List Log} → HaveOthersHeard g slot e [] logs [] logs
+  one_heard : {u : ℕ} {us : List ℕ} {old now new : List Log} {some more : List Emission} (ended : Option Refusal)
+      → IsHeardBy g slot e (others e (u ∷ [])) old some ended now → ended ≢ Some NoMemory
+      → HaveOthersHeard g slot e us now more new → HaveOthersHeard g slot e (u ∷ us) old (some ++ more) new
 
--- what waits at a slot is heard by all others, the first emission first, until none waits; those that come meanwhile wait
+-- what waits is heard at a slot by all others, the first emission first, until none waits; those that come meanwhile wait
 -- behind the others
-pub data AllIsHeard (g slot : ℕ) (names : List ℕ) : Hosting → Hosting → Type 0 where
-  none_waits : {h : Hosting} → waiting h.followed g slot ≡ None → AllIsHeard g slot names h h
-  one_waits : {old now new : Hosting} (e : Emission) → waiting old.followed g slot ≡ Some e
-      → HaveOthersHeard g slot e names old now
-      → AllIsHeard g slot names (handed_over g slot None now) new → AllIsHeard g slot names old new
+pub data AllIsHeard (g slot : ℕ) (names : List ℕ) : List Log → List Emission → List Log → Type 0 where
+  none_waits : {logs : List Log} → AllIsHeard g slot names logs [] logs
+  one_waits : {old now new : List Log} {e : Emission} {es more : List Emission}
+      → HaveOthersHeard g slot e names old more now
+      → AllIsHeard g slot names now (es ++ more) new → AllIsHeard g slot names old (e ∷ es) new
 
--- the other nodes of a network hear what waits, if the network is there
-abbrev pub IsHeardByOthers : ℕ → ℕ → Option (List ℕ) → Hosting → Hosting → Type 0
-IsHeardByOthers g slot None old new = new ≡ old
-IsHeardByOthers g slot (Some names) old new = AllIsHeard g slot names old new
+-- these nodes, if the network is there, hear what was emitted at a slot
+abbrev pub IsHeardByOthers : ℕ → ℕ → Option (List ℕ) → List Log → List Emission → List Log → Type 0
+IsHeardByOthers g slot None old es new = new ≡ old
+IsHeardByOthers g slot (Some names) old es new = AllIsHeard g slot names old es new
 
--- at the slot of what was emitted first, if anything was: all that an event emits is of its slot
-abbrev pub IsHeardAt : ℕ → Option Sent → Hosting → Hosting → Type 0
-IsHeardAt g None old new = new ≡ old
-IsHeardAt g (Some e) old new = IsHeardByOthers g e.slot (names_at old.followed g) old new
+-- these nodes hear it at the slot of what was emitted first, if anything was: all that an event emits is of its slot
+abbrev pub IsHeardAt : ℕ → Option Sent → Given → List Log → List Log → Type 0
+IsHeardAt g None r old new = new ≡ old
+IsHeardAt g (Some e) r old new = IsHeardByOthers g e.slot (hosted_names_in (log_at old g)) old (named_emissions r) new
 
--- the others hear what an event of a served network gave out; after a refused one, and in other networks, nobody hears
--- anything by itself
-abbrev pub IsHeardOf : Bool → ℕ → Result (List Out) Refusal → Hosting → Hosting → Type 0
-IsHeardOf false g r old new = new ≡ old
-IsHeardOf true g (Err r) old new = new ≡ old
-IsHeardOf true g (Ok outs) old new = IsHeardAt g (first_emitted outs) old new
+-- What an event gave out waits to be handed on by a line. If the network is served, the others hear it now, and nothing
+-- of it waits.
+abbrev pub IsHeardOf : Bool → ℕ → Event → Given → List Log → Hosting → Hosting → Type 0
+IsHeardOf false g e r now old new = (new.logs ≡ now) × WaitsAfter (slot_closed_by e) g r old.unheard new.unheard
+IsHeardOf true g e r now old new = IsHeardAt g (first_emitted r.outs.items) r now new.logs × (new.unheard ≡ old.unheard)
 
--- an event is put to the network of a number and answered, and then heard of if the network is served
-abbrev pub IsEventServed : ℕ → Event → Result (Vec Out Global) Refusal → Hosting → Hosting → Type 0
+-- an event that was answered so has been heard of; of one that was refused there is nothing to hear
+abbrev pub AnswerIsHeardOf : Bool → ℕ → Event → Result Given Refusal → List Log → Hosting → Hosting → Type 0
+AnswerIsHeardOf served g e (Err r) now old new = (new.logs ≡ now) × (new.unheard ≡ old.unheard)
+AnswerIsHeardOf served g e (Ok r) now old new =
+    (r.marks.items ≡ marks_at old.logs g e) × IsHeardOf served g e r now old new
+
+-- an event is put to the network of a number and answered, and then heard of
+abbrev pub IsEventServed : ℕ → Event → Result Given Refusal → Hosting → Hosting → Type 0
 IsEventServed g e r old new =
-    (now : Hosting) × IsEventApplied g e r old now × IsHeardOf (is_in old.named.served g) g (items_of r) now new
+    (now : List Log) × IsAnswered old.logs g e r now × AnswerIsHeardOf (is_in old.named.served g) g e r now old new
+    × DeclaresNothing old new
 
 -- an event is put to the network of a number, which it may be the first to name, and answered
-abbrev pub IsEventPut : ℕ → Event → Hosting → Result (Vec Out Global) Refusal → Hosting → Type 0
+abbrev pub IsEventPut : ℕ → Event → Hosting → Result Given Refusal → Hosting → Type 0
 IsEventPut g e old r new = (begun : Hosting) × IsNetworkBegun g old begun × IsEventServed g e r begun new
 
 -- ---- bytes for all nodes
 
 -- the bytes come to each of these nodes, one after the other, and what is given out is heard of
-pub data AreDelivered (g : ℕ) (bytes : Bytes) : List ℕ → Hosting → List (Result (Vec Out Global) Refusal) → Hosting
-    → Type 0 where
+pub data AreDelivered (g : ℕ) (bytes : Bytes) : List ℕ → Hosting → List (Result Given Refusal) → Hosting → Type 0 where
   none_left : {h : Hosting} → AreDelivered g bytes [] h [] h
-  next_node : {u : ℕ} {us : List ℕ} {old now new : Hosting} {rs : List (Result (Vec Out Global) Refusal)}
-      (r : Result (Vec Out Global) Refusal) → IsEventServed g (Deliver u bytes) r old now
+  next_node : {u : ℕ} {us : List ℕ} {old now new : Hosting} {rs : List (Result Given Refusal)}
+      (r : Result Given Refusal) → IsEventServed g (Deliver u bytes) r old now
       → AreDelivered g bytes us now rs new
       → AreDelivered g bytes (u ∷ us) old (r ∷ rs) new
 
 -- by the names of the nodes of the network, if it is there; if it is not, that is the one answer
-abbrev pub AreDeliveredTo : ℕ → Bytes → Option (List ℕ) → Hosting → List (Result (Vec Out Global) Refusal) → Hosting → Type 0
+abbrev pub AreDeliveredTo : ℕ → Bytes → Option (List ℕ) → Hosting → List (Result Given Refusal) → Hosting → Type 0
 AreDeliveredTo g bytes None old rs new = (new ≡ old) × (rs ≡ Err NoSuchNetwork ∷ [])
 AreDeliveredTo g bytes (Some names) old rs new = AreDelivered g bytes names old rs new
 
 -- bytes come to all nodes of the network of a number, if it is there; else that is the one answer
-abbrev pub AreAllDelivered : ℕ → Bytes → Hosting → List (Result (Vec Out Global) Refusal) → Hosting → Type 0
-AreAllDelivered g bytes old rs new = AreDeliveredTo g bytes (names_at old.followed g) old rs new
+abbrev pub AreAllDelivered : ℕ → Bytes → Hosting → List (Result Given Refusal) → Hosting → Type 0
+AreAllDelivered g bytes old rs new = AreDeliveredTo g bytes (hosted_names_in (log_at old.logs g)) old rs new
 
 -- ---- networks that are taken back
 
--- the network of a number is not there any more, with all that it held, and as if no line had named the number
+-- the network of a number is not there any more, with all that it held, and as if no line had named the number; in a
+-- served network nothing waits that could be left
 pub record IsTakenBack (g : ℕ) (old new : Hosting) : Type 0 where
   pub waiting : new.waiting ≡ waiting_without old.waiting g
   pub named : IsForgotten g old.named new.named
-  pub followed : IsUnfollowed g old.followed new.followed
+  pub unheard : new.unheard ≡ old.unheard
   pub logs : new.logs ≡ logs_without g old.logs
 
 -- the network of a number is taken back, if lines have declared it, and nothing is given out; else that is the refusal

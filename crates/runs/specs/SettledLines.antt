@@ -1,26 +1,28 @@
 -- What is printed of a slot that has settled.
-use Rattle.std.specs.Prelude.{◌++◌, List, ◌∷◌, Option, Some, None, codes}
+use Rattle.std.specs.Prelude.{◌++◌, ℕ, List, ◌∷◌, Option, Some, None, codes}
 use Rattle.std.specs.List.{flat_map}
+use Rattle.protocol.specs.Networks.{HostedNode, Net}
+use Rattle.protocol.specs.Runs.{state_of}
+use Rattle.hoststep.specs.Externalized.{externalized_at}
+use Rattle.hoststep.specs.Logs.{Log}
 use Rattle.scripts.specs.Script.{Bytes}
 use Rattle.scripts.specs.Names.{text_of_name}
 use Rattle.scripts.specs.Values.{text_of_value}
-use Rattle.runs.specs.Emissions.{OpenSlot}
-use Rattle.runs.specs.declared.emissions.Speaker.{Speaker}
 
--- the value of a node, or `-` if it has none
+-- a value, or `-` if there is none
 abbrev pub text_of_decided : Option Bytes → Bytes
 text_of_decided None = codes "-"
 text_of_decided (Some v) = text_of_value v
 
--- a space (32), the name of a node, `=` (61) and what it has decided
-abbrev pub text_of_speaker : Speaker → Bytes
-text_of_speaker s = 32 ∷ (text_of_name s.name ++ 61 ∷ text_of_decided s.decided)
+-- a space (32), the name of a node, `=` (61) and what it has externalized at a slot
+abbrev pub text_of_decider : Net → ℕ → HostedNode → Bytes
+text_of_decider net slot h = 32 ∷ (text_of_name h.name ++ 61 ∷ text_of_decided (externalized_at net slot h.name))
 
--- the names of nodes with what they have decided, in order, each as ` NAME=VALUE`
-abbrev pub text_of_speakers : List Speaker → Bytes
-text_of_speakers speakers = flat_map text_of_speaker speakers
+-- nodes with what they have externalized at a slot, in order, each as ` NAME=VALUE`
+abbrev pub text_of_deciders : Net → ℕ → List HostedNode → Bytes
+text_of_deciders net slot nodes = flat_map (text_of_decider net slot) nodes
 
--- the line of an open slot that has settled
-abbrev pub settled_text : Option OpenSlot → Bytes
-settled_text None = codes "settled"
-settled_text (Some o) = codes "settled" ++ text_of_speakers o.speakers
+-- the line of a slot that has settled, by the journal of its network
+abbrev pub settled_text : Option Log → ℕ → Bytes
+settled_text None slot = codes "settled"
+settled_text (Some l) slot = codes "settled" ++ text_of_deciders (state_of l.config l.entries) slot l.config.nodes

@@ -52,11 +52,11 @@ pub data Submits : Submitting → List Bytes → Option Bytes → Submitting →
   submits : {old new : Submitting} {fields : List Bytes} (g : ℕ) (e : Event) → AsksOf fields g e
       → may_submit old e ≡ true → IsSubmitted g e old new → Submits old fields None new
 
--- lines may not ask that a slot settles
+-- what lines may ask for: no slot settles, and one is closed only if they may close slots
 abbrev pub no_settling : Bool → Allowed
 no_settling closing = record { settling = false; closing = closing }
 
--- a line is bad in a script that is submitted, in which no slot settles
+-- a line is bad in a script that is submitted, in which no slot settles and maybe none is closed
 abbrev pub RefusesToSubmit : Submitting → List Bytes → Type 0
 RefusesToSubmit old fields = RefusesAsked (no_settling old.closing) old.waiting old.named fields
 

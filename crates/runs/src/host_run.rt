@@ -1,37 +1,40 @@
 //! What runs the lines of a script of networks.
 
-ghost use Rattle.std.specs.Prelude.{◌≡◌, ◌<◌, ◌^◌, ◌∷◌, [], Err, IfOk, IfSome, OnOk, is_some, map, option_map, string_bytes};
-ghost use Rattle.types.specs.declared.event.Event.TheVariants.{Hear};
-ghost use Rattle.runs.specs.ByJournals.{KeptAreFound, LinesFollowJournals, LinesLeaveNothing, RunsFollowJournals, RunsLeaveNothing};
-ghost use Rattle.runs.specs.Followed.{handed_at, names_at, open_slot, waiting};
-ghost use Rattle.runs.specs.Hosting.{IsEventApplied, IsFinished, IsNetworkBegun, new_hosting};
+ghost use Rattle.std.specs.Prelude.{◌≡◌, Err, IfOk, OnOk, map, option_map, string_bytes};
+ghost use Rattle.world.specs.Worlds.{log_at};
+ghost use Rattle.runs.specs.ByJournals.{EmissionsStay, LinesFollowJournals, MarksNameEmissions, RunsFollowJournals};
+ghost use Rattle.runs.specs.Hosting.{IsFinished, IsNetworkBegun, new_hosting};
 ghost use Rattle.runs.specs.ServedNetworks.{IsTakenBack};
+ghost use Rattle.runs.specs.SettledLines.{settled_text};
 ghost use Rattle.runs.specs.Running.{BadLinesTellNothing, Does, IsLineCarriedOut, RefusesLine, printed_of};
-ghost use Rattle.runs.specs.Settling.{AreHandedOn, HandedOnIsCounted, HasSettled, HeardWaitsOn, IsHanded, IsHeardBy, others};
+ghost use Rattle.runs.specs.Settling.{HasSettled};
 ghost use Rattle.requests.specs.Telling.{HasNoNode, IsBadOrder, may_apply};
 ghost use Rattle.requests.specs.declared.order.Order.TheVariants as order;
 ghost use Rattle.requests.specs.declared.request.Request.TheVariants.{Apply, Settle};
 
-use crate::followed::turn_of;
+use crate::hearings::{hand_on_all, names_of, waiting_from};
 use crate::nets::Nets;
 use crate::outcome::Outcome;
 use crate::replies::{replies, reply};
+use crate::settled_lines::push_deciders;
+use crate::unheard::Unheard;
 use envstore::BoxShelf;
-use network::Emission;
+use hoststep::Given;
 use requests::{Order, Request, line_of_refusal, order_of};
 use scripts::{LineError, LineRunner};
 use std::alloc::{AllocError, Global};
 use std::marker::Model;
-use types::{Bytes, Event, NodeId, Out, Refusal};
+use types::{Bytes, Event, Refusal};
 use world::World;
 
 mod serving;
 
-/// The networks of one script: what their lines have declared, and the journals of those that an event has
-/// named.
+/// The networks of one script: what their lines have declared, what waits to be handed on, and the journals of those
+/// that an event has named.
 #[derive(Drop)]
 pub struct HostRun {
     nets: Nets,
+    unheard: Unheard,
     world: World<BoxShelf>,
 }
 
@@ -44,7 +47,7 @@ impl Model for HostRun {
 
     ghost coded = { Prim.hlevel (codes, members_code) };
 
-    ghost view = { λ run. record { waiting = run.nets.waiting; named = run.nets.named; followed = run.nets.followed; logs = run.world } };
+    ghost view = { λ run. record { waiting = run.nets.waiting; named = run.nets.named; unheard = run.unheard; logs = run.world } };
 }
 
 impl HostRun {
@@ -54,6 +57,7 @@ impl HostRun {
     {
         HostRun {
             nets: Nets::none(alloc),
+            unheard: Unheard::nothing(alloc),
             world: World::new(alloc),
         }
     }
@@ -173,7 +177,10 @@ impl HostRun {
             return Ok(Outcome::Answer(Err(Refusal::NoSuchNetwork)));
         }
         self.forget(number);
-        Ok(Outcome::Answer(Ok(Vec::new(alloc))))
+        Ok(Outcome::Answer(Ok(Given {
+            outs: Vec::new(alloc),
+            marks: Vec::new(alloc),
+        })))
     }
 
     /// Readies the network of a number for an event that names it: if it is declared and this is the first, it is
@@ -183,18 +190,6 @@ impl HostRun {
         ensures bad { result ≡ Err LineError.Bad → HasNoNode self.old.waiting number }
     {
         self.nets.begin(&mut self.world, number)
-    }
-
-    /// Puts an event to the network of a number, and keeps what settling needs of what it gives out.
-    fn apply(&mut self, number: u32, event: Event) -> Result<Result<Vec<Out>, Refusal>, AllocError>
-        ensures { IfOk result (λ answer. IsEventApplied number event answer self.old self.new) }
-    {
-        let turn = turn_of(&event);
-        let answer = self.world.apply(number, event);
-        if let Ok(outs) = &answer {
-            self.nets.followed.note(number, turn, outs)?;
-        }
-        Ok(answer)
     }
 
     /// Whether lines may ask the network of a number for this event.
@@ -214,7 +209,7 @@ impl HostRun {
         }
     }
 
-    /// Hands on what was emitted at a slot; answers the first refusal.
+    /// Hands on what waits at a slot; answers the first refusal.
     fn hand_on_waiting(
         &mut self,
         alloc: Global,
@@ -223,29 +218,22 @@ impl HostRun {
     ) -> Result<Option<Refusal>, AllocError>
         ensures { IfOk result (λ ended. HasSettled number slot self.old ended self.new) }
     {
-        let names = match self.names(number) {
-            Some(names) => Vec::from_slice(alloc, names)?,
+        let names = match self.world.journal(number) {
+            Some(journal) => {
+                if !journal.is_open(slot) {
+                    return Ok(Some(Refusal::SlotNotOpen));
+                }
+                names_of(alloc, journal.config())?
+            }
             None => return Ok(Some(Refusal::NoSuchNetwork)),
         };
-        if self.nets.followed.open_slot(number, slot).is_none() {
-            return Ok(Some(Refusal::SlotNotOpen));
+        let mut waiting = self.unheard.take(number, slot);
+        let (heard, ended) = hand_on_all(&mut self.world, number, slot, &names, &mut waiting)?;
+        let left = waiting_from(alloc, waiting, heard)?;
+        if !left.is_empty() {
+            self.unheard.put(number, slot, left)?;
         }
-        self.hand_on_all(number, slot, &names)
-    }
-
-    /// The hosted nodes of a network, ascending, if an event has named it after it was declared.
-    fn names(&self, number: u32) -> Option<&[NodeId]>
-        ensures { option_map (λ names. names.now) result ≡ names_at self.now.followed number }
-    {
-        self.nets.followed.names(number)
-    }
-
-    /// The first emission at a slot that has not been handed on.
-    fn first_waiting(&self, number: u32, slot: u64) -> Option<Emission>
-        ensures first { result ≡ waiting self.now.followed number slot }
-        ensures small { IfSome result (λ _. handed_at self.now.followed number slot < 2 ^ 63) }
-    {
-        self.nets.followed.first_waiting(number, slot)
+        Ok(ended)
     }
 
     /// What is printed of what came of a line that names the network of a number.
@@ -255,92 +243,29 @@ impl HostRun {
         number: u32,
         outcome: &Outcome,
     ) -> Result<Option<String>, AllocError>
-        ensures { IfOk result (λ text. option_map string_bytes text ≡ printed_of outcome.now number self.now.followed) }
+        ensures { IfOk result (λ text. option_map string_bytes text ≡ printed_of outcome.now (log_at self.now.logs number)) }
     {
         match outcome {
             Outcome::Declared => Ok(None),
             Outcome::Answer(answer) => Ok(Some(reply(alloc, answer)?)),
             Outcome::Answers(answers) => Ok(Some(replies(alloc, answers)?)),
             Outcome::Settled(_, Some(refusal)) => Ok(Some(line_of_refusal(alloc, *refusal)?)),
-            Outcome::Settled(slot, None) => {
-                Ok(Some(self.nets.followed.line_of_settled(alloc, number, *slot)?))
-            }
+            Outcome::Settled(slot, None) => Ok(Some(self.line_of_settled(alloc, number, *slot)?)),
         }
     }
 
-    /// Hands on each emission at a slot that waits, those that come meanwhile behind the others; answers the
-    /// first refusal.
-    fn hand_on_all(
-        &mut self,
-        number: u32,
-        slot: u64,
-        names: &[NodeId],
-    ) -> Result<Option<Refusal>, AllocError>
-        ensures { IfOk result (λ ended. AreHandedOn number slot names.now self.old ended self.new) }
+    /// The line of a slot that has settled.
+    fn line_of_settled(&self, alloc: Global, number: u32, slot: u64) -> Result<String, AllocError>
+        ensures { IfOk result (λ text. string_bytes text ≡ settled_text (log_at self.now.logs number) slot) }
     {
-        while let Some(emission) = self.first_waiting(number, slot) {
-            match self.hand_on(number, slot, names, &emission)? {
-                Some(refusal) => return Ok(Some(refusal)),
-                None => {}
+        let mut text = String::from_str(alloc, "settled")?;
+        match self.world.journal(number) {
+            Some(journal) => {
+                push_deciders(&mut text, journal, slot, journal.config().nodes())?;
+                Ok(text)
             }
+            None => Ok(text),
         }
-        Ok(None)
-    }
-
-    /// Has each other node hear an emission, ascending; answers the first refusal. Without one, the emission
-    /// has been handed on.
-    fn hand_on(
-        &mut self,
-        number: u32,
-        slot: u64,
-        names: &[NodeId],
-        emission: &Emission,
-    ) -> Result<Option<Refusal>, AllocError>
-        ensures { IfOk result (λ ended. IsHanded number slot emission.now names.now self.old ended self.new) }
-    {
-        match self.let_others_hear(number, slot, names, emission)? {
-            Some(refusal) => Ok(Some(refusal)),
-            None => {
-                self.nets.followed.hand_on(number, slot);
-                Ok(None)
-            }
-        }
-    }
-
-    /// Has each other node hear an emission, ascending; answers the first refusal.
-    fn let_others_hear(
-        &mut self,
-        number: u32,
-        slot: u64,
-        names: &[NodeId],
-        emission: &Emission,
-    ) -> Result<Option<Refusal>, AllocError>
-        ensures { IfOk result (λ ended. IsHeardBy number slot emission.now (others emission.now names.now) self.old ended self.new) }
-    {
-        for name in names {
-            match self.hear(number, slot, *name, emission)? {
-                Some(refusal) => return Ok(Some(refusal)),
-                None => {}
-            }
-        }
-        Ok(None)
-    }
-
-    /// Has a node hear an emission, unless it is its own; answers the refusal.
-    fn hear(
-        &mut self,
-        number: u32,
-        slot: u64,
-        node: NodeId,
-        emission: &Emission,
-    ) -> Result<Option<Refusal>, AllocError>
-        ensures { IfOk result (λ ended. IsHeardBy number slot emission.now (others emission.now (node ∷ [])) self.old ended self.new) }
-    {
-        if node.is_same(&emission.from) {
-            return Ok(None);
-        }
-        let answer = self.apply(number, hearing(slot, node, emission))?;
-        Ok(answer.err())
     }
 }
 
@@ -364,48 +289,18 @@ pub fn bad_lines_tell_nothing()
     ensures { BadLinesTellNothing }
 {}
 
-/// A law: what is kept of open slots, for lines that settle, is what the journals have. So it is before the
-/// first line, each line that is run keeps it, and so it is after the lines of a text, all of which were run.
+/// A law: the marks of an event that is applied name its emissions, then and as long as their slot is not closed. So a
+/// node that hears one by its mark gets it.
+#[tactic(auto, using(crate::proofs::MarkedEmissions::marks_name_emissions))]
+pub fn marks_name_emissions()
+    ensures then { MarksNameEmissions }
+    ensures later { EmissionsStay }
+{}
+
+/// A law: each emission that waits to be handed on is found in its network, and in a served network none waits. So it is
+/// before the first line, each line that is run keeps it, and so it is after the lines of a text, all of which were run.
 #[tactic(auto, using(crate::proofs::FollowedLaws::lines_follow_journals))]
-pub fn open_slots_follow_journals()
+pub fn waiting_emissions_are_found()
     ensures lines { LinesFollowJournals }
     ensures runs { RunsFollowJournals }
 {}
-
-/// A law: while the other nodes hear the emission that waits first at a slot, it goes on waiting first; so the
-/// one that is handed on then is the one that they heard.
-#[tactic(auto, using(crate::proofs::Handing::heard_waits_on))]
-pub fn emission_handed_on_was_heard()
-    ensures heard { HeardWaitsOn }
-    ensures counted { HandedOnIsCounted }
-{}
-
-/// A law: in a served network no emission waits between two lines. So it is before the first line, each line that is
-/// run keeps it, and so it is after the lines of a text, all of which were run. So after an event what waits is what it
-/// gave out, and that is what the others hear.
-#[tactic(auto, using(crate::proofs::Waiting::lines_leave_nothing))]
-pub fn served_networks_leave_nothing()
-    ensures lines { LinesLeaveNothing }
-    ensures runs { RunsLeaveNothing }
-{}
-
-/// A law: each emission that is kept of an open slot is found by its number among what its node has emitted there. It
-/// is the one that the entries of the journal emitted, and so the one that a node gets that hears it. This holds if
-/// what is kept of open slots is what the journals have.
-#[tactic(auto, using(crate::proofs::HeardByNumber::kept_are_found))]
-pub fn kept_emissions_are_found()
-    ensures { KeptAreFound }
-{}
-
-/// The event by which a node hears an emission.
-fn hearing(slot: u64, node: NodeId, emission: &Emission) -> Event
-    ensures { result ≡ Hear slot node emission.now.from emission.now.kind emission.now.number }
-{
-    Event::Hear {
-        slot,
-        node,
-        from: emission.from,
-        kind: emission.kind,
-        number: emission.number,
-    }
-}

@@ -7,20 +7,20 @@
 //! [`scripts::LineRunner`]s, to be run by `scripts::run_script` and its kin.
 #![tactic(auto)]
 
-mod emissions;
-mod followed;
+mod hearings;
 mod host_run;
 mod nets;
 mod networks;
 mod outcome;
 mod replies;
+mod settled_lines;
 mod submission_run;
 mod trace;
+mod unheard;
 mod unprinted_run;
 
 pub use host_run::{
-    HostRun, bad_lines_tell_nothing, emission_handed_on_was_heard, kept_emissions_are_found,
-    open_slots_follow_journals, served_networks_leave_nothing,
+    HostRun, bad_lines_tell_nothing, marks_name_emissions, waiting_emissions_are_found,
 };
 pub use replies::line_of_reply;
 pub use submission_run::{SubmissionRun, bad_lines_submit_nothing};

@@ -2,7 +2,6 @@
 
 ghost use Rattle.std.specs.Prelude.{◌≡◌, [], Err, IfOk, None, OnOk, false, true};
 ghost use Rattle.requests.specs.Outlines.{IsRevised, bare_outline, waiting_at, waiting_with, waiting_without, with_node, with_roster};
-ghost use Rattle.runs.specs.Followed.{IsUnfollowed, also_followed};
 ghost use Rattle.runs.specs.Joining.{HasJoined, HaveJoined, NetworkIsNamed, IsConfigTaken};
 ghost use Rattle.requests.specs.Naming.{IsForgotten, is_in, named_with, new_named, served_with};
 ghost use Rattle.requests.specs.Preparing.{Prepares};
@@ -10,7 +9,6 @@ ghost use Rattle.requests.specs.Taking.{is_declared, takes};
 ghost use Rattle.requests.specs.declared.request.Declaration.TheVariants.{Net, Node, Roster};
 ghost use Rattle.requests.specs.Telling.{HasNoNode, is_unserved};
 
-use crate::followed::Followed;
 use crate::networks::JoinsNetworks;
 use configuration::{Budgets, NetConfig, Reservation};
 use requests::{Declaration, Named, Outline, Waiting};
@@ -27,7 +25,6 @@ pub(crate) struct Nets {
     alloc: Global,
     pub waiting: Waiting,
     pub named: Named,
-    pub followed: Followed,
 }
 
 impl Nets {
@@ -35,13 +32,11 @@ impl Nets {
     pub fn none(alloc: Global) -> Nets
         ensures waiting { result.waiting ≡ [] }
         ensures named { result.named ≡ new_named }
-        ensures followed { result.followed ≡ [] }
     {
         Nets {
             alloc,
             waiting: Waiting::none(alloc),
             named: Named::none(alloc),
-            followed: Followed::none(alloc),
         }
     }
 
@@ -51,7 +46,6 @@ impl Nets {
         ensures taken { OnOk result (takes self.old.waiting self.old.named number declaration ≡ true) }
         ensures bad { result ≡ Err LineError.Bad → takes self.old.waiting self.old.named number declaration ≡ false }
         ensures named { self.new.named ≡ self.old.named }
-        ensures followed { self.new.followed ≡ self.old.followed }
     {
         match declaration {
             Declaration::Net(budgets) => self.declare(number, budgets),
@@ -68,7 +62,6 @@ impl Nets {
         ensures taken { OnOk result (takes self.old.waiting self.old.named number (Net budgets) ≡ true) }
         ensures bad { result ≡ Err LineError.Bad → takes self.old.waiting self.old.named number (Net budgets) ≡ false }
         ensures named { self.new.named ≡ self.old.named }
-        ensures followed { self.new.followed ≡ self.old.followed }
     {
         if self.waiting.count() + self.named.count() >= MAX_NETWORKS
             || self.named.is_running(number)
@@ -85,7 +78,6 @@ impl Nets {
         ensures taken { OnOk result (takes self.old.waiting self.old.named number (Net budgets) ≡ true) }
         ensures bad { result ≡ Err LineError.Bad → takes self.old.waiting self.old.named number (Net budgets) ≡ false }
         ensures named { OnOk result (self.new.named ≡ served_with number self.old.named) }
-        ensures followed { self.new.followed ≡ self.old.followed }
     {
         self.declare(number, budgets)?;
         self.named.serve(number)?;
@@ -117,11 +109,9 @@ impl Nets {
     pub fn forget(&mut self, number: u32)
         ensures waiting { self.new.waiting ≡ waiting_without self.old.waiting number }
         ensures named { IsForgotten number self.old.named self.new.named }
-        ensures followed { IsUnfollowed number self.old.followed self.new.followed }
     {
         let _outline = self.waiting.take(number);
         self.named.forget(number);
-        self.followed.forget(number);
     }
 
     /// Adds a node to a network. It is a bad line if the network is not declared, or has a node of that name or 256
@@ -131,7 +121,6 @@ impl Nets {
         ensures taken { OnOk result (takes self.old.waiting self.old.named number (Node name slices) ≡ true) }
         ensures bad { result ≡ Err LineError.Bad → takes self.old.waiting self.old.named number (Node name slices) ≡ false }
         ensures named { self.new.named ≡ self.old.named }
-        ensures followed { self.new.followed ≡ self.old.followed }
     {
         if self.named.has(number) {
             return Err(LineError::Bad);
@@ -148,7 +137,6 @@ impl Nets {
         ensures taken { OnOk result (takes self.old.waiting self.old.named number (Roster roster) ≡ true) }
         ensures bad { result ≡ Err LineError.Bad → takes self.old.waiting self.old.named number (Roster roster) ≡ false }
         ensures named { self.new.named ≡ self.old.named }
-        ensures followed { self.new.followed ≡ self.old.followed }
     {
         if self.named.has(number) {
             return Err(LineError::Bad);
@@ -163,14 +151,13 @@ impl Nets {
         networks: &mut N,
         number: u32,
     ) -> Result<(), LineError>
-        ensures named { OnOk result (NetworkIsNamed (also_followed N.joins) number self.old.waiting self.new.waiting (networks.old, self.old.followed) (networks.new, self.new.followed)
+        ensures named { OnOk result (NetworkIsNamed N.joins number self.old.waiting self.new.waiting networks.old networks.new
             × (self.new.named ≡ named_with number (waiting_at self.old.waiting number) self.old.named)) }
         ensures bad { result ≡ Err LineError.Bad → HasNoNode self.old.waiting number }
     {
         let Some(config) = self.name(number)? else {
             return Ok(());
         };
-        self.followed.follow(&config)?;
         networks.join(self.alloc, config)?;
         Ok(())
     }
@@ -191,7 +178,6 @@ impl Nets {
     fn name(&mut self, number: u32) -> Result<Option<NetConfig>, LineError>
         ensures taken { IfOk result (λ named.
             IsConfigTaken number (waiting_at self.old.waiting number) named self.old.waiting self.new.waiting) }
-        ensures followed { self.new.followed ≡ self.old.followed }
         ensures named { OnOk result (self.new.named ≡ named_with number (waiting_at self.old.waiting number) self.old.named) }
         ensures bad { result ≡ Err LineError.Bad → HasNoNode self.old.waiting number }
     {

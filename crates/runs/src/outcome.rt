@@ -4,8 +4,9 @@ ghost use Rattle.std.specs.Prelude.{◌≢◌, All, Err, OnOk, Some};
 ghost use Rattle.types.specs.declared.event.Refusal.TheVariants.{NoMemory};
 ghost use Rattle.runs.specs.Unprinted.{HadMemory};
 
+use hoststep::Given;
 use std::alloc::AllocError;
-use types::{Out, Refusal};
+use types::Refusal;
 
 /// What comes of a line, before anything is printed.
 #[derive(Drop)]
@@ -13,9 +14,9 @@ pub(crate) enum Outcome {
     /// A declaration is taken.
     Declared,
     /// The answer to an event. A network that is taken back is answered as an event that gives out nothing.
-    Answer(Result<Vec<Out>, Refusal>),
+    Answer(Result<Given, Refusal>),
     /// The answers of all nodes of a network, to which bytes came.
-    Answers(Vec<Result<Vec<Out>, Refusal>>),
+    Answers(Vec<Result<Given, Refusal>>),
     /// The slot of this number was to settle, and the refusal ended that, if there is one.
     Settled(u64, Option<Refusal>),
 }
@@ -46,7 +47,7 @@ pub(crate) fn but_for_memory(refusal: Option<Refusal>) -> Result<(), AllocError>
 }
 
 /// Lets all answers pass but a refusal for want of memory, which is an error.
-fn had_memory(answers: &[Result<Vec<Out>, Refusal>]) -> Result<(), AllocError>
+fn had_memory(answers: &[Result<Given, Refusal>]) -> Result<(), AllocError>
     ensures { OnOk result (All (λ r. r ≢ Err NoMemory) answers.now) }
 {
     let [answer, others @ ..] = answers else {

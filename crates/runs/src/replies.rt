@@ -7,17 +7,18 @@ ghost use Rattle.requests.specs.Replies.{IsReply};
 ghost use Rattle.runs.specs.ReplyLines.{answer_of, line_behind, reply_lines};
 
 use crowds::Reply;
+use hoststep::Given;
 use requests::{line_of_outs, line_of_refusal};
 use std::alloc::{AllocError, Global};
-use types::{Out, Refusal};
+use types::Refusal;
 
 /// The line of an answer: `ok` followed by what the event gives out, or `refused` with the number and the
 /// name of the refusal. Behind these stands the number of the fault if bytes are no envelope.
-pub(crate) fn reply(alloc: Global, answer: &Result<Vec<Out>, Refusal>) -> Result<String, AllocError>
+pub(crate) fn reply(alloc: Global, answer: &Result<Given, Refusal>) -> Result<String, AllocError>
     ensures { IfOk result (λ text. IsReply (items_of answer.now) (string_bytes text)) }
 {
     match answer {
-        Ok(outs) => line_of_outs(alloc, outs),
+        Ok(given) => line_of_outs(alloc, &given.outs),
         Err(refusal) => line_of_refusal(alloc, *refusal),
     }
 }
@@ -25,7 +26,7 @@ pub(crate) fn reply(alloc: Global, answer: &Result<Vec<Out>, Refusal>) -> Result
 /// The lines of answers, with a line feed between each and the next.
 pub(crate) fn replies(
     alloc: Global,
-    answers: &[Result<Vec<Out>, Refusal>],
+    answers: &[Result<Given, Refusal>],
 ) -> Result<String, AllocError>
     ensures { IfOk result (λ text. string_bytes text ≡ reply_lines answers.now) }
 {
@@ -41,7 +42,7 @@ pub(crate) fn replies(
 fn push_replies(
     alloc: Global,
     text: &mut String,
-    answers: &[Result<Vec<Out>, Refusal>],
+    answers: &[Result<Given, Refusal>],
 ) -> Result<(), AllocError>
     ensures { OnOk result (string_bytes text.new ≡ string_bytes text.old ++ flat_map line_behind answers.now) }
 {
@@ -55,7 +56,7 @@ fn push_replies(
 fn push_reply(
     alloc: Global,
     text: &mut String,
-    answer: &Result<Vec<Out>, Refusal>,
+    answer: &Result<Given, Refusal>,
 ) -> Result<(), AllocError>
     ensures { OnOk result (string_bytes text.new ≡ string_bytes text.old ++ line_behind answer.now) }
 {

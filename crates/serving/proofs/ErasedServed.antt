@@ -11,9 +11,9 @@ use Rattle.protocol.specs.Networks.Reading.{Fault, Read}
 use Rattle.protocol.specs.Networks.Reply.{Done, Refused}
 use Rattle.protocol.specs.Networks.Step.{BallotTimerFires, Closes, Delivers, Hears, NominationTimerFires, Opens, Proposes, Reslices}
 use Rattle.configuration.specs.Configs.{names_of}
-use Rattle.network.specs.Marks.{emitted_at, emitted_before, marks_in, numbers_by_kind, slot_and_node_of}
+use Rattle.network.specs.Marks.{emitted_at, emitted_before, marks_in, named, numbers_by_kind, slot_and_node_of}
 use Rattle.network.specs.Standing.{IsDeliveryThatTakesMemory}
-use Rattle.live.specs.Serving.{AreHeard, Ending, Hearing, IsServed, IsTried, ToldReply, all_hearings, is_left, is_stale, named, slot_at, step_of_hearing, told_at, told_of, waits_after}
+use Rattle.live.specs.Serving.{AreHeard, Ending, Hearing, IsServed, IsTried, ToldReply, all_hearings, is_left, is_stale, slot_at, step_of_hearing, told_at, told_of, waits_after}
 use Rattle.live.specs.Serving.AreHeard.{all_heard, one_heard}
 use Rattle.live.specs.Serving.Ending.{IsDone, IsRefused}
 use Rattle.live.specs.Serving.IsServed.{done, refused}

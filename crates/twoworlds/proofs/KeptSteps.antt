@@ -1,19 +1,17 @@
--- What is kept of a run, entry after entry, and where two runs part.
-use Rattle.std.proofs.Common.{◌≡◌, ◌≢◌, ℕ, ◌+◌, ◌<◌, ◌≤◌, Bool, true, false, ◌&&◌, ◌==◌, inl, inr, List, [], ◌∷◌, ◌++◌, length, take, drop, slice_get, Option, Some, None, option_map, if◌then◌else◌, refl, sym, ◌∙◌, ap, arith, append-nil}
-use Rattle.std.proofs.lemmas.Bool.{cases_lt}
-use Rattle.std.proofs.lemmas.List.{drop_all, take_all, take-append-drop}
-use Rattle.std.proofs.lemmas.List.Elements.{filter_map-append}
-use Rattle.std.proofs.lemmas.Option.{slice_get_within}
+-- What is kept of a run, entry after entry, and the numbers of the entries that are kept.
+use Rattle.std.proofs.Common.{◌≡◌, ℕ, zero, suc, ◌+◌, ◌<◌, ◌≤◌, Bool, true, false, ◌&&◌, ◌==◌, List, [], ◌∷◌, ◌++◌, length, map, filter, cond, take, slice_get, Option, Some, None, option_map, MatchOption, if◌then◌else◌, refl, sym, ◌∙◌, ap, subst, arith}
+use Rattle.std.proofs.lemmas.List.{length-map, map-append, take_all}
+use Rattle.std.proofs.lemmas.List.Elements.{filter-append, filter_map-append}
+use Rattle.std.proofs.lemmas.Option.{slice_get-map}
+use Rattle.std.specs.List.{range_with_len}
 use Rattle.protocol.specs.Sets.{Names}
 use Rattle.protocol.specs.Networks.{Step}
 use Rattle.protocol.specs.Networks.Reading.{Read, Fault}
 use Rattle.protocol.specs.Networks.Step.{Opens, Closes, Proposes, Delivers, Hears, NominationTimerFires, BallotTimerFires, Reslices}
 use Rattle.protocol.specs.Hosts.{Entry}
 use Rattle.protocol.specs.Isolation.{KeptStep, kept_step, kept_of, when_kept}
-use Rattle.protocol.specs.Verdicts.{IsFirstDifference}
-use Rattle.closure.proofs.Places.{at_seam, front_at, rest_at, there_is}
-use Rattle.closure.proofs.SideBySide.{IsAgreed, agreed_at_first, agreed_more, parts_at_end, parts_at_other_end, parts_unlike}
-use Rattle.twoworlds.specs.Steps.{event_at, is_kept_step, is_kept_in, core, IsNextKept, IsKeptEntry}
+use Rattle.closure.proofs.Places.{front_at, past_end, there_is}
+use Rattle.twoworlds.specs.Steps.{IsKeptEntry, core, event_at, is_kept_in, is_kept_step, kept_numbers}
 
 when_is : (b : Bool) (k : KeptStep) → when_kept b k ≡ (if b then Some k else None)
 when_is true k = refl
@@ -30,11 +28,22 @@ kept_is R i (NominationTimerFires j u r) = when_is ((j == i) && R u) (core (Nomi
 kept_is R i (BallotTimerFires j u n) = when_is ((j == i) && R u) (core (BallotTimerFires j u n))
 kept_is R i (Reslices j u q) = when_is ((j == i) && R u) (core (Reslices j u q))
 
-pub core_at : (run : List Entry) (n : ℕ) (x : Entry) → slice_get run n ≡ Some x → option_map core (event_at run n) ≡ Some (core x.event)
-core_at run n x e = ap (λ (o : Option Entry). option_map core (option_map (λ (y : Entry). y.event) o)) e
+-- ---- what passes a test, of ascending numbers
+range_more : (a n b : ℕ) → a + n ≡ b → range_with_len a (suc n) ≡ range_with_len a n ++ b ∷ []
+range_more a zero b e = let s : a ≡ b = omega (arith, e) in ap (λ k. k ∷ []) s
+range_more a (suc n) b e = ap (λ (ks : List ℕ). a ∷ ks) (range_more (a + 1) n b (omega (arith, e)))
 
-is_one : (z w : KeptStep) → Some z ≡ Some w → z ≡ w
-is_one z w e = cc
+-- the number at a place: it passes, and so many before it do
+passed_at : (p : ℕ → Bool) (n a place k : ℕ) → slice_get (filter p (range_with_len a n)) place ≡ Some k → (d : ℕ) × (k ≡ a + d) × (d < n) × (p k ≡ true) × (length (filter p (range_with_len a d)) ≡ place)
+passed_at p zero a place k e = cc
+passed_at p (suc n) a place k e = go (p a) refl place e (λ m f. passed_at p n (a + 1) m k f)
+  where
+    go : (b : Bool) → p a ≡ b → (m : ℕ) → slice_get (cond b (a ∷ filter p (range_with_len (a + 1) n)) (filter p (range_with_len (a + 1) n))) m ≡ Some k
+        → ((j : ℕ) → slice_get (filter p (range_with_len (a + 1) n)) j ≡ Some k → (d : ℕ) × (k ≡ (a + 1) + d) × (d < n) × (p k ≡ true) × (length (filter p (range_with_len (a + 1) d)) ≡ j))
+        → (d : ℕ) × (k ≡ a + d) × (d < suc n) × (p k ≡ true) × (length (filter p (range_with_len a d)) ≡ m)
+    go true q zero f ih = let same : a ≡ k = cc in (0, omega (arith, same), omega arith, subst (λ j. p j ≡ true) same q, refl)
+    go true q (suc m) f ih = let r = ih m f in let s = r.1 in let l = r.2 in (suc r.0, omega (arith, s), omega (arith, l), r.3, ap (λ b. length (cond b (a ∷ filter p (range_with_len (a + 1) r.0)) (filter p (range_with_len (a + 1) r.0)))) q ∙ ap suc r.4)
+    go false q m f ih = let r = ih m f in let s = r.1 in let l = r.2 in (suc r.0, omega (arith, s), omega (arith, l), r.3, ap (λ b. length (cond b (a ∷ filter p (range_with_len (a + 1) r.0)) (filter p (range_with_len (a + 1) r.0)))) q ∙ r.4)
 
 module _ (R : Names) (i : ℕ) where
   kept_head : (x : Entry) (xs : List Entry) (b : Bool) → is_kept_step R i x.event ≡ b → kept_of R i (x ∷ xs) ≡ (if b then core x.event ∷ kept_of R i xs else kept_of R i xs)
@@ -42,127 +51,75 @@ module _ (R : Names) (i : ℕ) where
   kept_head x xs true e = let k : kept_step R i x.event ≡ Some (core x.event) = kept_is R i x.event ∙ ap (λ b. if b then Some (core x.event) else None) e in rw k refl
   kept_head x xs false e = let k : kept_step R i x.event ≡ None = kept_is R i x.event ∙ ap (λ b. if b then Some (core x.event) else None) e in rw k refl
 
-  pub kept_skip : (run : List Entry) (n : ℕ) (x : Entry) → slice_get run n ≡ Some x → is_kept_step R i x.event ≡ false → kept_of R i (drop n run) ≡ kept_of R i (drop (n + 1) run)
-  kept_skip run n x e h = ap (λ (ys : List Entry). kept_of R i ys) (rest_at run n x e) ∙ kept_head x (drop (n + 1) run) false h
-
-  pub kept_next : (run : List Entry) (from n : ℕ) (x : Entry) → from ≤ n → slice_get run n ≡ Some x → is_kept_step R i x.event ≡ true → kept_of R i (drop from run) ≡ kept_of R i (drop n run) → IsNextKept R i run from n
-  kept_next run from n x l e h same = record {
-    inside = slice_get_within run n x e;
-    after = l;
-    splits = λ y q. let is : x ≡ y = one (sym e ∙ q) in
-        same ∙ (ap (λ (ys : List Entry). kept_of R i ys) (rest_at run n x e) ∙ (kept_head x (drop (n + 1) run) true h ∙ ap (λ (z : Entry). core z.event ∷ kept_of R i (drop (n + 1) run)) is));
-  }
-    where
-      one : {y : Entry} → Some x ≡ Some y → x ≡ y
-      one q = cc
-
-  pub kept_nothing : (run : List Entry) (n : ℕ) → length run ≤ n → kept_of R i (drop n run) ≡ []
+  kept_at_first : (run : List Entry) → kept_of R i (take 0 run) ≡ []
   unfolding kept_of
-  kept_nothing run n l = ap (λ (ys : List Entry). kept_of R i ys) (drop_all n run l)
+  kept_at_first run = refl
 
-  -- ---- by number
-  here_is : (run : List Entry) (n : ℕ) (x : Entry) → slice_get run n ≡ Some x → (b : Bool) → is_kept_in R i (event_at run n) ≡ b → is_kept_step R i x.event ≡ b
-  here_is run n x e b h = ap (λ (o : Option Entry). is_kept_in R i (option_map (λ (y : Entry). y.event) o)) (sym e) ∙ h
+  module _ (run : List Entry) where
+    abbrev is_here : ℕ → Bool
+    is_here n = is_kept_in R i (event_at run n)
 
-  pub skip_at : (run : List Entry) (n : ℕ) → n < length run → is_kept_in R i (event_at run n) ≡ false → kept_of R i (drop n run) ≡ kept_of R i (drop (n + 1) run)
-  skip_at run n l h = let p = there_is run n l in kept_skip run n p.0 p.1 (here_is run n p.0 p.1 false h)
+    abbrev at : ℕ → Option KeptStep
+    at n = option_map core (event_at run n)
 
-  pub next_at : (run : List Entry) (from n : ℕ) → from ≤ n → n < length run → is_kept_in R i (event_at run n) ≡ true → kept_of R i (drop from run) ≡ kept_of R i (drop n run) → IsNextKept R i run from n
-  next_at run from n f l h same = let p = there_is run n l in kept_next run from n p.0 f p.1 (here_is run n p.0 p.1 true h) same
+    -- ---- one entry more
+    module _ (n : ℕ) (x : Entry) (there : slice_get run n ≡ Some x) where
+      step_is : is_kept_step R i x.event ≡ is_here n
+      step_is = ap (λ (o : Option Entry). is_kept_in R i (option_map (λ (y : Entry). y.event) o)) (sym there)
 
-  -- ---- so many kept steps before an entry
-  front_is : (run : List Entry) (n : ℕ) (x : Entry) → slice_get run n ≡ Some x → kept_of R i (take (n + 1) run) ≡ kept_of R i (take n run) ++ kept_of R i (x ∷ [])
-  unfolding kept_of
-  front_is run n x e =
-      ap (λ (ys : List Entry). kept_of R i ys) (front_at run n x e)
-      ∙ filter_map-append (λ (y : Entry). kept_step R i y.event) (take n run) (x ∷ [])
+      at_is : at n ≡ Some (core x.event)
+      at_is = ap (λ (o : Option Entry). option_map core (option_map (λ (y : Entry). y.event) o)) there
 
-  nothing_kept : kept_of R i [] ≡ []
-  unfolding kept_of
-  nothing_kept = refl
+      more : kept_of R i (take (n + 1) run) ≡ kept_of R i (take n run) ++ (if is_here n then core x.event ∷ [] else [])
+      unfolding kept_of
+      more =
+          ap (λ (ys : List Entry). kept_of R i ys) (front_at run n x there)
+          ∙ filter_map-append (λ (y : Entry). kept_step R i y.event) (take n run) (x ∷ [])
+          ∙ ap (λ (ys : List KeptStep). kept_of R i (take n run) ++ ys) (kept_head x [] (is_here n) step_is)
 
-  count_one : (xs ys : List KeptStep) → length (xs ++ ys) ≡ length xs + length ys
-  count_one [] ys = omega arith
-  count_one (z ∷ zs) ys = let r = count_one zs ys in omega arith
+      one_more : map Some (kept_of R i (take n run)) ≡ map at (filter is_here (range_with_len 0 n)) → map Some (kept_of R i (take (n + 1) run)) ≡ map at (filter is_here (range_with_len 0 (suc n)))
+      one_more was =
+          ap (map Some) more ∙ map-append Some (kept_of R i (take n run)) (if is_here n then core x.event ∷ [] else [])
+          ∙ (λ j. was j ++ go (is_here n) j)
+          ∙ sym (ap (λ (ks : List ℕ). map at (filter is_here ks)) (range_more 0 n n (omega arith)) ∙ ap (map at) (filter-append is_here (range_with_len 0 n) (n ∷ [])) ∙ map-append at (filter is_here (range_with_len 0 n)) (filter is_here (n ∷ [])))
+        where
+          go : (b : Bool) → map Some (if b then core x.event ∷ [] else []) ≡ map at (cond b (n ∷ []) [])
+          go true = ap (λ (o : Option KeptStep). o ∷ []) (sym at_is)
+          go false = refl
 
-  pub counts_at_first : (run : List Entry) → 0 ≡ length (kept_of R i (take 0 run))
-  unfolding kept_of
-  counts_at_first run = refl
+    kept_below : (n : ℕ) → n ≤ length run → map Some (kept_of R i (take n run)) ≡ map at (filter is_here (range_with_len 0 n))
+    kept_below zero l = ap (map Some) (kept_at_first run)
+    kept_below (suc n) l = let p = there_is run n (omega (arith, l)) in let next : suc n ≡ n + 1 = omega arith in
+        ap (λ m. map Some (kept_of R i (take m run))) next ∙ one_more n p.0 p.1 (kept_below n (omega (arith, l)))
 
-  pub counts_one : (run : List Entry) (n before : ℕ) → n < length run → is_kept_in R i (event_at run n) ≡ true → before ≡ length (kept_of R i (take n run)) → before + 1 ≡ length (kept_of R i (take (n + 1) run))
-  counts_one run n before l h was =
-      let p = there_is run n l in
-      let one : kept_of R i (p.0 ∷ []) ≡ core p.0.event ∷ [] = kept_head p.0 [] true (here_is run n p.0 p.1 true h) ∙ ap (λ (ys : List KeptStep). core p.0.event ∷ ys) nothing_kept in
-      let now = ap (λ (ys : List KeptStep). length ys) (front_is run n p.0 p.1 ∙ ap (λ (ys : List KeptStep). kept_of R i (take n run) ++ ys) one) in
-      let sum = count_one (kept_of R i (take n run)) (core p.0.event ∷ []) in
-      omega (arith, was, now, sum)
+    pub kept_are : map Some (kept_of R i run) ≡ map at (kept_numbers R i run)
+    kept_are = ap (λ (ys : List Entry). map Some (kept_of R i ys)) (sym (take_all (length run) run (omega arith))) ∙ kept_below (length run) (omega arith)
 
-  pub counts_none : (run : List Entry) (n before : ℕ) → n < length run → is_kept_in R i (event_at run n) ≡ false → before ≡ length (kept_of R i (take n run)) → before ≡ length (kept_of R i (take (n + 1) run))
-  counts_none run n before l h was =
-      let p = there_is run n l in
-      let none : kept_of R i (p.0 ∷ []) ≡ [] = kept_head p.0 [] false (here_is run n p.0 p.1 false h) ∙ nothing_kept in
-      was ∙ sym (ap (λ (ys : List KeptStep). length ys) (front_is run n p.0 p.1 ∙ (ap (λ (ys : List KeptStep). kept_of R i (take n run) ++ ys) none ∙ append-nil (kept_of R i (take n run)))))
+    so_many : (n : ℕ) → n ≤ length run → length (kept_of R i (take n run)) ≡ length (filter is_here (range_with_len 0 n))
+    so_many n l = sym (length-map (kept_of R i (take n run)) Some) ∙ (ap (λ (os : List (Option KeptStep)). length os) (kept_below n l) ∙ length-map (filter is_here (range_with_len 0 n)) at)
 
-  whole_is : (run : List Entry) (n : ℕ) → kept_of R i run ≡ kept_of R i (take n run) ++ kept_of R i (drop n run)
-  unfolding kept_of
-  whole_is run n = ap (λ (ys : List Entry). kept_of R i ys) (sym (take-append-drop n run)) ∙ filter_map-append (λ (y : Entry). kept_step R i y.event) (take n run) (drop n run)
-
-  pub counted_there : (run : List Entry) (n place : ℕ) → n < length run → is_kept_in R i (event_at run n) ≡ true → place ≡ length (kept_of R i (take n run)) → IsKeptEntry R i run place n
-  counted_there run n place l h was =
-      let p = there_is run n l in
-      let is = here_is run n p.0 p.1 true h in
-      let rest : kept_of R i (drop n run) ≡ core p.0.event ∷ kept_of R i (drop (n + 1) run) = ap (λ (ys : List Entry). kept_of R i ys) (rest_at run n p.0 p.1) ∙ kept_head p.0 (drop (n + 1) run) true is in
-      let seam = at_seam (kept_of R i (take n run)) (core p.0.event ∷ kept_of R i (drop (n + 1) run)) in
-      record {
-        entry = p.0;
-        there = p.1;
-        concerns = is;
-        before = sym was;
-        step = ap (λ k. slice_get (kept_of R i run) k) was
-            ∙ (ap (λ (ys : List KeptStep). slice_get ys (length (kept_of R i (take n run)))) (whole_is run n ∙ ap (λ (ys : List KeptStep). kept_of R i (take n run) ++ ys) rest)
-            ∙ (seam ∙ sym (kept_is R i p.0.event ∙ ap (λ b. if b then Some (core p.0.event) else None) is)));
-      }
-
-  pub one_less : (a b : ℕ) → a ≤ b → a ≢ b → a + 1 ≤ b
-  one_less a b l n = elim (cases_lt a b) [ inl k ↦ omega arith | inr k ↦ absurd (n (omega arith)) ]
-
-  pub counted_all : (run : List Entry) (n before place : ℕ) → length run ≤ n → before ≡ length (kept_of R i (take n run)) → before ≤ place → length (kept_of R i run) ≤ place
-  counted_all run n before place l was few = let all = ap (λ (ys : List Entry). length (kept_of R i ys)) (take_all n run l) in omega (arith, was, all, few)
-
-  -- ---- two runs side by side
-  -- what is kept of a run from a number on
-  abbrev pub kept_from : List Entry → ℕ → List KeptStep
-  kept_from run n = kept_of R i (drop n run)
-
-  -- the kept steps before these numbers are the same, and this many
-  abbrev pub AreAgreed : List Entry → List Entry → ℕ → ℕ → ℕ → Type 0
-  AreAgreed one other here there place = IsAgreed (kept_from one) (kept_from other) (length one) (length other) here there place
-
-  pub agreed_before : (one other : List Entry) → AreAgreed one other 0 0 0
-  agreed_before one other = agreed_at_first (kept_from one) (kept_from other) (length one) (length other)
-
-  module _ (one other : List Entry) (here there place : ℕ) (way : AreAgreed one other here there place) where
-    module _ (k m : ℕ) (a : IsNextKept R i one here k) (b : IsNextKept R i other there m) where
-      pub agreed_on : option_map core (event_at one k) ≡ option_map core (event_at other m) → AreAgreed one other (k + 1) (m + 1) (place + 1)
-      agreed_on same =
-          let x = there_is one k a.inside in
-          let y = there_is other m b.inside in
-          agreed_more (kept_from one) (kept_from other) (length one) (length other) here there place way k m (core x.0.event) (core y.0.event) a.after a.inside b.inside (a.splits x.0 x.1) (b.splits y.0 y.1)
-          (is_one (core x.0.event) (core y.0.event) (sym (core_at one k x.0 x.1) ∙ (same ∙ core_at other m y.0 y.1)))
-
-      pub parted_at : option_map core (event_at one k) ≢ option_map core (event_at other m) → IsFirstDifference (kept_of R i one) (kept_of R i other) place
-      parted_at unlike =
-          let x = there_is one k a.inside in
-          let y = there_is other m b.inside in
-          parts_unlike (kept_from one) (kept_from other) (length one) (length other) here there place way (core x.0.event) (core y.0.event) (kept_from one (k + 1)) (kept_from other (m + 1)) (a.splits x.0 x.1) (b.splits y.0 y.1)
-          (λ e. unlike (core_at one k x.0 x.1 ∙ (ap (λ (z : KeptStep). Some z) e ∙ sym (core_at other m y.0 y.1))))
-
-    pub ended_there : (k : ℕ) → IsNextKept R i one here k → kept_from other there ≡ [] → IsFirstDifference (kept_of R i one) (kept_of R i other) place
-    ended_there k a none =
-        let x = there_is one k a.inside in
-        parts_at_end (kept_from one) (kept_from other) (length one) (length other) here there place way (core x.0.event) (kept_from one (k + 1)) (a.splits x.0 x.1) none
-
-    pub ended_here : (m : ℕ) → IsNextKept R i other there m → kept_from one here ≡ [] → IsFirstDifference (kept_of R i one) (kept_of R i other) place
-    ended_here m b none =
-        let y = there_is other m b.inside in
-        parts_at_other_end (kept_from one) (kept_from other) (length one) (length other) here there place way (core y.0.event) (kept_from other (m + 1)) (b.splits y.0 y.1) none
+    -- ---- the entry at a place among the kept steps
+    pub entry_is : (place : ℕ) (o : Option ℕ) → option_map (λ k. k) o ≡ slice_get (kept_numbers R i run) place → MatchOption o (length (kept_of R i run) ≤ place) (IsKeptEntry R i run place)
+    entry_is place None e =
+        let all = past_end (kept_numbers R i run) place (sym e) in
+        let many = ap (λ (ys : List Entry). length (kept_of R i ys)) (sym (take_all (length run) run (omega arith))) ∙ so_many (length run) (omega arith) in
+        omega (arith, all, many)
+    entry_is place (Some k) e =
+        let r = passed_at is_here (length run) 0 place k (sym e) in
+        let same : r.0 ≡ k = let s = r.1 in omega (arith, s) in
+        let inside : k < length run = let l = r.2 in omega (arith, l, same) in
+        let x = there_is run k inside in
+        let is : is_kept_step R i x.0.event ≡ true = step_is k x.0 x.1 ∙ r.3 in
+        record {
+          entry = x.0;
+          there = x.1;
+          concerns = is;
+          before = so_many k (omega (arith, inside)) ∙ (ap (λ d. length (filter is_here (range_with_len 0 d))) (sym same) ∙ r.4);
+          step = one (slice_get (kept_of R i run) place) (core x.0.event) (sym (slice_get-map Some (kept_of R i run) place)
+              ∙ (ap (λ (os : List (Option KeptStep)). slice_get os place) kept_are ∙ (slice_get-map at (kept_numbers R i run) place ∙ (ap (option_map at) (sym e) ∙ ap Some (at_is k x.0 x.1)))))
+              ∙ sym (kept_is R i x.0.event ∙ ap (λ b. if b then Some (core x.0.event) else None) is);
+        }
+      where
+        one : (p : Option KeptStep) (z : KeptStep) → option_map Some p ≡ Some (Some z) → p ≡ Some z
+        one None z q = cc
+        one (Some y) z q = cc

@@ -1,6 +1,7 @@
 -- Which steps of a run are kept, what is kept of them, and whose they are: the definitions of kept steps and outs, cut
 -- in two.
-use Rattle.std.specs.Prelude.{◌≡◌, ℕ, ◌+◌, ◌<◌, ◌≤◌, Bool, false, ◌&&◌, ◌==◌, List, ◌∷◌, Option, Some, None, option_map, drop, take, length, if◌then◌else◌, slice_get, IsTrue}
+use Rattle.std.specs.Prelude.{◌≡◌, ℕ, Bool, false, ◌&&◌, ◌==◌, List, Option, Some, None, option_map, filter, take, length, if◌then◌else◌, slice_get, IsTrue}
+use Rattle.std.specs.List.{range_with_len}
 use Rattle.types.specs.declared.event.NodeEvent.TheVariants.{Propose, Take, NominationTimer, BallotTimer, Reslice}
 use Rattle.protocol.specs.Sets.{Names}
 use Rattle.protocol.specs.Networks.{Step}
@@ -64,12 +65,9 @@ abbrev pub node_in : ℕ → Option Step → Option ℕ
 node_in i None = None
 node_in i (Some s) = node_of_step i s
 
--- the entry with this number is the first from a number on that is kept
-pub record IsNextKept (R : Names) (i : ℕ) (run : List Entry) (from k : ℕ) : Type 0 where
-  pub inside : k < length run
-  pub after : from ≤ k
-  pub splits : (x : Entry) → slice_get run k ≡ Some x
-      → kept_of R i (drop from run) ≡ core x.event ∷ kept_of R i (drop (k + 1) run)
+-- the numbers of the entries that are kept, ascending
+abbrev pub kept_numbers : Names → ℕ → List Entry → List ℕ
+kept_numbers R i run = filter (λ n. is_kept_in R i (event_at run n)) (range_with_len 0 (length run))
 
 -- the entry with this number is the kept step at a place, counted from 0 on: so many kept steps are before it, and what
 -- is kept of it is what is kept at the place

@@ -68,7 +68,8 @@ fn compare_journal<S: Shelf, T: Shelf>(
         // The node itself is a hosted member, and would be one that they host unlike.
         unreachable!()
     };
-    if let Some(place) = first_difference(one, other, &members, slot) {
+    let difference = first_difference(alloc, one, other, &members, slot)?;
+    if let Some(place) = difference {
         return Ok(Verdict::InputsDiffer(place));
     }
     let names = hosted_members(alloc, one.config().nodes(), &members)?;

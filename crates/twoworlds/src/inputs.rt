@@ -1,63 +1,49 @@
 //! Where the steps of two worlds that concern the members part.
 
-ghost use Rattle.std.specs.Prelude.{◌≡◌, ◌<◌, ◌≤◌, ◌^◌, [], drop, length, MatchOption};
+ghost use Rattle.std.specs.Prelude.{◌≡◌, ◌≤◌, IfOk, MatchOption, length};
 ghost use Rattle.protocol.specs.Isolation.{kept_of};
 ghost use Rattle.protocol.specs.Sets.{among};
 ghost use Rattle.protocol.specs.Verdicts.{IsFirstDifference};
 ghost use Rattle.closure.specs.Announcing.{member_names};
-ghost use Rattle.twoworlds.specs.Steps.{IsKeptEntry, IsNextKept};
+ghost use Rattle.twoworlds.specs.Steps.{IsKeptEntry, kept_numbers};
 
 use crate::same_steps::is_same_at;
 use crate::steps::is_kept_at;
 use closure::ClosureList;
 use envstore::Shelf;
 use hoststep::Journal;
+use std::alloc::{AllocError, Global};
 
 /// The number of kept steps that agree before the first difference, if there is one. Each journal is gone through once.
+/// An error says that it is out of memory.
 pub fn first_difference<S: Shelf, T: Shelf>(
+    alloc: Global,
     one: &Journal<S>,
     other: &Journal<T>,
     members: &ClosureList,
     slot: u64,
-) -> Option<usize>
-    ensures { MatchOption result (kept_of (among (member_names members.now)) slot one.now.entries ≡ kept_of (among (member_names members.now)) slot other.now.entries) (λ place. IsFirstDifference (kept_of (among (member_names members.now)) slot one.now.entries) (kept_of (among (member_names members.now)) slot other.now.entries) place) }
+) -> Result<Option<usize>, AllocError>
+    ensures { IfOk result (λ o. MatchOption o (kept_of (among (member_names members.now)) slot one.now.entries ≡ kept_of (among (member_names members.now)) slot other.now.entries) (IsFirstDifference (kept_of (among (member_names members.now)) slot one.now.entries) (kept_of (among (member_names members.now)) slot other.now.entries))) }
 {
-    let mut here = 0;
-    let mut there = 0;
-    let mut place = 0;
-    while let Some(number) = next_kept(one, members, slot, here) {
-        let Some(counterpart) = next_kept(other, members, slot, there) else {
-            return Some(place);
-        };
-        if !is_same_at(one, number, other, counterpart) {
-            return Some(place);
-        }
-        here = number + 1;
-        there = counterpart + 1;
-        place += 1;
-    }
-    match next_kept(other, members, slot, there) {
-        None => None,
-        Some(_) => Some(place),
-    }
+    let ones = kept_numbers(alloc, one, members, slot)?;
+    let others = kept_numbers(alloc, other, members, slot)?;
+    Ok(differences::first_difference(&ones, &others, |number, counterpart| {
+        is_same_at(one, *number, other, *counterpart)
+    }))
 }
 
-fn next_kept<S: Shelf>(
+/// The numbers of the entries that are kept steps, ascending. An error says that it is out of memory.
+fn kept_numbers<S: Shelf>(
+    alloc: Global,
     journal: &Journal<S>,
     members: &ClosureList,
     slot: u64,
-    from: usize,
-) -> Option<usize>
-    requires { from ≤ length journal.now.entries }
-    ensures fits { length journal.now.entries < 2 ^ 64 }
-    ensures found { MatchOption result (kept_of (among (member_names members.now)) slot (drop from journal.now.entries) ≡ []) (λ k. IsNextKept (among (member_names members.now)) slot journal.now.entries from k) }
+) -> Result<Vec<usize>, AllocError>
+    ensures { IfOk result (λ v. v.items ≡ kept_numbers (among (member_names members.now)) slot journal.now.entries) }
 {
-    for number in from..journal.len() {
-        if is_kept_at(journal, number, members, slot) {
-            return Some(number);
-        }
-    }
-    None
+    (0..journal.len())
+        .filter(|number| is_kept_at(journal, *number, members, slot))
+        .collect(alloc)
 }
 
 /// The number of the entry that is the kept step at a place, both from 0 on: it concerns the members at the slot, and
@@ -74,14 +60,6 @@ pub fn kept_entry<S: Shelf>(
 ) -> Option<usize>
     ensures { MatchOption result (length (kept_of (among (member_names members.now)) slot journal.now.entries) ≤ place) (λ k. IsKeptEntry (among (member_names members.now)) slot journal.now.entries place k) }
 {
-    let mut before = 0;
-    for number in 0..journal.len() {
-        if is_kept_at(journal, number, members, slot) {
-            if before == place {
-                return Some(number);
-            }
-            before += 1;
-        }
-    }
-    None
+    let mut kept = (0..journal.len()).filter(|number| is_kept_at(journal, *number, members, slot));
+    kept.nth(place)
 }

@@ -1,5 +1,5 @@
 -- Journals that ascend by the numbers of their networks.
-use Rattle.std.proofs.Common.{◌≡◌, ℕ, zero, suc, ◌<◌, ◌≤◌, ◌==◌, Bool, true, false, nat_lt, length, get_or, List, [], ◌∷◌, ◌++◌, take, drop, set, slice_get, Option, Some, None, option_map, Result, Ok, Err, if◌then◌else◌, refl, sym, ◌∙◌, ap, ap₂, subst, arith, IsTrue, is_some, Vec, IfOk, IfErr, OnErr}
+use Rattle.std.proofs.Common.{◌≡◌, ℕ, zero, suc, ◌<◌, ◌≤◌, ◌==◌, Bool, true, false, nat_lt, length, get_or, List, [], ◌∷◌, ◌++◌, take, drop, set, slice_get, Option, Some, None, option_map, Result, Ok, Err, if◌then◌else◌, refl, sym, ◌∙◌, ap, ap₂, subst, arith, IsTrue, is_some, IfOk, IfErr, OnErr}
 use Rattle.std.specs.List.{insert}
 use Rattle.std.proofs.lemmas.List.Edits.{length-insert}
 use Rattle.std.specs.List.Sorted.{IsBinarySearchResult}
@@ -9,19 +9,18 @@ use Rattle.protocol.specs.Sets.{IsAscending}
 use Rattle.world.proofs.Inserting.{IsPlace, ascending_insert, is_place}
 use Rattle.configuration.specs.Configs.{index_in}
 use Rattle.configuration.proofs.Names.{place-found, place-nowhere}
-use Rattle.std.specs.Global.{Global}
 use Rattle.std.proofs.lemmas.List.{set-get_or}
 use Rattle.std.proofs.lemmas.List.{length-set}
 use Rattle.std.proofs.Math.Seq.{map-set_same}
 use Rattle.std.proofs.lemmas.Option.{slice_get_read}
 use Rattle.std.proofs.lemmas.List.{map-append, take-map, drop-map}
 use Rattle.types.specs.declared.event.Event.{Event}
-use Rattle.types.specs.declared.event.Out.{Out}
 use Rattle.types.specs.declared.event.Refusal.{Refusal}
 use Rattle.protocol.specs.Networks.{Step}
 use Rattle.network.specs.Decoding.{step_of}
-use Rattle.hoststep.specs.Logs.{IsEntered, IsRefused, Log, with_entry}
-use Rattle.world.specs.Worlds.{AreByNumber, IsAnswered, IsPlaceOf, log_at, logs_set, logs_with, numbers_of}
+use Rattle.hoststep.specs.declared.given.Given.{Given}
+use Rattle.hoststep.specs.Logs.{IsEntered, IsRefused, Log, marks_of, with_entry}
+use Rattle.world.specs.Worlds.{AreByNumber, IsAnswered, IsPlaceOf, log_at, logs_set, logs_with, marks_at, marks_in_log, numbers_of}
 use Rattle.world.proofs.Histories.{has-number}
 
 numbers-length : (ls : List Log) → length (numbers_of ls) ≡ length ls
@@ -118,16 +117,16 @@ set-kept ns ls k x y h l is same =
     (h.0 ∙ sym numbers, (subst IsAscending (sym numbers) h.1.0, subst (λ n. n ≤ 4096) (sym (length-set ls k y)) h.1.1))
 
 -- what an event of a network is answered
-pub number-kept : (x y : Log) (e : Step) (r : Result (Vec Out Global) Refusal) → IfOk r (λ v. y ≡ with_entry x e v.items) → OnErr r (y ≡ x) → y.config.number ≡ x.config.number
+pub number-kept : (x y : Log) (e : Step) (r : Result Given Refusal) → IfOk r (λ v. y ≡ with_entry x e v.outs.items) → OnErr r (y ≡ x) → y.config.number ≡ x.config.number
 number-kept x y e (Ok v) is same = ap (λ (z : Log). z.config.number) is
 number-kept x y e (Err r) is same = ap (λ (z : Log). z.config.number) same
 
-pub answered : (ls : List Log) (g k : ℕ) (x y : Log) (event : Event) (r : Result (Vec Out Global) Refusal) → index_in (numbers_of ls) g ≡ Some k → k < length ls → x ≡ get_or ls k x
-    → IfOk r (λ v. IsEntered x (step_of event) v.items) → IfOk r (λ v. y ≡ with_entry x (step_of event) v.items) → IfErr r (IsRefused x (step_of event)) → OnErr r (y ≡ x) → IsAnswered ls g event r (set ls k y)
+pub answered : (ls : List Log) (g k : ℕ) (x y : Log) (event : Event) (r : Result Given Refusal) → index_in (numbers_of ls) g ≡ Some k → k < length ls → x ≡ get_or ls k x
+    → IfOk r (λ v. IsEntered x (step_of event) v.outs.items) → IfOk r (λ v. y ≡ with_entry x (step_of event) v.outs.items) → IfErr r (IsRefused x (step_of event)) → OnErr r (y ≡ x) → IsAnswered ls g event r (set ls k y)
 answered ls g k x y event (Ok v) e l is ok entered err same =
     let at = stands ls g k x e l is in
-    let named : (with_entry x (step_of event) v.items).config.number ≡ g = has-number ls g x at in
-    rw at (ok, ap (λ z. set ls k z) entered ∙ sym (set-is ls (with_entry x (step_of event) v.items) k (ap (index_in (numbers_of ls)) named ∙ e)))
+    let named : (with_entry x (step_of event) v.outs.items).config.number ≡ g = has-number ls g x at in
+    rw at (ok, ap (λ z. set ls k z) entered ∙ sym (set-is ls (with_entry x (step_of event) v.outs.items) k (ap (index_in (numbers_of ls)) named ∙ e)))
 answered ls g k x y event (Err r) e l is ok entered err same =
     rw (stands ls g k x e l is) (err, ap (λ z. set ls k z) (same ∙ is) ∙ set-get_or ls k x)
 
@@ -139,18 +138,24 @@ joins ns ms ls i l is made up few inside =
     (made ∙ ap (λ (xs : List ℕ). insert xs i l.config.number) is ∙ sym same, (subst IsAscending (sym same) up, omega (arith, few, length-insert ls i l inside)))
 
 -- a journal that stays as it was, put back in its place
-pub stays : (r : Result (Vec Out Global) Refusal) (ls : List Log) (k : ℕ) (x y : Log) → x ≡ get_or ls k x → OnErr r (y ≡ x) → OnErr r (set ls k y ≡ ls)
+pub stays : (r : Result Given Refusal) (ls : List Log) (k : ℕ) (x y : Log) → x ≡ get_or ls k x → OnErr r (y ≡ x) → OnErr r (set ls k y ≡ ls)
 stays (Ok v) ls k x y is same = tt
 stays (Err e) ls k x y is same = ap (set ls k) (same ∙ is) ∙ set-get_or ls k x
 
 -- one event: what is answered, and that the numbers stay, for the list of which one journal was changed at its place
-pub record Changed (ns : List ℕ) (ls : List Log) (g k : ℕ) (y : Log) (event : Event) (r : Result (Vec Out Global) Refusal) : Type 0 where
+pub record Changed (ns : List ℕ) (ls : List Log) (g k : ℕ) (y : Log) (event : Event) (r : Result Given Refusal) : Type 0 where
   pub kept : (ns ≡ numbers_of (set ls k y)) × AreByNumber (set ls k y)
   pub answer : IsAnswered ls g event r (set ls k y)
 
-pub changed : (ns : List ℕ) (ls : List Log) (g k : ℕ) (x y : Log) (event : Event) (r : Result (Vec Out Global) Refusal) → (ns ≡ numbers_of ls) × AreByNumber ls → (index_in (numbers_of ls) g ≡ Some k) × (k < length ls) → x ≡ get_or ls k x
-    → IfOk r (λ v. IsEntered x (step_of event) v.items) → IfOk r (λ v. y ≡ with_entry x (step_of event) v.items) → IfErr r (IsRefused x (step_of event)) → OnErr r (y ≡ x) → Changed ns ls g k y event r
+pub changed : (ns : List ℕ) (ls : List Log) (g k : ℕ) (x y : Log) (event : Event) (r : Result Given Refusal) → (ns ≡ numbers_of ls) × AreByNumber ls → (index_in (numbers_of ls) g ≡ Some k) × (k < length ls) → x ≡ get_or ls k x
+    → IfOk r (λ v. IsEntered x (step_of event) v.outs.items) → IfOk r (λ v. y ≡ with_entry x (step_of event) v.outs.items) → IfErr r (IsRefused x (step_of event)) → OnErr r (y ≡ x) → Changed ns ls g k y event r
 changed ns ls g k x y event r h e is ok entered err same = record {
   kept = set-kept ns ls k x y h e.1 is (number-kept x y (step_of event) r entered same);
   answer = answered ls g k x y event r e.0 e.1 is ok entered err same;
 }
+
+-- the marks of an event of a journal are those of the network of its number
+pub marked : (r : Result Given Refusal) (ls : List Log) (g k : ℕ) (x : Log) (event : Event) → index_in (numbers_of ls) g ≡ Some k → k < length ls → x ≡ get_or ls k x
+    → IfOk r (λ v. v.marks.items ≡ marks_of x.config x.entries (step_of event)) → IfOk r (λ v. v.marks.items ≡ marks_at ls g event)
+marked (Ok v) ls g k x event e l is marks = marks ∙ sym (ap (λ o. marks_in_log o (step_of event)) (stands ls g k x e l is))
+marked (Err r) ls g k x event e l is marks = tt

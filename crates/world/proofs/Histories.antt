@@ -1,9 +1,8 @@
 -- Journals that are those of a history.
-use Rattle.std.proofs.Common.{◌≡◌, ℕ, Bool, true, false, not, ◌==◌, nat_lt, Option, Some, None, Result, Ok, Err, List, [], ◌∷◌, ◌++◌, filter, map, if◌then◌else◌, refl, sym, ◌∙◌, ap, subst, inl, inr, arith, Vec, ◌≢◌}
+use Rattle.std.proofs.Common.{◌≡◌, ℕ, Bool, true, false, not, ◌==◌, nat_lt, Option, Some, None, Result, Ok, Err, List, [], ◌∷◌, ◌++◌, filter, map, if◌then◌else◌, refl, sym, ◌∙◌, ap, subst, inl, inr, arith, ◌≢◌}
 use Rattle.std.proofs.lemmas.Bool.{eqb-true}
 use Rattle.std.proofs.lemmas.Bool.Decides.{nat_tests}
 use Rattle.std.proofs.lemmas.List.{append-nil, map-append}
-use Rattle.std.specs.Global.{Global}
 use Rattle.types.specs.declared.event.Event.{Event}
 use Rattle.types.specs.declared.event.Out.{Out}
 use Rattle.types.specs.declared.event.Refusal.{Refusal}
@@ -14,6 +13,7 @@ use Rattle.protocol.specs.Hosts.{Config, Entry, History, journal_with, entries, 
 use Rattle.protocol.specs.Runs.{net_after, refusal_of, state_of}
 use Rattle.protocol.proofs.Runs.Hosts.{applied-journal, steps_to}
 use Rattle.network.specs.Decoding.{reading, step_of}
+use Rattle.hoststep.specs.declared.given.Given.{Given}
 use Rattle.hoststep.specs.Logs.{IsEntered, IsRefused, Log, with_entry}
 use Rattle.world.specs.Worlds.{IsAnswered, IsAnsweredAt, AreJournalsOf, items_of, with_history_of, and_then, configs_with, with_new_network, log_at, logs_set, logs_with}
 
@@ -182,10 +182,10 @@ history-then h ls new g event r own_is answer memory = go (log_at ls g) refl r m
             by (inl none) = absurd (memory (ap (λ (z : Refusal). Err z) none.0))
             by (inr first) = sym (ap (λ (z : Log). z.entries) q) ∙ sym (append-nil l.entries) ∙ ap (λ (p : Reply). l.entries ++ journal_with e p []) (sym (refused l e x first)) ∙ goes-on h ls g event l own_is at
 
-pub history-answered : (h : History) (ls new : List Log) (g : ℕ) (event : Event) (r : Result (Vec Out Global) Refusal) → AreJournalsOf h ls → IsAnswered ls g event r new → r ≢ Err NoMemory → AreJournalsOf (and_then h g event) new
+pub history-answered : (h : History) (ls new : List Log) (g : ℕ) (event : Event) (r : Result Given Refusal) → AreJournalsOf h ls → IsAnswered ls g event r new → r ≢ Err NoMemory → AreJournalsOf (and_then h g event) new
 history-answered h ls new g event r own_is answer memory = history-then h ls new g event (items_of r) own_is answer (go r memory)
   where
-    go : (r : Result (Vec Out Global) Refusal) → r ≢ Err NoMemory → items_of r ≡ Err NoMemory → ⊥
+    go : (r : Result Given Refusal) → r ≢ Err NoMemory → items_of r ≡ Err NoMemory → ⊥
     go (Ok v) memory e = cc
     go (Err x) memory e = let z : x ≡ NoMemory = cc in memory (ap (λ (y : Refusal). Err y) z)
 

@@ -1,6 +1,5 @@
 -- The journals of many networks, by number, and the histories that they are those of.
-use Rattle.std.specs.Prelude.{◌≡◌, ℕ, ◌<◌, ◌≤◌, ◌==◌, nat_lt, not, IsTrue, length, insert, filter, map, List, [], ◌∷◌, ◌++◌, Vec, Result, Ok, Err, Option, Some, None, is_some, if◌then◌else◌}
-use Rattle.std.specs.Global.{Global}
+use Rattle.std.specs.Prelude.{◌≡◌, ℕ, ◌<◌, ◌≤◌, ◌==◌, nat_lt, not, IsTrue, length, insert, filter, map, List, [], ◌∷◌, ◌++◌, Result, Ok, Err, Option, Some, None, is_some, if◌then◌else◌}
 use Rattle.types.specs.declared.event.Event.{Event}
 use Rattle.types.specs.declared.event.Out.{Out}
 use Rattle.types.specs.declared.event.Refusal.{Refusal}
@@ -10,7 +9,8 @@ use Rattle.protocol.specs.Networks.{Step}
 use Rattle.protocol.specs.Hosts.{Config, History, entries}
 use Rattle.configuration.specs.Configs.{index_in}
 use Rattle.network.specs.Decoding.{reading, step_of}
-use Rattle.hoststep.specs.Logs.{IsEntered, IsRefused, Log, with_entry}
+use Rattle.hoststep.specs.declared.given.Given.{Given}
+use Rattle.hoststep.specs.Logs.{IsEntered, IsRefused, Log, marks_of, with_entry}
 use Rattle.world.specs.declared.world.WorldError.{WorldError}
 use Rattle.world.specs.declared.world.WorldError.TheVariants.{NetTwice, TooManyNets, NoMemory}
 
@@ -96,10 +96,19 @@ IsAnsweredAt (Some l) old e (Ok os) new = IsEntered l e os × (new ≡ logs_set 
 IsAnsweredAt (Some l) old e (Err r) new = IsRefused l e r × (new ≡ old)
 
 -- an answer with its outs as a list
-abbrev pub items_of : Result (Vec Out Global) Refusal → Result (List Out) Refusal
-items_of (Ok v) = Ok v.items
+abbrev pub items_of : Result Given Refusal → Result (List Out) Refusal
+items_of (Ok g) = Ok g.outs.items
 items_of (Err r) = Err r
 
 -- an event of the network of a number is answered, and its journal has the entry; all else is as it was
-abbrev pub IsAnswered : List Log → ℕ → Event → Result (Vec Out Global) Refusal → List Log → Type 0
+abbrev pub IsAnswered : List Log → ℕ → Event → Result Given Refusal → List Log → Type 0
 IsAnswered old g e r new = IsAnsweredAt (log_at old g) old (step_of e) (items_of r) new
+
+-- by which numbers the emissions of an event of a network are named, after the entries of its journal
+abbrev pub marks_in_log : Option Log → Step → List ℕ
+marks_in_log None e = []
+marks_in_log (Some l) e = marks_of l.config l.entries e
+
+-- by which numbers the emissions of an event of the network of a number are named
+abbrev pub marks_at : List Log → ℕ → Event → List ℕ
+marks_at logs g e = marks_in_log (log_at logs g) (step_of e)

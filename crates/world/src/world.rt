@@ -1,17 +1,17 @@
 //! The journals of many networks, by number.
 
-ghost use Rattle.std.specs.Prelude.{◌≡◌, ◌<◌, ◌≢◌, [], Err, IfErr, None, Ok, OnErr, OnOk, Some, ◌∷◌, length, option_map};
+ghost use Rattle.std.specs.Prelude.{◌≡◌, ◌<◌, ◌≢◌, [], Err, IfErr, IfOk, None, Ok, OnErr, OnOk, Some, ◌∷◌, length, option_map};
 ghost use Rattle.protocol.specs.Hosts.{History};
 ghost use Rattle.types.specs.declared.event.Refusal.TheVariants.{NoMemory};
-ghost use Rattle.world.specs.Worlds.{IsAnswered, IsNotAdded, IsPlaceOf, AreJournalsOf, with_history_of, and_then, with_new_network, history_without, log_at, logs_with, logs_without};
+ghost use Rattle.world.specs.Worlds.{IsAnswered, IsNotAdded, IsPlaceOf, AreJournalsOf, with_history_of, and_then, with_new_network, history_without, log_at, logs_with, logs_without, marks_at};
 
 use configuration::NetConfig;
 use envstore::Shelf;
-use hoststep::Journal;
+use hoststep::{Given, Journal};
 use std::alloc::Global;
 use std::marker::Model;
 use thiserror::Error;
-use types::{Event, Out, Refusal};
+use types::{Event, Refusal};
 
 /// The most networks of a host (this host's profile).
 pub const MAX_NETWORKS: usize = 4096;
@@ -142,12 +142,14 @@ impl<S: Shelf> World<S> {
         &self.journals
     }
 
-    /// Applies one event of a network, by its journal. If the network is not there, the event is refused.
+    /// Applies one event of a network, by its journal. If the network is not there, the event is refused. The marks that
+    /// are answered are the numbers by which other nodes of the network hear its emissions.
     ///
     /// An error is the first refusal that applies, or says that it is out of memory, as of [`Journal::apply`]. The host
     /// is as it was then.
-    pub fn apply(&mut self, number: u32, event: Event) -> Result<Vec<Out>, Refusal>
+    pub fn apply(&mut self, number: u32, event: Event) -> Result<Given, Refusal>
         ensures answer { IsAnswered self.old number event result self.new }
+        ensures marks { IfOk result (λ g. g.marks.items ≡ marks_at self.old number event) }
         ensures same { OnErr result (self.new ≡ self.old) }
         ensures history { (h : History) → AreJournalsOf h self.old → result ≢ Err NoMemory → AreJournalsOf (and_then h number event) self.new }
     {

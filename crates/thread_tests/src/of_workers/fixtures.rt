@@ -226,7 +226,7 @@ fn count_entry<S: Shelf>(
     count_outs(&outs, tally);
     let given = again.apply(event).ok();
     let is_like = match &given {
-        Some(given) => are_same(&outs, given),
+        Some(given) => are_same(&outs, &given.outs),
         None => false,
     };
     if is_like { Some(()) } else { None }

@@ -1,33 +1,30 @@
-use Rattle.std.proofs.Common.{◌∙◌, sym}
-use Rattle.std.proofs.lemmas.Bool.{true≢false}
-use Rattle.crowds.proofs.MarkedSteps.{agreed_before, agreed_on, ended_both, ended_here, ended_there, parted_at, readable_next}
+use Rattle.std.proofs.Common.{◌≡◌, ◌∙◌, Bor, List, Some, map, option_map, rules, slice_get, sym, ap}
+use Rattle.std.proofs.lemmas.Simd.{map-map}
+use Rattle.std.proofs.lemmas.Option.{slice_get-map}
+use Rattle.types.specs.declared.event.Event.{Event}
+use Rattle.protocol.specs.Sets.{among}
+use Rattle.protocol.specs.Networks.{Step}
+use Rattle.closure.specs.Announcing.{member_names}
+use Rattle.network.specs.Decoding.{step_of}
+use Rattle.hoststep.specs.Keeping.{IsReadable}
+use Rattle.differences.proofs.Parted.{difference_is}
+use Rattle.crowds.specs.Submitted.{concerning_steps_in}
+use Rattle.crowds.proofs.ConcerningSteps.{are_readable}
 use Rattle.crowds.proofs.inputs.first_difference.Goals as goal
 
-pub loop-number-init : goal.loop-number-init
-loop-number-init c = agreed_before c.args.one_marks.now c.args.one.now c.args.other_marks.now c.args.other.now
-
-pub returns-in_default-next_marked : goal.returns-in_default-next_marked
-returns-in_default-next_marked c =
-    ended_there c.args.one_marks.now c.args.one.now c.args.other_marks.now c.args.other.now c.requires.one_marked c.requires.other_marked c.loop-number.here c.loop-number.there c.loop-number.place c.loop-number.invariant
-    c.in-Some.number c.in-Some.ensures c.in_default-next_marked.ensures
-
-pub returns-then-not-is_same_step : goal.returns-then-not-is_same_step
-returns-then-not-is_same_step c =
-    parted_at c.args.one_marks.now c.args.one.now c.args.other_marks.now c.args.other.now c.requires.one_marked c.requires.other_marked c.loop-number.here c.loop-number.there c.loop-number.place c.loop-number.invariant
-    c.in-Some.number c.in-Some-next_marked.counterpart c.index-one-number.result c.index-other-counterpart.result c.in-Some.ensures c.in-Some-next_marked.ensures
-    (λ e. true≢false (sym (c.is_same_step.ensures.alike (readable_next c.args.one_marks.now c.args.one.now c.requires.one_marked c.requires.readable c.loop-number.here c.in-Some.number c.index-one-number.result c.in-Some.ensures) e) ∙ c.if-not-is_same_step.true))
-
-pub loop-number-preserved : goal.loop-number-preserved
-loop-number-preserved c =
-    agreed_on c.args.one_marks.now c.args.one.now c.args.other_marks.now c.args.other.now c.requires.one_marked c.requires.other_marked c.loop-number.here c.loop-number.there c.loop-number.place c.loop-number.invariant
-    c.in-Some.number c.in-Some-next_marked.counterpart c.index-one-number.result c.index-other-counterpart.result c.in-Some.ensures c.in-Some-next_marked.ensures (c.is_same_step.ensures.same c.if-not-is_same_step.false)
-
-pub returns-in-None : goal.returns-in-None
-returns-in-None c =
-    ended_both c.args.one_marks.now c.args.one.now c.args.other_marks.now c.args.other.now c.requires.one_marked c.requires.other_marked c.loop-number.here c.loop-number.there c.loop-number.place c.loop-number.invariant
-    c.in_default.ensures c.in-None.ensures
-
-pub returns-in-Some-next_marked-2 : goal.returns-in-Some-next_marked-2
-returns-in-Some-next_marked-2 c =
-    ended_here c.args.one_marks.now c.args.one.now c.args.other_marks.now c.args.other.now c.requires.one_marked c.requires.other_marked c.loop-number.here c.loop-number.there c.loop-number.place c.loop-number.invariant
-    c.in-Some-next_marked-2.field-0 c.in-Some-next_marked-2.ensures c.in_default.ensures
+pub returns : goal.returns
+returns c =
+    let R = among (member_names c.args.members.now) in
+    let f = λ (e : Bor Event). step_of e.now in
+    let step = λ (e : Bor Event). Some (step_of e.now) in
+    let ones = concerning_steps_in R c.args.slot c.args.net c.args.one.now in
+    let others = concerning_steps_in R c.args.slot c.args.net c.args.other.now in
+    let first : ones ≡ map f c.deref.result.now = sym c.in_ok-ones.ensures ∙ ap (map f) (sym c.deref.ensures.value) in
+    let second : others ≡ map f c.deref-2.result.now = sym c.in_ok-others.ensures ∙ ap (map f) (sym c.deref-2.ensures.value) in
+    difference_is step step _ _ (λ x y s. search rules) c.deref.result.now c.deref-2.result.now ones others
+    (ap (map Some) first ∙ map-map Some f c.deref.result.now) (ap (map Some) second ∙ map-map Some f c.deref-2.result.now)
+    (λ k x y there s e.
+    let readable : IsReadable (step_of x.now) = are_readable R c.args.slot c.args.net c.args.one.now k (step_of x.now) (ap (λ (es : List Step). slice_get es k) first ∙ (slice_get-map f c.deref.result.now k ∙ ap (option_map f) there)) in
+    let same : step_of x.now ≡ step_of y.now = cc in
+    search rules)
+    c.first_difference.result c.first_difference.ensures

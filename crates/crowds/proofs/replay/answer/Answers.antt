@@ -9,8 +9,8 @@ use Rattle.crowds.proofs.replay.answer.Goals as goal
 
 pub returns-in-Ok : goal.returns-in-Ok
 returns-in-Ok c =
-    subst (λ (e : Event). IsReplied c.args.journal.now (step_of e) (Done c.in-Ok.outs.items) c.apply.new.self) c.in_ok-try_copy.ensures
-    (is_done c.args.journal.now c.apply.new.self (step_of c.in_ok-try_copy.field-0) c.in-Ok.outs.items c.in-Ok.ensures.ok c.in-Ok.ensures.entered)
+    subst (λ (e : Event). IsReplied c.args.journal.now (step_of e) (Done c.in-Ok.given.outs.items) c.apply.new.self) c.in_ok-try_copy.ensures
+    (is_done c.args.journal.now c.apply.new.self (step_of c.in_ok-try_copy.field-0) c.in-Ok.given.outs.items c.in-Ok.ensures.ok c.in-Ok.ensures.entered)
 
 pub returns-in-Err : goal.returns-in-Err
 returns-in-Err c =

@@ -2,7 +2,7 @@ use Rattle.std.proofs.Common.{◌≡◌, ◌∙◌, ◌+◌, ◌<◌, ◌≤◌,
 use Rattle.std.proofs.lemmas.List.{drop-append-le}
 use Rattle.protocol.specs.Hosts.{Config}
 use Rattle.configuration.specs.Configs.{names_of}
-use Rattle.network.specs.declared.plan.Emission.{Emission}
+use Rattle.network.specs.declared.emission.Emission.{Emission}
 use Rattle.network.specs.Standing.{machine_of}
 use Rattle.live.specs.Serving.{all_hearings, hearings_of}
 use Rattle.live.specs.Steps.{LeadsTo}

@@ -3,10 +3,11 @@ use Rattle.protocol.specs.Hosts.{Config}
 use Rattle.protocol.specs.Networks.{emissions}
 use Rattle.protocol.specs.Networks.Reply.{Done}
 use Rattle.configuration.specs.Configs.{names_of}
-use Rattle.network.specs.declared.plan.Emission.{Emission}
+use Rattle.network.specs.declared.emission.Emission.{Emission}
 use Rattle.network.specs.Decoding.{step_of}
 use Rattle.network.specs.Standing.{Machine, machine_of}
-use Rattle.live.specs.Serving.{all_hearings, named, told_of}
+use Rattle.network.specs.Marks.{named}
+use Rattle.live.specs.Serving.{all_hearings, told_of}
 use Rattle.live.specs.Telling.{HaveHeard, IsServedBy, tellings_of}
 use Rattle.live.specs.declared.served.Served.{Served}
 use Rattle.live.proofs.Leading.{served-alone, served-and-heard, served-refused}

@@ -1,5 +1,5 @@
 use Rattle.std.proofs.Common.{[], append-nil, sym}
-use Rattle.runs.proofs.Hearings.{all-delivered, first-and-rest, none-delivered, on-ok}
+use Rattle.runs.proofs.HearingLaws.{all-delivered, first-and-rest, none-delivered, on-ok}
 use Rattle.runs.proofs.host_run.HostRun.+deliver_each.Goals as goal
 
 pub returns-in_default : goal.returns-in_default

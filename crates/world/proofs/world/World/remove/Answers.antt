@@ -1,4 +1,4 @@
-use Rattle.std.proofs.Common.{◌≡◌, List, sym, subst}
+use Rattle.std.proofs.Common.{List, sym, subst}
 use Rattle.hoststep.specs.Logs.{Log}
 use Rattle.world.specs.Worlds.{AreJournalsOf, IsPlaceOf, history_without}
 use Rattle.world.proofs.ByNumber.{missing}

@@ -1,0 +1,2 @@
+pub mod Parted
+mod Walked
