@@ -35,7 +35,7 @@ pub fn add_place(places: &mut [u64], place: usize)
 }
 
 /// Takes a place out of the set.
-pub(crate) fn clear_place(places: &mut [u64], place: usize)
+pub fn clear_place(places: &mut [u64], place: usize)
     requires { place / 64 < length places.old }
     ensures { IsCleared place places.old places.new }
 {

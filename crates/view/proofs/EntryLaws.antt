@@ -28,7 +28,7 @@ use Rattle.view.proofs.FormLaws.{agreed_set, below_more, below_set}
 use Rattle.view.proofs.PlaceLaws.{place_set, places_kept}
 
 -- nodes at two places are two
-apart : (us : List ℕ) (i j : ℕ) → IsAscending us → i < length us → j < length us → i ≢ j → (get_or us i 0 == get_or us j 0) ≡ false
+pub apart : (us : List ℕ) (i j : ℕ) → IsAscending us → i < length us → j < length us → i ≢ j → (get_or us i 0 == get_or us j 0) ≡ false
 apart us i j up a b other = ne_eqb (get_or us i 0) (get_or us j 0) (λ e. elim (cases_lt i j) [
   | inl l ↦ let low : get_or us i 0 < get_or us j 0 = up i j 0 l b in absurd (omega (arith, low, e))
   | inr m ↦ elim (cases_lt j i) [

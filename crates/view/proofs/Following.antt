@@ -1,5 +1,5 @@
 -- A row that comes in the place of another one, or as a first one: what the reached rows say then, and which ballots are listed.
-use Rattle.std.proofs.Common.{◌≡◌, ℕ, Bool, true, false, not, ◌&&◌, ◌==◌, List, [], ◌++◌, Option, Some, None, filter, flat_map, IfSome, if◌then◌else◌, option_map, refl, sym, ◌∙◌, ap, subst, inl, inr, ◌⊎◌}
+use Rattle.std.proofs.Common.{◌≡◌, ℕ, Bool, true, false, not, ◌&&◌, ◌==◌, List, [], ◌++◌, Option, Some, None, filter, flat_map, if◌then◌else◌, option_map, refl, sym, ◌∙◌, ap, subst, inl, inr, ◌⊎◌}
 use Rattle.std.specs.List.{Contains}
 use Rattle.std.proofs.lemmas.Bool.{and_from, and_parts, cases_Bool, eq-eqb, eqb-true, not-true, true≢false}
 use Rattle.std.proofs.lemmas.List.Elements.{Contains-append_cases, Contains-append_left, Contains-append_right}
@@ -7,14 +7,13 @@ use Rattle.types.specs.declared.ballot.Ballot.{Ballot}
 use Rattle.types.specs.declared.kind.Kind.{Kind}
 use Rattle.types.specs.declared.statement.Statement.{Statement}
 use Rattle.types.specs.Statements.{Sent, kind_of}
-use Rattle.protocol.specs.Candidates.{committed_by, has_positive_counter, named_by}
+use Rattle.protocol.specs.Candidates.{has_positive_counter}
 use Rattle.protocol.specs.Rows.{is_kind, row, with_row}
 use Rattle.protocol.specs.Sets.{among}
 use Rattle.protocol.proofs.Statements.Offers.{is_row_of-parts, row-with, same_kind}
-use Rattle.view.specs.Knowing.{AreBallotsOf, IsHeard, is_heard, is_of_another}
+use Rattle.view.specs.Knowing.{IsHeard, is_heard, is_of_another}
 use Rattle.view.specs.Listing.{AreLeft, AreListed}
 use Rattle.view.specs.Watching.{rows_of_others, said_by_another}
-use Rattle.view.specs.declared.reached_ballots.ReachedBallots.{ReachedBallots}
 use Rattle.view.proofs.FoundRows.{among_from, among_to, row_is}
 use Rattle.view.proofs.Leaving.{none_left}
 use Rattle.view.proofs.SameRows.{AreSame, found_from, found_to, given_from, given_to, kept_from, kept_to, same_given, same_kept}
@@ -36,7 +35,7 @@ module _ (k : Kind) (own : ℕ) (nodes : List ℕ) (old : List Sent) (e : Sent) 
       let q = and_parts (not (own == e.sender)) (among nodes e.sender) p.1 in
       (p.0, not-true (own == e.sender) q.0, q.1)
 
-  other_row : (u : ℕ) → (e.sender == u) ≡ false → row (with_row e old) u k ≡ row old u k
+  pub other_row : (u : ℕ) → (e.sender == u) ≡ false → row (with_row e old) u k ≡ row old u k
   other_row u h =
       row-with e old u k ∙ ap (λ b. if b && is_kind k (kind_of e.body) then Some e else row old u k) h
 
@@ -46,7 +45,7 @@ module _ (k : Kind) (own : ℕ) (nodes : List ℕ) (old : List Sent) (e : Sent) 
       ∙ ap (λ b. if b then Some e else row old e.sender k)
       (and_from (e.sender == e.sender) (is_kind k (kind_of e.body)) (eq-eqb e.sender e.sender refl) parts.0)
 
-  now_said : said_new e.sender ≡ Some e.body
+  pub now_said : said_new e.sender ≡ Some e.body
   now_said = ap (said_by_another own) this_row ∙ ap (λ b. if b then None else Some e.body) parts.1
 
   -- what one says as before, but for the sender
@@ -139,7 +138,7 @@ module _ (k : Kind) (own : ℕ) (nodes : List ℕ) (old : List Sent) (e : Sent) 
           let sender : x.sender ≡ u = (is_row_of-parts u k x (row_is t u k x at)).0 in
           ap (λ b. if b then None else Some x.body) (eq-eqb own x.sender (is ∙ sym sender))
 
-  as_before : (u : ℕ) → Contains nodes u → said_by_another own (row (with_row e old) u k) ≡ said_by_another own (row old u k)
+  pub as_before : (u : ℕ) → Contains nodes u → said_by_another own (row (with_row e old) u k) ≡ said_by_another own (row old u k)
   as_before u c = go (cases_Bool (e.sender == u)) (cases_Bool (is_kind k (kind_of e.body))) (cases_Bool (own == e.sender))
     where
       row_stays : (e.sender == u) && is_kind k (kind_of e.body) ≡ false → said_by_another own (row (with_row e old) u k) ≡ said_by_another own (row old u k)
@@ -165,55 +164,42 @@ module _ (k : Kind) (own : ℕ) (nodes : List ℕ) (old : List Sent) (e : Sent) 
     λ c. let r = found_from (λ u. said_by_another own (row (with_row e old) u k)) nodes s c in found_to (λ u. said_by_another own (row old u k)) nodes r.0 s r.1 (sym (as_before r.0 r.1) ∙ r.2),
   )
 
-  listed_alike : (by : Statement → List Ballot) (listed : List Ballot) → AreListed listed (filter has_positive_counter (flat_map by (rows_of_others own k old nodes)))
+  pub listed_alike : (by : Statement → List Ballot) (listed : List Ballot) → AreListed listed (filter has_positive_counter (flat_map by (rows_of_others own k old nodes)))
       → AreListed listed (filter has_positive_counter (flat_map by (rows_of_others own k (with_row e old) nodes)))
   listed_alike by listed are x =
       let same = same_kept has_positive_counter _ _ (same_given by _ _ said_alike) x in
       (λ c. same.0 ((are x).0 c), λ c. (are x).1 (same.1 c))
 
--- it leaves what is listed
-pub unheard_listed : (own : ℕ) (nodes : List ℕ) (old new : List Sent) (e : Sent) → is_heard Kind.Ballot own nodes e ≡ false → new ≡ with_row e old
-    → (o : Option ReachedBallots) → IfSome o (λ b. AreBallotsOf own old nodes b) → IfSome o (λ b. AreBallotsOf own new nodes b)
-unheard_listed own nodes old new e unheard is None are = tt
-unheard_listed own nodes old new e unheard is (Some b) are = subst (λ (t : List Sent). AreBallotsOf own t nodes b) (sym is) record {
-  named = listed_alike Kind.Ballot own nodes old e unheard named_by b.named are.named;
-  committed = listed_alike Kind.Ballot own nodes old e unheard committed_by b.committed are.committed;
-}
-
 -- ---- as the code lists them: a first row takes nothing away
-module _ (own : ℕ) (nodes : List ℕ) (old new : List Sent) (now : Statement) (by : Statement → List Ballot) (listed added : List Ballot) where
-  pub first_followed : IsHeard own nodes old new now None
+module _ (own : ℕ) (nodes : List ℕ) (old new : List Sent) (e : Sent) (by : Statement → List Ballot) (listed added : List Ballot) where
+  pub first_followed : IsHeard own nodes old new e None
       → AreListed listed (filter has_positive_counter (flat_map by (rows_of_others own Kind.Ballot old nodes)))
-      → AreListed added (listed ++ filter has_positive_counter (by now))
+      → AreListed added (listed ++ filter has_positive_counter (by e.body))
       → AreListed added (filter has_positive_counter (flat_map by (rows_of_others own Kind.Ballot new nodes)))
   first_followed h are adds =
-      let e = h.envelope in
       subst (λ (t : List Sent). AreListed added (filter has_positive_counter (flat_map by (rows_of_others own Kind.Ballot t nodes)))) (sym h.taken.now)
-      (followed Kind.Ballot own nodes old e h.heard by listed added added [] goes are
-      (subst (λ s. AreListed added (listed ++ filter has_positive_counter (by s))) (sym h.says) adds)
+      (followed Kind.Ballot own nodes old e h.heard by listed added added [] goes are adds
       (none_left (filter has_positive_counter (flat_map by (rows_of_others own Kind.Ballot (with_row e old) nodes))) added))
     where
-      goes : (s : Statement) → said_old Kind.Ballot own nodes old h.envelope h.heard h.envelope.sender ≡ Some s → (x : Ballot) → Contains (by s) x → Contains [] x
+      goes : (s : Statement) → said_old Kind.Ballot own nodes old e h.heard e.sender ≡ Some s → (x : Ballot) → Contains (by s) x → Contains [] x
       goes s q x c =
-          let none : None ≡ Some s = sym h.said ∙ said_before Kind.Ballot own nodes old h.envelope h.heard h.row h.taken.replaced ∙ q in
+          let none : None ≡ Some s = sym h.said ∙ said_before Kind.Ballot own nodes old e h.heard h.row h.taken.replaced ∙ q in
           cc
 
   -- another one takes away what it alone spoke of
-  pub other_followed : (before : Statement) (left : List Ballot) → IsHeard own nodes old new now (Some before)
+  pub other_followed : (before : Statement) (left : List Ballot) → IsHeard own nodes old new e (Some before)
       → AreListed listed (filter has_positive_counter (flat_map by (rows_of_others own Kind.Ballot old nodes)))
-      → AreListed added (listed ++ filter has_positive_counter (by now))
+      → AreListed added (listed ++ filter has_positive_counter (by e.body))
       → AreLeft (filter has_positive_counter (flat_map by (rows_of_others own Kind.Ballot new nodes))) (by before) added left
       → AreListed left (filter has_positive_counter (flat_map by (rows_of_others own Kind.Ballot new nodes)))
   other_followed before left h are adds leaves =
-      let e = h.envelope in
       subst (λ (t : List Sent). AreListed left (filter has_positive_counter (flat_map by (rows_of_others own Kind.Ballot t nodes)))) (sym h.taken.now)
-      (followed Kind.Ballot own nodes old e h.heard by listed added left (by before) goes are
-      (subst (λ s. AreListed added (listed ++ filter has_positive_counter (by s))) (sym h.says) adds)
+      (followed Kind.Ballot own nodes old e h.heard by listed added left (by before) goes are adds
       (subst (λ (t : List Sent). AreLeft (filter has_positive_counter (flat_map by (rows_of_others own Kind.Ballot t nodes))) (by before) added left) h.taken.now leaves))
     where
-      goes : (s : Statement) → said_old Kind.Ballot own nodes old h.envelope h.heard h.envelope.sender ≡ Some s → (x : Ballot) → Contains (by s) x → Contains (by before) x
+      goes : (s : Statement) → said_old Kind.Ballot own nodes old e h.heard e.sender ≡ Some s → (x : Ballot) → Contains (by s) x → Contains (by before) x
       goes s q x c =
-          let same : Some before ≡ Some s = sym h.said ∙ said_before Kind.Ballot own nodes old h.envelope h.heard h.row h.taken.replaced ∙ q in
+          let same : Some before ≡ Some s = sym h.said ∙ said_before Kind.Ballot own nodes old e h.heard h.row h.taken.replaced ∙ q in
           subst (λ t. Contains (by t) x) (sym (one_statement before s same)) c
 
 -- ---- of whom and of which kind a row is

@@ -45,7 +45,7 @@ row_is (x ∷ xs) u k e h = elim (cases_Bool (is_row_of u k x)) [
 ]
 
 -- what another says comes from its row
-said_from : (own : ℕ) (o : Option Sent) (s : Statement) → said_by_another own o ≡ Some s → (e : Sent) × (o ≡ Some e) × ((own == e.sender) ≡ false) × (e.body ≡ s)
+pub said_from : (own : ℕ) (o : Option Sent) (s : Statement) → said_by_another own o ≡ Some s → (e : Sent) × (o ≡ Some e) × ((own == e.sender) ≡ false) × (e.body ≡ s)
 said_from own None s h = cc
 said_from own (Some e) s h = go (own == e.sender) refl h
   where

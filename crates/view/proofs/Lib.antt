@@ -17,3 +17,5 @@ pub mod QuorumLaws
 pub mod KeptLaws
 pub mod MovedPlaces
 pub mod AddedPlaces
+pub mod WordLaws
+pub mod GroupLaws

@@ -84,7 +84,7 @@ picked_where us ws p u bits reached = ap (λ (vs : List ℕ). among vs u) (picke
 
 module _ (own : ℕ) (configured : Slices) (table : List Sent) (r : Region) (is : IsRegion own configured table r) where
   -- places of all who pass meet what blocks where these block
-  blocking_found : (ws : List ℕ) (p : Names) → AreBits r.nodes.items ws p → has_needed r.blocking ws ≡ is_blocked configured p
+  pub blocking_found : (ws : List ℕ) (p : Names) → AreBits r.nodes.items ws p → has_needed r.blocking ws ≡ is_blocked configured p
   blocking_found ws p bits =
       let us = r.nodes.items in
       is.blocking ws ∙ is_blocked-local configured (among (nodes_at us ws)) p (λ u named. picked_where us ws p u bits (is.reach.exactly u ∙ names_reached own configured table u named))
@@ -114,6 +114,12 @@ module _ (own : ℕ) (configured : Slices) (table : List Sent) (r : Region) (is 
           subst (λ (p : RowsOfNodes × OwnAnswer). ArePassing (passes_within p.0 p.1.place p.1.passes test) found.0) (λ i. (sym rows i, sym answer i)) found.1,
           subst (λ u. AreBits us found.0 (by_place u)) is.itself (bits_within us found.0 (by_place (get_or us r.place 0)) found.1),
         )
+
+    -- words of all who pass by these rows
+    pub bits_asked : (ws : List ℕ) → ((i : ℕ) → i < length k.nodes → bit_of ws i ≡ one_where (passes_at k a.place a.passes test i)) → AreBits r.nodes.items ws (passing_with own table kind own_passes test)
+    bits_asked ws asked =
+        subst (λ u. AreBits r.nodes.items ws (passing_with u table kind own_passes test)) is.itself
+        (subst (λ (p : RowsOfNodes × OwnAnswer). (i : ℕ) → i < length p.0.nodes → bit_of ws i ≡ one_where (passes_at p.0 p.1.place p.1.passes test i)) (λ i. (rows i, answer i)) asked)
 
     -- they block the node's slices where they meet what blocks these
     pub blocking_asked : (b : Bool) → ((ws : List ℕ) → ArePassing (passes_within k a.place a.passes test) ws → b ≡ has_needed r.blocking ws) → b ≡ is_blocked configured (passing_with own table kind own_passes test)

@@ -18,6 +18,8 @@ use Rattle.protocol.proofs.Nominating.ValueSets.{all_with_append}
 use Rattle.protocol.proofs.Statements.Offers.{same_kind}
 use Rattle.view.specs.Knowing.{AreValuesOf, IsTaken, is_heard}
 use Rattle.view.specs.Watching.{rows_of_others, said_by_another, values_in}
+use Rattle.view.specs.declared.reached_values.ReachedValues.{ReachedValues}
+use Rattle.view.proofs.GroupLaws.{none_stirred}
 use Rattle.view.proofs.Following.{came, parts, said_alike, stands, stays}
 use Rattle.view.proofs.SameRows.{given_from, given_to, has_from, has_to, none_contained, same_set, same_values}
 
@@ -103,7 +105,9 @@ heard_values own nodes old new e row heard taken =
 
 -- a row of ballots, of the node itself or of a stranger leaves them
 pub unheard_values : (own : ℕ) (nodes : List ℕ) (old new : List Sent) (e : Sent) → is_heard Nomination own nodes e ≡ false → new ≡ with_row e old
-    → (o : Option (List (List ℕ))) → IfSome o (λ v. AreValuesOf own old nodes v) → IfSome o (λ v. AreValuesOf own new nodes v)
+    → (o : Option ReachedValues) → IfSome o (λ v. AreValuesOf own old nodes v) → IfSome o (λ v. AreValuesOf own new nodes v)
 unheard_values own nodes old new e unheard is None are = tt
-unheard_values own nodes old new e unheard is (Some v) are =
-    are ∙ same_values _ _ (said_alike Nomination own nodes old e unheard) ∙ ap (λ (t : List Sent). values_in (rows_of_others own Nomination t nodes)) (sym is)
+unheard_values own nodes old new e unheard is (Some v) are = subst (λ (t : List Sent). AreValuesOf own t nodes v) (sym is) record {
+  values = are.values ∙ same_values _ _ (said_alike Nomination own nodes old e unheard);
+  alike = none_stirred own nodes Nomination old e unheard v.alike are.alike;
+}

@@ -11,21 +11,26 @@ use Rattle.protocol.specs.Rows.{is_kind, is_taken, row, with_row}
 use Rattle.protocol.specs.Sets.{among}
 use Rattle.fedvote.specs.declared.mention.Mention.{Mention}
 use Rattle.fedvote.specs.declared.mention.Mention.TheVariants.{Committed, Named}
+use Rattle.view.specs.Grouping.{AreGrouped}
 use Rattle.view.specs.Listing.{AreListed, FindsAsAmong}
 use Rattle.view.specs.Regions.{IsRegion}
 use Rattle.view.specs.Watching.{rows_of_others, values_in}
 use Rattle.view.specs.declared.known_reach.KnownReach.{KnownReach}
 use Rattle.view.specs.declared.reached_ballots.ReachedBallots.{ReachedBallots}
+use Rattle.view.specs.declared.reached_values.ReachedValues.{ReachedValues}
 
 -- listed are the ballots that the ballot rows of the others of these nodes name, and those at whose counters these rows
--- speak of commit
+-- speak of commit, and which of these rows say the same, if that is known
 pub record AreBallotsOf (own : ℕ) (table : List Sent) (nodes : List ℕ) (b : ReachedBallots) : Type 0 where
   pub named : AreListed b.named (named_in (rows_of_others own Kind.Ballot table nodes))
   pub committed : AreListed b.committed (committed_in (rows_of_others own Kind.Ballot table nodes))
+  pub alike : IfSome b.alike (AreGrouped own (record { nodes = nodes; table = table; kind = Kind.Ballot }))
 
--- these are the values that the nomination rows of the others of these nodes vote for or accept, as a set
-abbrev pub AreValuesOf : ℕ → List Sent → List ℕ → List (List ℕ) → Type 0
-AreValuesOf own table nodes values = values ≡ values_in (rows_of_others own Nomination table nodes)
+-- listed are the values that the nomination rows of the others of these nodes vote for or accept, as a set, and which
+-- of these rows say the same, if that is known
+pub record AreValuesOf (own : ℕ) (table : List Sent) (nodes : List ℕ) (v : ReachedValues) : Type 0 where
+  pub values : v.values ≡ values_in (rows_of_others own Nomination table nodes)
+  pub alike : IfSome v.alike (AreGrouped own (record { nodes = nodes; table = table; kind = Nomination }))
 
 -- the ballots that are listed of those of which rows speak in one way
 abbrev pub listed_as : Mention → ReachedBallots → List Ballot
@@ -59,12 +64,9 @@ is_of_another own nodes e = not (own == e.sender) && among nodes e.sender
 abbrev pub is_heard : Kind → ℕ → List ℕ → Sent → Bool
 is_heard kind own nodes e = is_kind kind (kind_of e.body) && is_of_another own nodes e
 
--- a table took an envelope of ballots of another of the nodes: what it says, and what the row before it said
-pub record IsHeard (own : ℕ) (nodes : List ℕ) (old new : List Sent) (now : Statement) (before : Option Statement)
-    : Type 0 where
-  pub envelope : Sent
+-- a table took an envelope of ballots of another of the nodes, and this is what the row before it said
+pub record IsHeard (own : ℕ) (nodes : List ℕ) (old new : List Sent) (e : Sent) (before : Option Statement) : Type 0 where
   pub row : Option Sent
-  pub heard : IsTrue (is_heard Kind.Ballot own nodes envelope)
-  pub taken : IsTaken old new envelope row
-  pub says : envelope.body ≡ now
-  pub said : option_map (λ e. e.body) row ≡ before
+  pub heard : IsTrue (is_heard Kind.Ballot own nodes e)
+  pub taken : IsTaken old new e row
+  pub said : option_map (λ x. x.body) row ≡ before

@@ -3,4 +3,5 @@ pub mod Regions
 pub mod Words
 pub mod Listing
 pub mod Forms
+pub mod Grouping
 pub mod Knowing

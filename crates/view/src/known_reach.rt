@@ -1,11 +1,10 @@
 //! What a node knows of the nodes that it reaches, from one event to the next.
 
-ghost use Rattle.std.specs.Prelude.{◌≡◌, ℕ, List, IfOk, IfSome, IsTrue, OnErr, OnOk, false, is_some, option_map};
+ghost use Rattle.std.specs.Prelude.{◌≡◌, ℕ, List, IfOk, IfSome, IsTrue, OnErr, OnOk, Option, false, is_some, option_map};
 ghost use Rattle.types.specs.Statements.{Sent};
 ghost use Rattle.types.specs.Trees.{Slices};
 ghost use Rattle.types.specs.declared.kind.Kind.{Kind};
 ghost use Rattle.types.specs.declared.kind.Kind.TheVariants.{Nomination};
-ghost use Rattle.protocol.specs.Candidates.{all_with, values_by};
 ghost use Rattle.protocol.specs.Sets.{IsAscending};
 ghost use Rattle.view.specs.Knowing.{AreBallotsOf, AreValuesOf, IsKnown, IsTaken, is_heard, is_of_another};
 ghost use Rattle.view.specs.Regions.{IsKeptRegion, IsOfExtent, IsRegion};
@@ -13,23 +12,22 @@ ghost use Rattle.view.specs.Regions.{IsKeptRegion, IsOfExtent, IsRegion};
 use crate::changing::NewReach;
 use crate::own::Own;
 use crate::reached_ballots::ReachedBallots;
+use crate::reached_values::ReachedValues;
 use crate::region::Region;
-use crate::rows::{insert_values, said_in, values_of_others};
+use crate::rows::said_in;
 use envstore::Places;
 use latest::Rows;
 use slices::is_among;
 use std::alloc::{AllocError, Global};
-use types::{Envelope, Kind, NodeId, Statement, Values};
+use types::{Envelope, Kind, NodeId};
 
 /// The region of a node, and what its rows speak of. The ballots are listed once a rule of balloting asks for them, and
 /// the values of nominations once a rule of nomination does. Its owner keeps all three from event to event.
-///
-/// A newer nomination has all values of the one before it, so the values only ever grow.
 #[derive(Drop)]
 pub struct KnownReach {
     pub region: Region,
     pub ballots: Option<ReachedBallots>,
-    pub values: Option<Values>,
+    pub values: Option<ReachedValues>,
     /// Whether it was asked for since it was found or changed. So rows that change the reach cost no more than
     /// questions do.
     pub is_asked: bool,
@@ -135,7 +133,7 @@ impl KnownReach {
             return Ok(());
         }
         let rows = self.region.rows(alloc, table, Kind::Nomination);
-        let values = values_of_others(alloc, own.name, &rows)?;
+        let values = ReachedValues::of_rows(alloc, own.name, &rows)?;
         self.values = Some(values);
         Ok(())
     }
@@ -163,7 +161,7 @@ impl KnownReach {
         }
         match taken.row.body().kind() {
             Kind::Ballot => self.follow_ballots(alloc, own, table, taken),
-            Kind::Nomination => self.follow_values(taken.row.body()),
+            Kind::Nomination => self.follow_values(alloc, own, table, taken.row),
         }
     }
 
@@ -186,23 +184,32 @@ impl KnownReach {
         };
         let rows = self.region.rows(alloc, table, Kind::Ballot);
         let before = said_in(taken.before);
-        let replaced = ballots.replace(own.name, &rows, taken.row.body(), before);
+        let replaced = ballots.replace(own.name, &rows, taken.row, before);
         if let Ok(()) = replaced {
             self.ballots = Some(ballots);
         }
     }
 
-    /// Adds the values that a nomination of another reached node says. None has to go, since a newer nomination has all
-    /// values of the older one.
-    fn follow_values(&mut self, said: &Statement)
+    /// Brings the values up to date with a nomination row of another reached node.
+    fn follow_values<S: Places>(
+        &mut self,
+        alloc: Global,
+        own: Own<'_>,
+        table: &Rows<'_, S>,
+        row: &Envelope,
+    )
+        requires region { IsRegion own.name.now own.slices.now table.now self.old.region }
+        requires heard { IsTrue (is_heard Nomination own.name.now self.old.region.nodes.items row.now) }
         ensures region { self.new.region ≡ self.old.region }
         ensures ballots { self.new.ballots ≡ self.old.ballots }
-        ensures values { (before after : List (List ℕ)) → all_with (values_by said.now) before ≡ after → IfSome self.old.values (λ v. v ≡ before) → IfSome self.new.values (λ v. v ≡ after) }
+        ensures values { (old : List Sent) (before : Option Sent) → IsTaken old table.now row.now before → IfSome self.old.values (AreValuesOf own.entry.name.now old self.old.region.nodes.items) → IfSome self.new.values (AreValuesOf own.entry.name.now table.now self.old.region.nodes.items) }
     {
         let Some(mut values) = self.values.take() else {
             return;
         };
-        if let Ok(()) = insert_values(&mut values, said) {
+        let rows = self.region.rows(alloc, table, Kind::Nomination);
+        let added = values.add(own.name, &rows, row);
+        if let Ok(()) = added {
             self.values = Some(values);
         }
     }

@@ -5,6 +5,7 @@
 //! both stay as they are meanwhile.
 #![tactic(auto)]
 
+mod alike;
 mod changing;
 mod forms;
 mod known_reach;
@@ -14,15 +15,19 @@ mod own;
 mod passing;
 mod reached;
 mod reached_ballots;
+mod reached_values;
 mod region;
 mod rows;
 mod searching;
 mod seeing;
 mod unlisted;
+mod words;
 
+pub use alike::Alike;
 pub use changing::{Extent, NewReach};
 pub use known_reach::{KnownReach, Taken};
 pub use own::Own;
 pub use reached_ballots::ReachedBallots;
+pub use reached_values::ReachedValues;
 pub use region::{Change, Region, RegionEntry};
 pub use seeing::View;

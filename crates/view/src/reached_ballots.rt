@@ -3,27 +3,31 @@
 ghost use Rattle.std.specs.Prelude.{◌≡◌, List, IfOk, IsTrue, OnOk, Some, option_map, option_to_list};
 ghost use Rattle.types.specs.Statements.{Sent};
 ghost use Rattle.types.specs.declared.kind.Kind.{Kind};
+ghost use Rattle.protocol.specs.Sets.{IsAscending};
 ghost use Rattle.fedvote.specs.Mentions.{mentioned_by, mentioned_in};
 ghost use Rattle.view.specs.Knowing.{AreBallotsOf, IsHeard, listed_as};
 ghost use Rattle.view.specs.Listing.{AreLeft};
 ghost use Rattle.view.specs.Watching.{rows_of_others};
 
+use crate::alike::{Alike, follow};
 use crate::listed::ListedBallots;
 use crate::mentions::is_mentioned;
 use crate::reached::ReachedRows;
 use envstore::Places;
 use fedvote::{Mention, statement_ballots};
 use std::alloc::{AllocError, Global};
-use types::{LentBallot, NodeId, Statement};
+use types::{Envelope, LentBallot, NodeId, Statement};
 
 /// The ballots that the ballot rows of other reached nodes name, and those at whose counters these rows speak of
 /// commit. Both have counters from 1 on, in descending order.
 ///
-/// A new row adds what it speaks of. It takes away what only the row that it replaces spoke of.
+/// A new row adds what it speaks of. It takes away what only the row that it replaces spoke of. Rows that say the same
+/// are known too, if many are reached.
 #[derive(Drop)]
 pub struct ReachedBallots {
     pub(crate) named: ListedBallots,
     pub(crate) committed: ListedBallots,
+    pub(crate) alike: Option<Alike>,
 }
 
 impl ReachedBallots {
@@ -60,23 +64,31 @@ impl ReachedBallots {
             committed.add_mentioned(Mention::Committed, statement)?;
             last = Some(statement);
         }
-        Ok(ReachedBallots { named, committed })
+        let alike = Alike::of_rows(alloc, own, rows)?;
+        Ok(ReachedBallots {
+            named,
+            committed,
+            alike,
+        })
     }
 
-    /// Follows the change of one of these rows from `before`, if it had one, to `now`. An error says that it is out of
+    /// Follows a new row of one of these nodes, which said `before` if it had one. An error says that it is out of
     /// memory, and then nothing is known of what is listed.
     pub(crate) fn replace<S: Places>(
         &mut self,
         own: &NodeId,
         rows: &ReachedRows<'_, S>,
-        now: &Statement,
+        row: &Envelope,
         before: Option<&Statement>,
     ) -> Result<(), AllocError>
-        requires { rows.now.kind ≡ Kind.Ballot }
-        ensures { OnOk result ((old : List Sent) → IsHeard own.now rows.now.nodes old rows.now.table now.now (option_map (λ s. s.now) before.entry) → AreBallotsOf own.now old rows.now.nodes self.old → AreBallotsOf own.now rows.now.table rows.now.nodes self.new) }
+        requires kind { rows.now.kind ≡ Kind.Ballot }
+        requires ascending { IsAscending rows.now.nodes }
+        ensures { OnOk result ((old : List Sent) → IsHeard own.now rows.now.nodes old rows.now.table row.now (option_map (λ s. s.now) before.entry) → AreBallotsOf own.now old rows.now.nodes self.old → AreBallotsOf own.now rows.now.table rows.now.nodes self.new) }
     {
+        let now = row.body();
         self.named.add_mentioned(Mention::Named, now)?;
         self.committed.add_mentioned(Mention::Committed, now)?;
+        follow(&mut self.alike, own, rows, row);
         if let Some(before) = before {
             leave_mentioned(&mut self.named, Mention::Named, own, rows, before);
             leave_mentioned(&mut self.committed, Mention::Committed, own, rows, before);

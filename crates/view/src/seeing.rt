@@ -2,7 +2,7 @@
 
 ghost use Rattle.std.proofs.Props.{props};
 ghost use Rattle.std.specs.Coded.{codes};
-ghost use Rattle.std.specs.Prelude.{◌≡◌, IfOk, IfSome, false, length, refl, true, IsFalse};
+ghost use Rattle.std.specs.Prelude.{◌≡◌, ℕ, IfOk, IfSome, false, length, refl, true, IsFalse};
 ghost use Rattle.compiled.specs.Places.{compiled_code};
 ghost use Rattle.types.specs.declared.kind.Kind.{Kind};
 ghost use Rattle.protocol.specs.Rows.{has_single_rows};
@@ -12,40 +12,38 @@ ghost use Rattle.compiled.specs.Searching.{AreCompiled};
 ghost use Rattle.fedvote.specs.Questions.{asks, kind_asked};
 ghost use Rattle.view.specs.Knowing.{AreSearched, IsKnown};
 ghost use Rattle.view.specs.Regions.{IsRegion};
-ghost use Rattle.view.specs.Watching.{rows_of_others, values_in};
+ghost use Rattle.view.specs.Grouping.{AreGrouped};
+ghost use Rattle.view.specs.Watching.{RowsOfNodes, rows_of_others, values_in};
 ghost use Rattle.view.specs.Words.{IsEmptySet};
 
+use crate::alike::{Alike, FEW_NODES};
 use crate::known_reach::KnownReach;
 use crate::own::Own;
-use crate::passing::{OwnAnswer, Supporters, add_supporters};
+use crate::passing::{OwnAnswer, Supporters, add_alike, add_supporters};
 use crate::reached::ReachedRows;
 use crate::reached_ballots::ReachedBallots;
+use crate::reached_values::ReachedValues;
 use crate::region::Region;
 use crate::rows::values_of;
 use crate::searching::next_counter;
 use crate::unlisted::{next_mentioned, nominated_values};
-use compiled::{Form, in_quorum, is_met_by, no_places};
+use crate::words::FEW_WORDS;
+use compiled::{Form, in_quorum, is_met, is_met_by, no_places};
 use envstore::Places;
 use fedvote::{Mention, Question, Sight};
 use latest::Rows;
 use std::alloc::{AllocError, Global};
 use types::{Kind, Leaders, LentBallot, Nested, NodeId, Values};
 
-/// A set of reached nodes stands on the stack if this many words have room for all of them.
-const FEW_WORDS: usize = 8;
-
-/// Among at most this many nodes a quorum is searched for at once. To ask first whether there may be one would cost
-/// more.
-const FEW_NODES: usize = 8;
-
 /// What a node with these slices and leaders sees of a table: the rows of the other nodes that it reaches, and the
 /// nomination rows of its leaders, reached or not (the Stellar Consensus Protocol draft, of federated voting). That
 /// rows of strangers are left out is this host's profile.
 ///
 /// Rows of strangers are not looked at: the region keeps the places of each reached node's rows, and both tests find a
-/// row by the node's place in the reach. If many are reached, [`View::of`] reads their ballots once. Nominations are
-/// read where they stand, since only rules of nomination ask for them, and rows of leaders are looked up. A test asks
-/// the names of the node's slices one by one, until its answer is known.
+/// row by the node's place in the reach. If it is known which rows say the same, a test asks one of them. Else it asks
+/// the names of the node's slices one by one, until its answer is known, and if many are reached, [`View::of`] reads
+/// their ballots once. Nominations are read where they stand, since only rules of nomination ask for them, and rows of
+/// leaders are looked up.
 ///
 /// The rules ask for the next ballot below a bound again and again. So a search goes through the ballots in order, if
 /// their owner has listed them, and else through the rows. Nominated values are copied from their list, if there is
@@ -61,18 +59,20 @@ pub struct View<'a, S: Places> {
     ballots: ReachedRows<'a, S>,
     nominations: ReachedRows<'a, S>,
     listed: &'a Option<ReachedBallots>,
-    values: &'a Option<Values>,
+    values: &'a Option<ReachedValues>,
     ghost known: { IsRegion own.now slices.now table.now region.now } by { Prim.hlevel (props, codes, compiled_code) },
     ghost single: { has_single_rows table.now ≡ true },
     ghost ballots_kept: { ballots ≡ record { nodes = region.now.nodes.items; table = table.now; kind = Kind.Ballot } },
     ghost nominations_kept: { nominations ≡ record { nodes = region.now.nodes.items; table = table.now; kind = Kind.Nomination } },
     ghost ballots_listed: { IfSome listed.now (λ l. AreSearched own.now ballots.kind ballots.table ballots.nodes l) } by { Prim.hlevel (props, codes) },
-    ghost values_listed: { IfSome values.now (λ v. v ≡ values_in (rows_of_others own.now nominations.kind nominations.table nominations.nodes)) } by { Prim.hlevel (props, codes) },
+    ghost values_listed: { IfSome values.now (λ v. v.values ≡ values_in (rows_of_others own.now nominations.kind nominations.table nominations.nodes)) } by { Prim.hlevel (props, codes) },
+    ghost ballots_alike: { IfSome listed.now (λ l. IfSome l.alike (AreGrouped own.now ballots)) } by { Prim.hlevel (props, codes) },
+    ghost values_alike: { IfSome values.now (λ v. IfSome v.alike (AreGrouped own.now nominations)) } by { Prim.hlevel (props, codes) },
 }
 
 impl<'a, S: Places> View<'a, S> {
     /// What the node sees of the table now, by what is known of its reach. If many are reached, their ballot rows are
-    /// gathered. An error says that it is out of memory.
+    /// gathered, unless it is known which say the same. An error says that it is out of memory.
     pub fn of(
         alloc: Global,
         own: Own<'a>,
@@ -83,6 +83,9 @@ impl<'a, S: Places> View<'a, S> {
         requires { IsKnown own.name.now own.slices.now table.now known.now }
         ensures { IfOk result (λ v. ⟦<View<'a, S> as Sight>⟧.seen v ≡ seen own.entry.name.now own.entry.slices.now leaders.now table.now) }
     {
+        if ballots_alike(&known.ballots).is_some() {
+            return Ok(View::in_place(alloc, own, leaders, table, known));
+        }
         let region = &known.region;
         let places = &region.ballot_rows;
         let ballots = ReachedRows::gather(alloc, &region.nodes, places, table, Kind::Ballot)?;
@@ -153,22 +156,34 @@ impl<'a, S: Places> View<'a, S> {
         }
     }
 
+    /// Which of the rows that a question asks say the same, if that is known.
+    fn alike_for(&self, question: &Question<'_>) -> Option<&Alike>
+        ensures { IfSome result (λ a. AreGrouped self.now.own.now (record { nodes = self.now.region.now.nodes.items; table = self.now.table.now; kind = kind_asked question.now }) a.now) }
+    {
+        match question.kind() {
+            Kind::Nomination => values_alike(self.values),
+            Kind::Ballot => ballots_alike(self.listed),
+        }
+    }
+
     /// Whether some quorum that contains the node passes. `places` is the empty set of the reached nodes.
     fn has_quorum(&self, places: &mut [u64], own_passes: bool, question: &Question<'_>) -> bool
         requires { IsEmptySet (length self.now.region.now.nodes.items) places.old }
         ensures { result ≡ (seen self.now.own.now self.now.slices.now self.now.leaders.now self.now.table.now).quorum (kind_asked question.now) own_passes (asks question.now) }
     {
         let own = self.own_answer(own_passes);
-        add_supporters(places, self.rows_for(question), own, question);
+        let alike = self.alike_for(question);
+        add_supporters(places, self.rows_for(question), alike, own, question);
         in_quorum(places, self.region.place, self.forms_for(question))
     }
 
     /// Whether there may be a quorum that contains the node and passes. There is none if those who pass do not satisfy
-    /// the node's slices. Mostly that is so, and it is known after a few of them. Among few nodes it is not asked.
+    /// the node's slices. Mostly that is so, and it is known after a few of them. It is not asked among few nodes, nor
+    /// if it is known which rows say the same.
     fn may_have_quorum(&self, own_passes: bool, question: &Question<'_>) -> bool
         ensures { IsFalse result → (seen self.now.own.now self.now.slices.now self.now.leaders.now self.now.table.now).quorum (kind_asked question.now) own_passes (asks question.now) ≡ false }
     {
-        if self.region.nodes.len() <= FEW_NODES {
+        if self.region.nodes.len() <= FEW_NODES || self.alike_for(question).is_some() {
             return true;
         }
         let rows = self.rows_for(question);
@@ -186,6 +201,15 @@ impl<'a, S: Places> View<'a, S> {
     fn is_blocked(&self, own_passes: bool, question: &Question<'_>) -> bool
         ensures { result ≡ (seen self.now.own.now self.now.slices.now self.now.leaders.now self.now.table.now).blocking (kind_asked question.now) own_passes (asks question.now) }
     {
+        match self.alike_for(question) {
+            None => self.is_blocked_by_each(own_passes, question),
+            Some(alike) => self.is_blocked_by_groups(alike, own_passes, question),
+        }
+    }
+
+    fn is_blocked_by_each(&self, own_passes: bool, question: &Question<'_>) -> bool
+        ensures { result ≡ (seen self.now.own.now self.now.slices.now self.now.leaders.now self.now.table.now).blocking (kind_asked question.now) own_passes (asks question.now) }
+    {
         let rows = self.rows_for(question);
         let own = self.own_answer(own_passes);
         let supporters = Supporters {
@@ -194,6 +218,16 @@ impl<'a, S: Places> View<'a, S> {
             question,
         };
         is_met_by(&self.region.blocking, &supporters)
+    }
+
+    fn is_blocked_by_groups(&self, alike: &Alike, own_passes: bool, question: &Question<'_>) -> bool
+        requires { AreGrouped self.now.own.now (record { nodes = self.now.region.now.nodes.items; table = self.now.table.now; kind = kind_asked question.now }) alike.now }
+        ensures { result ≡ (seen self.now.own.now self.now.slices.now self.now.leaders.now self.now.table.now).blocking (kind_asked question.now) own_passes (asks question.now) }
+    {
+        let own = self.own_answer(own_passes);
+        let mut places = [0u64; FEW_WORDS];
+        add_alike(&mut places, self.rows_for(question), alike, own, question);
+        is_met(&self.region.blocking, &places)
     }
 
     fn own_answer(&self, passes: bool) -> OwnAnswer
@@ -264,4 +298,24 @@ impl<'a, S: Places> Sight for View<'a, S> {
     }
 
     ghost tied = { λ s. refl };
+}
+
+/// Which ballot rows say the same, if that is known.
+fn ballots_alike(listed: &Option<ReachedBallots>) -> Option<&Alike>
+    ensures { (own : ℕ) (rows : RowsOfNodes) → IfSome listed.now (λ l. IfSome l.alike (AreGrouped own rows)) → IfSome result (λ a. AreGrouped own rows a.now) }
+{
+    match listed {
+        None => None,
+        Some(listed) => listed.alike.as_ref(),
+    }
+}
+
+/// Which nomination rows say the same, if that is known.
+fn values_alike(listed: &Option<ReachedValues>) -> Option<&Alike>
+    ensures { (own : ℕ) (rows : RowsOfNodes) → IfSome listed.now (λ l. IfSome l.alike (AreGrouped own rows)) → IfSome result (λ a. AreGrouped own rows a.now) }
+{
+    match listed {
+        None => None,
+        Some(listed) => listed.alike.as_ref(),
+    }
 }

@@ -8,6 +8,7 @@ ghost use Rattle.view.specs.Watching.{rows_of_others, values_in};
 
 use crate::reached::ReachedRows;
 use crate::reached_ballots::ReachedBallots;
+use crate::reached_values::ReachedValues;
 use crate::rows::values_of_others;
 use envstore::Places;
 use fedvote::{Mention, better_mentioned};
@@ -18,15 +19,15 @@ use types::{LentBallot, NodeId, Statement, Values};
 /// list, or else gathered from each row. An error says that it is out of memory.
 pub(crate) fn nominated_values<S: Places>(
     alloc: Global,
-    listed: &Option<Values>,
+    listed: &Option<ReachedValues>,
     own: &NodeId,
     rows: &ReachedRows<'_, S>,
 ) -> Result<Values, AllocError>
-    requires { IfSome listed.now (λ v. v ≡ values_in (rows_of_others own.now rows.now.kind rows.now.table rows.now.nodes)) }
+    requires { IfSome listed.now (λ v. v.values ≡ values_in (rows_of_others own.now rows.now.kind rows.now.table rows.now.nodes)) }
     ensures { IfOk result (λ v. v ≡ values_in (rows_of_others own.now rows.now.kind rows.now.table rows.now.nodes)) }
 {
     match listed {
-        Some(values) => values.try_copy(alloc),
+        Some(listed) => listed.values.try_copy(alloc),
         None => values_of_others(alloc, own, rows),
     }
 }

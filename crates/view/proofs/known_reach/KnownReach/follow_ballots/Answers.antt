@@ -15,13 +15,11 @@ returns-in-Ok-clause-ballots g c = λ old taken are.
     let before = c.in-Some.ballots in
     let there : IfSome (Some before) (λ b. AreBallotsOf own old nodes b) = subst (λ (o : Option ReachedBallots). IfSome o (λ b. AreBallotsOf own old nodes b)) (sym c.take.ensures.value ∙ c.in-Some.is) are in
     let said : Option Statement = option_map (λ (s : Bor Statement). s.now) c.said_in-before.result in
-    let heard : IsHeard own nodes old table c.body.result.now said = record {
-      envelope = e;
+    let heard : IsHeard own nodes old table e said = record {
       row = option_map (λ (r : Bor Envelope). r.now) c.args.taken.now.before;
       heard = c.requires.heard;
       taken = taken;
-      says = sym c.body.ensures.value;
       said = sym c.said_in-before.ensures;
     } in
-    subst (λ (k : RowsOfNodes). IsHeard own k.nodes old k.table c.body.result.now said → AreBallotsOf own old k.nodes before → AreBallotsOf own k.table k.nodes c.replace-replaced.new.self) c.rows-rows.ensures
+    subst (λ (k : RowsOfNodes). IsHeard own k.nodes old k.table e said → AreBallotsOf own old k.nodes before → AreBallotsOf own k.table k.nodes c.replace-replaced.new.self) c.rows-rows.ensures
     (c.in-Ok.ensures old) heard there

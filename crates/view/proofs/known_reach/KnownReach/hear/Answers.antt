@@ -1,13 +1,13 @@
-use Rattle.std.proofs.Common.{◌≡◌, ◌∙◌, IfSome, List, Option, ap, refl, subst, sym}
+use Rattle.std.proofs.Common.{◌≡◌, ◌∙◌, IfSome, Option, ap, refl, subst, sym}
 use Rattle.types.specs.declared.kind.Kind.{Kind}
 use Rattle.types.specs.declared.kind.Kind.TheVariants.{Nomination}
 use Rattle.types.specs.Statements.{kind_of}
-use Rattle.protocol.specs.Candidates.{all_with, values_by}
 use Rattle.view.specs.Knowing.{AreBallotsOf, AreValuesOf}
-use Rattle.view.specs.Watching.{rows_of_others, values_in}
 use Rattle.view.specs.declared.reached_ballots.ReachedBallots.{ReachedBallots}
-use Rattle.view.proofs.Following.{heard_kind, unheard_itself, unheard_kind, unheard_listed}
-use Rattle.view.proofs.Widening.{heard_values, unheard_values}
+use Rattle.view.specs.declared.reached_values.ReachedValues.{ReachedValues}
+use Rattle.view.proofs.Following.{heard_kind, unheard_itself, unheard_kind}
+use Rattle.view.proofs.Knowing.{unheard_listed}
+use Rattle.view.proofs.Widening.{unheard_values}
 use Rattle.view.proofs.known_reach.KnownReach.hear.Goals as goal
 
 pub returns-then-not-is_of_another-clause-ballots : goal.returns-then-not-is_of_another-clause-ballots
@@ -30,7 +30,7 @@ returns-in-Ballot-clause-values g c = λ old taken are.
     let nodes = c.args.self.now.region.nodes.items in
     let e = c.args.taken.now.row.now in
     let kind : kind_of e.body ≡ Kind.Ballot = ap kind_of (sym c.body.ensures.value) ∙ sym c.kind.ensures ∙ c.in-Ballot.is in
-    subst (λ (o : Option (List (List _))). IfSome o (λ v. AreValuesOf own c.args.table.now nodes v)) (sym c.follow_ballots.ensures.values)
+    subst (λ (o : Option ReachedValues). IfSome o (λ v. AreValuesOf own c.args.table.now nodes v)) (sym c.follow_ballots.ensures.values)
     (unheard_values own nodes old c.args.table.now e (unheard_kind Nomination Kind.Ballot own nodes e kind refl) taken.now c.args.self.now.values are)
 
 pub returns-in-Nomination-clause-ballots : goal.returns-in-Nomination-clause-ballots
@@ -43,14 +43,12 @@ returns-in-Nomination-clause-ballots g c = λ old taken are.
     (unheard_listed own nodes old c.args.table.now e (unheard_kind Kind.Ballot Nomination own nodes e kind refl) taken.now c.args.self.now.ballots are)
 
 pub returns-in-Nomination-clause-values : goal.returns-in-Nomination-clause-values
-returns-in-Nomination-clause-values g c = λ old taken are.
-    let own = c.args.own.name.now in
-    let nodes = c.args.self.now.region.nodes.items in
-    let e = c.args.taken.now.row.now in
-    let kind : kind_of e.body ≡ Nomination = ap kind_of (sym c.body.ensures.value) ∙ sym c.kind.ensures ∙ c.in-Nomination.is in
-    let another = sym c.is_of_another.ensures ∙ c.if-not-is_of_another.false in
-    let before = values_in (rows_of_others own Nomination old nodes) in
-    let after = values_in (rows_of_others own Nomination c.args.table.now nodes) in
-    c.follow_values.ensures.values before after
-    (ap (λ s. all_with (values_by s) before) c.body-in-Nomination.ensures.value ∙ heard_values own nodes old c.args.table.now e _ (heard_kind Nomination own nodes e kind refl another) taken)
-    are
+returns-in-Nomination-clause-values g c = λ old taken are. c.follow_values.ensures.values old _ taken are
+
+pub follow_values-requires : goal.follow_values-requires
+follow_values-requires g c = record {
+  region = c.requires;
+  heard =
+      let kind : kind_of c.args.taken.now.row.now.body ≡ Nomination = ap kind_of (sym c.body.ensures.value) ∙ sym c.kind.ensures ∙ c.in-Nomination.is in
+      heard_kind Nomination c.args.own.name.now c.args.self.now.region.nodes.items c.args.taken.now.row.now kind refl (sym c.is_of_another.ensures ∙ c.if-not-is_of_another.false);
+}

@@ -1,7 +1,9 @@
-use Rattle.std.proofs.Common.{◌∙◌, ◌<◌, ◌≤◌, Bor, List, ℕ, Option, ap, arith, length, option_map, subst, sym}
+use Rattle.std.proofs.Common.{◌∙◌, ◌<◌, ◌≤◌, Bor, IfSome, List, ℕ, Option, ap, arith, length, option_map, subst, sym}
+use Rattle.types.specs.declared.kind.Kind.{Kind}
 use Rattle.types.specs.declared.statement.Statement.{Statement}
 use Rattle.protocol.specs.Candidates.{committed_by, committed_in, named_by, named_in}
 use Rattle.protocol.specs.Rows.{row}
+use Rattle.view.specs.Grouping.{AreGrouped}
 use Rattle.view.specs.Listing.{AreListed}
 use Rattle.view.specs.Watching.{rows_of_others, said_by_another}
 use Rattle.view.proofs.ListedLaws.{HasListed, all_listed, has_added, none_listed, one_listed}
@@ -65,4 +67,5 @@ returns g c =
     record {
       named = subst (λ k. AreListed last.named (named_in (rows_of_others own k rows.table rows.nodes))) c.requires (all_listed said named_by rows.nodes last.place last.named end last.invariant.named);
       committed = subst (λ k. AreListed last.committed (committed_in (rows_of_others own k rows.table rows.nodes))) c.requires (all_listed said committed_by rows.nodes last.place last.committed end last.invariant.committed);
+      alike = subst (λ (k : Kind). IfSome c.in_ok-alike.alike (λ a. AreGrouped own (record { nodes = rows.nodes; table = rows.table; kind = k }) a)) c.requires c.in_ok-alike.ensures;
     }

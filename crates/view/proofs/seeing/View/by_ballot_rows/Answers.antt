@@ -1,7 +1,9 @@
 use Rattle.std.proofs.Common.{◌≡◌, ℕ, IfSome, List, subst, sym}
+use Rattle.std.proofs.lemmas.Option.{IfSome_then}
 use Rattle.types.specs.declared.kind.Kind.{Kind}
 use Rattle.types.specs.declared.kind.Kind.TheVariants.{Nomination}
 use Rattle.types.specs.Statements.{Sent}
+use Rattle.view.specs.Grouping.{AreGrouped}
 use Rattle.view.specs.Knowing.{AreSearched, IsKnown}
 use Rattle.view.specs.Watching.{RowsOfNodes, rows_of_others, values_in}
 use Rattle.view.proofs.Knowing.{searched}
@@ -24,5 +26,7 @@ invariant_of-result g c =
       ballots_kept = kept;
       nominations_kept = nominated;
       ballots_listed = subst (λ (k : RowsOfNodes). IfSome known.ballots (λ b. AreSearched own k.kind k.table k.nodes b)) (sym kept) (searched own table known.region.nodes.items known.ballots is.ballots);
-      values_listed = subst (λ (k : RowsOfNodes). IfSome known.values (λ v. v ≡ values_in (rows_of_others own k.kind k.table k.nodes))) (sym nominated) is.values;
+      values_listed = subst (λ (k : RowsOfNodes). IfSome known.values (λ v. v.values ≡ values_in (rows_of_others own k.kind k.table k.nodes))) (sym nominated) (IfSome_then known.values is.values (λ v are. are.values));
+      ballots_alike = subst (λ (k : RowsOfNodes). IfSome known.ballots (λ b. IfSome b.alike (AreGrouped own k))) (sym kept) (IfSome_then known.ballots is.ballots (λ b are. are.alike));
+      values_alike = subst (λ (k : RowsOfNodes). IfSome known.values (λ v. IfSome v.alike (AreGrouped own k))) (sym nominated) (IfSome_then known.values is.values (λ v are. are.alike));
     }

@@ -3,7 +3,7 @@ use Rattle.compiled.specs.Met.{one_where}
 use Rattle.compiled.specs.Places.{bit_of}
 use Rattle.fedvote.specs.Questions.{asks}
 use Rattle.view.specs.Watching.{passes_at}
-use Rattle.view.proofs.passing.add_supporters.Given as goal
+use Rattle.view.proofs.passing.add_each.Given as goal
 
 abbrev pub invariant-loop-place : goal.invariant-loop-place
 invariant-loop-place g l = record {

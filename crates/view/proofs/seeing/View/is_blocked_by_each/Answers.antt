@@ -1,7 +1,7 @@
 use Rattle.std.proofs.Common.{sym, ◌∙◌, arith}
 use Rattle.fedvote.specs.Questions.{asks, kind_asked}
 use Rattle.view.proofs.RegionLaws.{blocking_asked, blocking_seen}
-use Rattle.view.proofs.seeing.View.is_blocked.Goals as goal
+use Rattle.view.proofs.seeing.View.is_blocked_by_each.Goals as goal
 
 pub returns : goal.returns
 returns g c =

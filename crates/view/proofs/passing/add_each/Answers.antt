@@ -2,8 +2,8 @@ use Rattle.std.proofs.Common.{◌<◌, ◌+◌, ◌/◌, ◌∙◌, ℕ, Bool, s
 use Rattle.fedvote.specs.Questions.{asks}
 use Rattle.view.specs.Watching.{passes_at}
 use Rattle.view.proofs.AddedPlaces.{AreFirst, first_added, first_passed_over}
-use Rattle.view.proofs.passing.add_supporters.Goals as goal
-use Rattle.view.proofs.passing.add_supporters.Goals.{then-passes_at, else-passes_at}
+use Rattle.view.proofs.passing.add_each.Goals as goal
+use Rattle.view.proofs.passing.add_each.Goals.{then-passes_at, else-passes_at}
 
 pub loop-place-preserved : goal.loop-place-preserved
 loop-place-preserved g c =
