@@ -33,14 +33,14 @@ is_difference (CastDiffers u) = true
 is_difference (InputsDiffer place) = true
 is_difference (Same list) = false
 
--- a text has the lines of a verdict, and behind those of a difference an explanation where one is asked for
+-- a text has the lines of a verdict, and behind those of a difference an explanation if one is asked for
 abbrev pub IsExplained : Bool → Verdict → Bytes → Type 0
 IsExplained explain verdict text =
     (more : Bytes) × (text ≡ text_of_verdict verdict ++ more) × ((explain && is_difference verdict) ≡ false → more ≡ [])
 
--- The headline of two histories of hosts, as this host reads envelopes: if both host the members of the closure of v in
--- the first alike, with the same slices, and the steps that concern them are the same in order, then each hosted member
--- gives out the same in both.
+-- The headline of two histories of hosts, as this host reads envelopes. Let both host the members of the closure of v
+-- in the first alike, with the same slices. Let the steps that concern them be the same in order. Then each hosted
+-- member gives out the same in both.
 abbrev pub AreIsolatedHistories : History → History → ℕ → ℕ → ℕ → Type 0
 AreIsolatedHistories one other g i v =
     let R = closure (nodes_of one.configs g) i v (entries reading one g) in

@@ -4,7 +4,7 @@ use Rattle.scripts.specs.Script.{Bytes}
 use Rattle.runs.specs.Unprinted.{Unprinted}
 use Rattle.answers.specs.Scripts.{HasEnded}
 
--- What becomes of a script is determined: where the same text is run to its end twice, from the same networks, the
+-- What becomes of a script is determined. If the same text is run to its end twice, from the same networks, the
 -- journals of both ends are the same, and so are the traces of the lines.
 abbrev pub ScriptsHaveOneEnd : Type 0
 ScriptsHaveOneEnd =

@@ -18,7 +18,7 @@ pub record HaveRun {S : Type 0} (tells : Telling S) (refuses : Refusing S) (star
   pub are_lines : AreLines text lines
   pub ran : Runs tells refuses start (enumerate_from 1 lines) printed (Ok tt) end
 
--- the text is that of a file, where that is known
+-- the text is that of a file, if that is known
 abbrev pub IsTextOf : Option Bytes → Bytes → Type 0
 IsTextOf file text = IfSome file (λ left. text ≡ left)
 
@@ -61,7 +61,7 @@ pub record Story : Type 0 where
   pub run : Unprinted
   pub text : Bytes
 
--- what a script begins with: no network, and the trace of the lines where it is asked for
+-- what a script begins with: no network, and the trace of the lines if it is asked for
 abbrev pub start_of : Bool → Unprinted
 start_of traced = record { hosting = new_hosting; trace = if traced then Some [] else None }
 
@@ -79,7 +79,7 @@ IsStoryOf traced file story = IsTextOf file story.text × HasEnded (start_of tra
 abbrev pub StopsStory : Bool → Option Bytes → Stop → Type 0
 StopsStory traced = HasStopped TellsUnprinted RefusesUnprinted (start_of traced)
 
--- the run of the networks of one of two files stopped so; the second is run where the first came to its end
+-- the run of the networks of one of two files stopped so; the second is run if the first came to its end
 abbrev pub StopsStories : Bool → Option Bytes → Option Bytes → Stop → Type 0
 StopsStories traced one other why =
     StopsStory traced one why ⊎ ((first : Story) × IsStoryOf traced one first × StopsStory traced other why)
@@ -106,7 +106,7 @@ IsSubmittedBy closing = HasRunFile Submits RefusesToSubmit (new_submitting closi
 abbrev pub StopsSubmission : Bool → Option Bytes → Stop → Type 0
 StopsSubmission closing = HasStopped Submits RefusesToSubmit (new_submitting closing)
 
--- the run of one of two files for what it submits stopped so; the second is run where the first came to its end
+-- the run of one of two files for what it submits stopped so; the second is run if the first came to its end
 abbrev pub StopsSubmissions : Option Bytes → Option Bytes → Stop → Type 0
 StopsSubmissions one other why =
     StopsSubmission true one why

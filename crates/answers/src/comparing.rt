@@ -35,9 +35,9 @@ pub struct Sides<'a> {
 /// Compares what concerns the subject in two scripts; if `explain` asks for it, a difference is explained. An error
 /// says that it is out of memory.
 ///
-/// The journals of the scripts are those of two histories of hosts, between which the verdict is right. If both host
-/// the members of the closure of the node alike, and the steps that concern them are the same in order, each hosted
-/// member gives out the same in both.
+/// The journals of the scripts are those of two histories of hosts, between which the verdict is right. Let both host
+/// the members of the closure of the node alike, and let the steps that concern them be the same in order. Then each
+/// hosted member gives out the same in both.
 pub fn answer_compare(
     alloc: Global,
     sides: &Sides<'_>,

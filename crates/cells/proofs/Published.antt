@@ -11,7 +11,7 @@ use Rattle.protocol.specs.Runs.{IsRun}
 use Rattle.decisions.specs.declared.decision.Decision.{Decision}
 use Rattle.hoststep.specs.Deciding.{ExternalizedValue, decisions_at, decisions_by, decisions_from, decisions_in}
 use Rattle.hoststep.specs.Logs.{Log, with_entry}
-use Rattle.hoststep.specs.declared.recorded.Recorded.{Recorded}
+use Rattle.network.specs.declared.applied.Given.{Given}
 use Rattle.hoststep.proofs.DecidedOnce.{decisions-few}
 use Rattle.hoststep.proofs.DecisionLists.{decisions_by-append, decisions_from-extended, decisions_from-next}
 use Rattle.cells.specs.Publishing.{IsPublished, IsToldBut, as_published, decisions_known}
@@ -51,13 +51,13 @@ entry_more entries x n p h =
           ∙ sym (append_assoc front rest new) ∙ ap (λ (l : List Decision). l ++ new) h.all ∙ sym (map-append as_published (decisions_by entries) (decisions_in x)) ∙ ap (map as_published) (sym by);
     }
 
-pub after_event : (old new : Log) (e : Step) (n : ℕ) (p : List Decision × List Decision) (r : Result Recorded Refusal) → IfOk r (λ x. new ≡ with_entry old e x.outs.items) → OnErr r (new ≡ old)
+pub after_event : (old new : Log) (e : Step) (n : ℕ) (p : List Decision × List Decision) (r : Result Given Refusal) → IfOk r (λ x. new ≡ with_entry old e x.outs.items) → OnErr r (new ≡ old)
     → IsPublished old.entries n p → IsPublished new.entries n p
 after_event old new e n p (Ok x) ok err h = subst (λ (l : Log). IsPublished l.entries n p) (sym ok) (entry_more old.entries (record { event = e; outs = x.outs.items }) n p h)
 after_event old new e n p (Err x) ok err h = subst (λ (l : Log). IsPublished l.entries n p) (sym err) h
 
 -- the same, where there is a publisher
-pub after_event_there : (old new : Log) (e : Step) (n : ℕ) (o : Option (List Decision × List Decision)) (r : Result Recorded Refusal) → IfOk r (λ x. new ≡ with_entry old e x.outs.items) → OnErr r (new ≡ old)
+pub after_event_there : (old new : Log) (e : Step) (n : ℕ) (o : Option (List Decision × List Decision)) (r : Result Given Refusal) → IfOk r (λ x. new ≡ with_entry old e x.outs.items) → OnErr r (new ≡ old)
     → IfSome o (IsPublished old.entries n) → IfSome o (IsPublished new.entries n)
 after_event_there old new e n None r ok err h = h
 after_event_there old new e n (Some p) r ok err h = after_event old new e n p r ok err h

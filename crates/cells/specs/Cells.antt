@@ -39,8 +39,8 @@ pub record IsEnteredAt (old : CellStateSight) (event : Event) (r : AppliedEvent)
 abbrev pub IsDenied : CellStateSight → Event → CellRefusal → Type 0
 IsDenied d event r = IsWhy d.log.config d.log.entries d.stopped event r × ((r ≡ Closed) ↔ (d.stopped ≡ true))
 
--- A seat gained one receipt, of this event with what it gives out after the entries before it, after which it is not
--- refused, and nothing else but what it saw.
+-- A seat gained one receipt, of this event with what it gives out after the entries before it. After these it is not
+-- refused. Nothing else changed at the seat but what it saw.
 pub record HasGainedReceipt (c : CellSight) (event : Event) (old new : SeatSight) : Type 0 where
   pub before : List Entry
   pub given : List Out

@@ -38,8 +38,8 @@ pub record Gathered (c : Config) (n : ℕ) (d : CellStateSight) (seats : List Se
   pub end_known : AllSeats (λ s. IsKnownAtEnd c d.log.entries owners d.stopped stopper s.me × IsSound s.me × (s.me.config ≡ c)) seats
 
 -- A journal is one history of its seats: each entry is one seat's, and each seat's receipts are its entries. What each
--- seat saw is a beginning, and all there is where it saw the mark. Each denial was right. A mark was set by some seat.
--- Where no more seats are there than the cell has, there are as many entries as receipts.
+-- seat saw is a beginning, and it is all there is if the seat saw the mark. Each denial was right. A mark was set by
+-- some seat. If no more seats are there than the cell has, there are as many entries as receipts.
 pub record IsOneHistory (n : ℕ) (j : Log) (seats : List SeatSight) : Type 0 where
   pub owners : List ℕ
   pub paired : length owners ≡ length j.entries

@@ -17,7 +17,7 @@ pub record IsPublished (entries : List Entry) (from : ℕ) (p : List Decision ×
   pub within : from ≤ length entries
   pub all : p.0 ++ p.1 ++ map as_published (decisions_from entries from) ≡ decisions_known entries
 
--- what was told, followed by so many decisions more, is all that was decided
+-- what was told, followed by this many decisions more, is all that was decided
 pub record IsToldBut (entries : List Entry) (count : ℕ) (told : List Decision) : Type 0 where
   pub rest : List Decision
   pub all : told ++ rest ≡ decisions_known entries

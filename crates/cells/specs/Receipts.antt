@@ -16,7 +16,7 @@ pub record AppliedEvent : Type 0 where
   pub outs : List Out
   pub marks : List ℕ
 
--- the same of an entry of a journal, where the bytes of the event have been read
+-- the same of an entry of a journal: the bytes of its event have been read
 pub record Extract : Type 0 where
   pub network : ℕ
   pub number : ℕ

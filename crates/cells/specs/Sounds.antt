@@ -22,14 +22,14 @@ Stands config entries r =
 abbrev pub refused_by : Config → List Entry → Event → Option CellRefusal
 refused_by config entries event = option_map Network (refusal_of config entries (step_of event))
 
--- why an event is refused: it is the first refusal that applies, or there is the mark, or memory is wanting where it
+-- why an event is refused: it is the first refusal that applies, or there is the mark, or it is out of memory, if it
 -- may be
 abbrev pub IsWhy : Config → List Entry → Bool → Event → CellRefusal → Type 0
 IsWhy config entries stopped event r =
     ((r ≡ Network NoMemory) × MayWantMemory config entries (step_of event)) ⊎ ((r ≡ Closed) × (stopped ≡ true))
     ⊎ (refused_by config entries event ≡ Some r)
 
--- the refusal was right after the entries of its number, and the mark is there where it says so
+-- the refusal was right after the entries of its number, and the mark is there if it says so
 abbrev pub IsRight : Config → List Entry → Bool → Denial → Type 0
 IsRight config entries stopped d =
     (d.length ≤ length entries) × IsWhy config (take d.length entries) stopped d.event d.refusal

@@ -19,7 +19,7 @@ pub record Denial : Type 0 where
   pub length : ℕ
 
 -- What a pass knows. It may be the one that a cell begins with (opening), the one that makes the seats (opens), a seat
--- (live), or a note of one (claims), and may have the cell state (holding).
+-- (live), or a note of one (claims). It may also have the cell state (holding).
 pub record Knowledge : Type 0 where
   pub opening : Bool
   pub opens : Bool

@@ -1,9 +1,7 @@
 //! What lies under the lock of a cell.
 
-ghost use Rattle.std.specs.Prelude.{◌≡◌, ◌++◌, ◌∷◌, [], IfErr, IfOk, IfSome, OnErr, false, true};
+ghost use Rattle.std.specs.Prelude.{◌≡◌, ◌++◌, ◌∷◌, [], IfErr, IfOk, IfSome, false, true};
 ghost use mathlib.Core.List.{IsPrefix};
-ghost use Rattle.network.specs.Decoding.{step_of};
-ghost use Rattle.hoststep.specs.Logs.{IsEntered, IsRecorded, IsRefused, with_entry};
 ghost use Rattle.cells.specs.Cells.{IsDenied, IsEnteredAt};
 ghost use Rattle.cells.specs.Publishing.{IsToldBut, decisions_known};
 
@@ -13,13 +11,13 @@ use crate::watched::{count_decisions, publish_all};
 use configuration::NetConfig;
 use decisions::{Board, Publisher, Watch};
 use envstore::Shelf;
-use hoststep::{Journal, Recorded};
+use hoststep::Journal;
 use std::alloc::Global;
 use std::collections::VecDeque;
 use std::marker::Model;
 use std::snapshot::Snapshot;
 use std::sync::Wait;
-use types::{Event, Refusal};
+use types::Event;
 
 /// The journal of a network, the publisher of its decisions, if the cell has one, the stop mark, and how many seats the
 /// cell has. The decisions of the entries below a kept number were appended to the publisher; those of the others are
@@ -141,17 +139,6 @@ impl<S: Shelf, H: Wait + Drop> CellState<S, H> {
         }
     }
 
-    /// One event, as by [`Journal::apply_recorded`].
-    fn apply_recorded(&mut self, event: Event) -> Result<Recorded, Refusal>
-        ensures ok { IfOk result (λ r. IsEntered self.old.log (step_of event) r.outs.items) }
-        ensures entered { IfOk result (λ r. self.new ≡ record self.old { log = with_entry self.old.log (step_of event) r.outs.items }) }
-        ensures recorded { IfOk result (IsRecorded self.old.log event) }
-        ensures err { IfErr result (IsRefused self.old.log (step_of event)) }
-        ensures same { OnErr result (self.new ≡ self.old) }
-    {
-        self.journal.apply_recorded(event)
-    }
-
     /// Applies an event, if there is no stop mark, and keeps its receipt behind those of a seat. An error leaves all as
     /// it was.
     pub(crate) fn enter(
@@ -174,26 +161,30 @@ impl<S: Shelf, H: Wait + Drop> CellState<S, H> {
             drop(event);
             return Err(CellRefusal::Network(refusal));
         }
-        match self.apply_recorded(event) {
-            Ok(recorded) => {
-                let Recorded {
-                    number,
-                    event,
-                    outs,
-                    marks,
-                } = recorded;
+        let Ok(copy) = event.try_copy(*receipts.allocator()) else {
+            // Memory: the copy has none; a refusal that applies comes first.
+            let refusal = self.journal.refusal(&event);
+            drop(event);
+            return Err(CellRefusal::Network(refusal));
+        };
+        let number = self.journal.len() as u64;
+        match self.journal.apply(copy) {
+            Ok(given) => {
                 let receipt = Receipt {
                     network: self.journal.config().number(),
-                    number: number as u64,
+                    number,
                     event,
-                    outs,
-                    marks,
+                    outs: given.outs,
+                    marks: given.marks,
                 };
                 let made = Snapshot::of(&receipt);
                 receipts.push_back_reserved(receipt);
                 Ok(made)
             }
-            Err(refusal) => Err(CellRefusal::Network(refusal)),
+            Err(refusal) => {
+                drop(event);
+                Err(CellRefusal::Network(refusal))
+            }
         }
     }
 }

@@ -14,7 +14,7 @@ use std::sync::Wait;
 ///
 /// It keeps a receipt until it lets it go, the first one first; the journal has what became of its event all the same.
 ///
-/// Contracts see the cell that it is of, and what it knows: the journal and the stop mark as it saw them last,
+/// Contracts see the cell that it is of, and what it knows. That is the journal and the stop mark as it saw them last,
 /// all its receipts, the refusals that it was answered, and how often it set the mark. Of its receipts they see how
 /// many it has let go.
 ///

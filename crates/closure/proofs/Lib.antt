@@ -10,4 +10,3 @@ mod Gathering
 mod Waking
 pub mod Places
 mod LeastNames
-pub mod SideBySide

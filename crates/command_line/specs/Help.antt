@@ -35,7 +35,7 @@ page_named (name ∷ []) =
     if bytes_eq name (codes "help") then Some page.Help else option_map page.Of (command_in name)
 page_named (name ∷ word ∷ more) = None
 
--- the page of help that the words ask for: by `help`, or by an option, alone or behind a command
+-- the page of help that the words ask for: by `help`, or by an option, as the first word or behind a command
 abbrev pub page_in : List Text → Option Page
 page_in [] = None
 page_in (name ∷ rest) =
@@ -48,8 +48,8 @@ page_in (name ∷ rest) =
 abbrev pub ask_for_help : List Text → Bool
 ask_for_help words = is_some (page_in words)
 
--- what words get that are not taken as a call: help, if they ask for it, and else what is wrong with them, but for want
--- of memory
+-- what words get that are not taken as a call: help, if they ask for it, and else what is wrong with them, unless it is
+-- out of memory
 abbrev pub IsUsage : List Text → Usage → Type 0
 IsUsage words (Help text) = ask_for_help words ≡ true
 IsUsage words (Bad text) = ask_for_help words ≡ false

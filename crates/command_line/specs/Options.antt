@@ -27,8 +27,8 @@ abbrev pub next_in : List Text → Option (Text × List Text)
 next_in [] = None
 next_in (value ∷ rest) = Some (value, rest)
 
--- the value of an option, where this stands behind its name, and the words behind that: the next word, or in the same
--- word what stands behind `=` (61)
+-- the value of an option, if this stands behind its name, and the words behind that: the next word, or in the same word
+-- what stands behind `=` (61)
 abbrev pub value_behind : Option Text → List Text → Option (Text × List Text)
 value_behind None rest = None
 value_behind (Some []) rest = next_in rest
@@ -39,7 +39,7 @@ abbrev pub option_value_in : Text → List Text → Option (Text × List Text)
 option_value_in name [] = None
 option_value_in name (word ∷ rest) = value_behind (behind_front name word) rest
 
--- the number of workers, where it is from 1 to 64
+-- the number of workers, if it is from 1 to 64
 abbrev pub worker_count : ℕ → Option ℕ
 worker_count n = if nat_lt 0 n && nat_lt n 65 then Some n else None
 
@@ -47,17 +47,17 @@ worker_count n = if nat_lt 0 n && nat_lt n 65 then Some n else None
 abbrev pub workers_in : Text → Option ℕ
 workers_in word = option_and_then worker_count (word_number (2 ^ 64) word)
 
--- the options with a number of workers beside them, if there was none, and the words behind it
+-- the options with a number of workers too, if there was none, and the words behind it
 abbrev pub with_workers : Options → Text × List Text → Option (Options × List Text)
 with_workers asked given = if is_none asked.workers
     then option_map (λ n. (record asked { workers = Some n }, given.1)) (workers_in given.0) else None
 
--- the options with a form of report beside them, if there was none, and the words behind it
+-- the options with a form of report too, if there was none, and the words behind it
 abbrev pub with_format : Options → Text × List Text → Option (Options × List Text)
 with_format asked given = if is_none asked.format
     then option_map (λ f. (record asked { format = Some f }, given.1)) (format_in given.0) else None
 
--- the options with the name of a journal beside them, if there was none, and the words behind it
+-- the options with the name of a journal too, if there was none, and the words behind it
 abbrev pub with_journal : Options → Text × List Text → Option (Options × List Text)
 with_journal asked given = if is_none asked.journal
     then Some (record asked { journal = Some given.0 }, given.1) else None
@@ -92,12 +92,12 @@ abbrev pub journal_option : Options → List Text → Option (Options × List Te
 journal_option asked words = option_or (option_and_then (with_journal asked) (option_value_in (codes "--journal") words))
     (option_and_then (with_from asked) (option_value_in (codes "--from") words))
 
--- the options with one of `serve` beside them: a number of workers, a journal, envelopes as bytes or an explanation
+-- the options with one more of `serve`: a number of workers, a journal, envelopes as bytes or an explanation
 abbrev pub serving_in : Options → List Text → Option (Options × List Text)
 serving_in asked words = option_or (workers_option asked words) (option_or (journal_option asked words)
     (option_or (with_bytes asked words) (with_explanation asked words)))
 
--- the options with the one of a command beside them that the first words are, each once, and the words behind it
+-- the options with one more of a command, which is the one that the first words are, each once, and the words behind it
 abbrev pub option_in : Command → Options → List Text → Option (Options × List Text)
 option_in command.Table asked words = with_explanation asked words
 option_in command.Run asked words = option_or (workers_option asked words) (with_explanation asked words)

@@ -58,7 +58,7 @@ pub fn fault_of_words<S: AsStr>(command: Command, words: &[S]) -> Fault<'_> {
     }
 }
 
-/// What is wrong if the first word has no place behind a command, or is an option of it.
+/// What is wrong if the first word has no place behind a command, or is one of its options.
 fn fault_of_option<'a, S: AsStr>(command: Command, words: &'a [S]) -> Fault<'a> {
     let [first, ..] = words else {
         return Fault::BadWord;

@@ -16,12 +16,12 @@ pub const COMMANDS: [Command; 9] = [
     Command::Decode,
 ];
 
-/// A command, an operand or an option as it is spelled, and what is said of it.
+/// A command, an operand or an option as it is spelled, and what is said about it.
 #[derive(Clone, Copy)]
 pub struct Part<'a> {
     /// As it is spelled.
     pub name: &'a str,
-    /// What is said of it.
+    /// What is said about it.
     pub about: &'a str,
 }
 
@@ -32,7 +32,7 @@ pub struct Form<'a> {
     pub command: Part<'a>,
     /// Its operands, all of which it wants; it may have none.
     pub operands: &'a [Part<'a>],
-    /// Its options beside `--help`.
+    /// Its options apart from `--help`.
     pub options: &'a [Part<'a>],
     /// What stands at the end of its help.
     pub more: &'a str,

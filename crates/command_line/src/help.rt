@@ -20,9 +20,9 @@ pub enum Page {
     Of(Command),
 }
 
-/// The page of help that words ask for: the whole for `--help` or `help`, the version for `--version`, and that of a
-/// command for `help COMMAND` or for a `--help` behind its name. `None` if they ask for none, or for that of an unknown
-/// command; what stands behind the first `--` asks for nothing.
+/// The page of help that words ask for. It is the whole for `--help` or `help`, and the version for `--version`. It is
+/// that of a command for `help COMMAND` or for a `--help` behind its name. `None` if they ask for none, or for that of
+/// an unknown command; what stands behind the first `--` asks for nothing.
 pub fn page_of<S: AsStr>(words: &[S]) -> Option<Page>
     ensures { result ≡ page_in (map S.text words.now) }
 {

@@ -1,7 +1,7 @@
 //! The command line of the host: which words are which call, and what is answered to words that are none.
 //!
 //! A command stands with its name in `command`, its options in `options`, its operands in `call`, and all that is told
-//! of it in `form`. The words are read once, by these.
+//! about it in `form`. The words are read once, by these.
 #![tactic(auto)]
 
 mod call;

@@ -129,7 +129,7 @@ pub fn options_and_operands<'a, S: AsStr>(
     }
 }
 
-/// What is asked for with all options beside it that the words begin with, and the words behind them.
+/// What is asked for, with all options that the words begin with, and the words behind them.
 fn options_before<'a, S: AsStr>(
     command: Command,
     asked: Options<'a>,
@@ -350,7 +350,7 @@ fn with_explanation<'a, S: AsStr>(
     }
 }
 
-/// The value that the first words give to the option of this name, and the words behind it: it is the next word, or
+/// The value that the first words give to the option of this name, and the words behind it. It is the next word, or
 /// stands behind `=` in the same one.
 fn value_before<'a, S: AsStr>(name: &str, words: &'a [S]) -> Option<(&'a str, &'a [S])>
     ensures value { option_map (λ p. (p.0.now, map S.text p.1.now)) result ≡ option_value_in name.now (map S.text words.entry.now) }

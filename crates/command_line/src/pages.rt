@@ -110,7 +110,7 @@ pub fn push_names(text: &mut String, parts: &[Part<'_>]) -> Result<(), AllocErro
     Ok(())
 }
 
-/// Adds a line on a part: its name behind these spaces, in a column of this width, and what is said of it.
+/// Adds a line on a part: its name behind these spaces, in a column of this width, and what is said about it.
 fn push_part(
     text: &mut String,
     before: &str,

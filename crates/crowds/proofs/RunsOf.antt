@@ -1,7 +1,8 @@
 -- The run of one network, event after event.
-use Rattle.std.proofs.Common.{◌≡◌, ◌≢◌, Result, Ok, Err, inl, inr, ℕ, ◌+◌, ◌≤◌, Bool, true, false, ◌&&◌, ◌==◌, Option, Some, None, List, [], ◌∷◌, ◌++◌, filter, length, map, take, slice_get, if◌then◌else◌, is_some, refl, sym, ◌∙◌, ap, subst}
+use Rattle.std.proofs.Common.{◌≡◌, ◌≢◌, Result, Ok, Err, inl, inr, ℕ, ◌+◌, ◌<◌, ◌≤◌, Bool, true, false, ◌&&◌, ◌==◌, Option, Some, None, List, [], ◌∷◌, ◌++◌, filter, get_or, length, map, take, slice_get, if◌then◌else◌, is_some, refl, sym, ◌∙◌, ap, subst}
 use Rattle.std.proofs.lemmas.List.{append-nil, map-append, take_all}
 use Rattle.std.proofs.lemmas.List.Elements.{filter-append}
+use Rattle.std.proofs.lemmas.Option.{slice_get_read}
 use Rattle.types.specs.declared.event.Event.{Event}
 use Rattle.std.specs.Prelude.{IfOk}
 use Rattle.types.specs.declared.event.Refusal.{Refusal}
@@ -75,6 +76,10 @@ so_far h k = record { configs = h.configs; calls = take k h.calls }
 
 abbrev pub log_so_far : History → Config → ℕ → ℕ → Log
 log_so_far h c g k = record { config = c; entries = entries reading (so_far h k) g }
+
+-- the call at which a loop over the calls stands
+pub call_at : (h : History) (calls : List (ℕ × Event)) (k : ℕ) (call : ℕ × Event) → calls ≡ h.calls → k < length calls → call ≡ get_or calls k call → slice_get h.calls k ≡ Some call
+call_at h calls k call same within is = ap (λ (cs : List (ℕ × Event)). slice_get cs k) (sym same) ∙ slice_get_read calls (length calls) k call refl within is
 
 module _ (h : History) (c : Config) (g : ℕ) (is : config_of h.configs g ≡ Some c) where
   steps : List (ℕ × Event) → List Step

@@ -22,10 +22,10 @@ defined_crowd (code.Same replies) = Same replies
 abbrev pub IsCrowdHere : History → History → ℕ → ℕ → ℕ → CrowdVerdict → Type 0
 IsCrowdHere one other g i v c = IsCrowd reading one other g i v (defined_crowd c)
 
--- Reserved shares, of these two submissions and this host's decoder: if the closure of v in the first has the same
--- hosted members in both, both networks have one roster with equal shares and equal budgets of open slots, the closure
--- lies in the roster, and the submitted steps that concern it are the same in order, those of deliveries by their
--- envelopes, then so are their replies, refusals included, and each hosted member gives out the same in both.
+-- Reserved shares, of these two submissions and this host's decoder. Let both networks host the members of the closure
+-- of v in the first alike. Let them have one roster with equal shares, which holds the closure, and equal budgets of
+-- open slots. Let the submitted steps that concern the closure be the same in order, those of deliveries by their
+-- envelopes. Then their replies are the same, refusals included, and so is what each hosted member gives out.
 abbrev pub AreNeverCrowdedOut : History → History → ℕ → ℕ → ℕ → Type 0
 AreNeverCrowdedOut one other g i v =
     let R = closure (nodes_of one.configs g) i v (entries reading one g) in

@@ -35,7 +35,7 @@ abbrev pub DeliversBytes : Event → Type 0
 DeliversBytes (Deliver u bytes) = IsBytes bytes
 DeliversBytes _ = ⊤
 
--- bytes are read as this envelope, where they are one
+-- bytes are read as this envelope, if they are one
 abbrev pub IsReadAs : Reading → Option Sent → Type 0
 IsReadAs (Read e) (Some d) = e ≡ d
 IsReadAs (Fault n) None = ⊤

@@ -33,7 +33,7 @@ use types::Subject;
 ///
 /// Of deliveries it is enough that the envelopes are the same, since an envelope tells how many bytes it has.
 ///
-/// An error says that it is out of memory, in an event or beside one.
+/// An error says that it is out of memory, for an event or for anything else.
 pub fn crowd(
     alloc: Global,
     one: &Submission,

@@ -21,7 +21,7 @@ use std::alloc::{AllocError, Global};
 use types::{Event, Refusal};
 
 /// The journal of a network after all that was submitted to it. Networks know nothing of one another, so no other is
-/// run. An error says that it is out of memory, in an event or beside one.
+/// run. An error says that it is out of memory, for an event or for anything else.
 pub(crate) fn replay(
     alloc: Global,
     submission: &Submission,

@@ -16,7 +16,7 @@ text_of_namer place namer = if place == 0 then codes " -\n" else codes " " ++ (d
 abbrev pub line_of_named_member : ℕ × (ℕ × ℕ) → Bytes
 line_of_named_member m = decimal m.0 ++ (32 ∷ text_of_name m.1.0 ++ text_of_namer m.0 m.1.1)
 
--- the line of the member at a place, where there is one
+-- the line of the member at a place, if there is one
 abbrev pub line_at : ℕ → Option (ℕ × ℕ) → Bytes
 line_at place None = []
 line_at place (Some m) = line_of_named_member (place, m)

@@ -9,7 +9,7 @@ use types::NodeId;
 /// How high a member is drawn, in pixels.
 pub const HEIGHT: u64 = 22;
 
-/// What is shown of a member beside its name.
+/// What is shown of a member besides its name.
 #[derive(Clone, Copy)]
 pub struct Mark {
     /// It is hosted.

@@ -80,8 +80,8 @@ impl ClosureReport {
 /// after all entries: those that a hosted member was given last since the slot was opened, else the configured ones. An
 /// error says that it is out of memory.
 ///
-/// Beside the closure it sorts the members, and asks the journal once for the slices of each. For a hosted member it
-/// tests of each name in them whether it blocks them by itself: at most 256 tests of at most 256 names.
+/// Besides what the closure takes, it sorts the members, and asks the journal once for the slices of each. For a hosted
+/// member it tests of each name in them whether it blocks them by itself: at most 256 tests of at most 256 names.
 pub fn report_of<J: Announcements>(
     alloc: Global,
     journal: &J,

@@ -8,7 +8,7 @@ pub data Act : Type 0 where
   Synced : Act
   Told : Bytes → Act
 
--- these acts were done since, where it is known what was done
+-- these acts were done since, if it was known what was done before
 abbrev pub Did : Option (List Act) → Option (List Act) → List Act → Type 0
 Did None new acts = Unit {0}
 Did (Some before) None acts = ⊥

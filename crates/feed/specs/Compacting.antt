@@ -10,8 +10,8 @@ use Rattle.feed.specs.Served.{Serving}
 use Rattle.feed.specs.declared.replaying.JournalEnd.{JournalEnd}
 
 -- The lines of a journal before its end were answered again, and what lasts of them was written as a shorter one. Or a
--- line is none of a journal, behind lines that are, or something else was in the way; only where a write failed a part may
--- have been written.
+-- line is none of a journal, behind lines that are, or something else was in the way. Then nothing was written, unless
+-- a write failed: of what that left nothing is said.
 abbrev pub HasCompacted : {S : Type 0} → Serving S → ℕ → S → Option Bytes → Option Bytes → Option Bytes
     → Result (Unit {0}) Stop → Type 0
 HasCompacted {S} serves longest s file old new (Ok _) =

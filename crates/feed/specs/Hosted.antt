@@ -10,9 +10,9 @@ use Rattle.feed.specs.Acts.Act.{Synced, Told, Wrote}
 use Rattle.feed.specs.declared.fault.Fault.{Fault}
 use Rattle.feed.specs.declared.fault.Fault.TheVariants as fault
 
--- Lines were served from a state on, the first with this number, and these were done for them: each line is served, and
--- its line in the journal written; what waits to be told is told once all that was written is on the disk. Where a line
--- could not be written, a part of it may stand behind the others, and no line follows.
+-- Lines were served from a state on, the first with this number, and these acts were done for them. Each line is
+-- served, and its line in the journal written. What waits to be told is told once all that was written is on the disk.
+-- If a line could not be written, a part may stand behind the others, and no line follows.
 pub data Hosts {S : Type 0} (serves : Serving S) (longest : ℕ) (s : S) (n : ℕ)
     : List Bytes → List Act → Bytes → Bytes → S → Type 0 where
   begins : Hosts serves longest s n [] [] [] [] s
@@ -30,9 +30,9 @@ pub data Hosts {S : Type 0} (serves : Serving S) (longest : ℕ) (s : S) (n : �
 
 -- ---- a stop
 
--- A stop at the moment when these had been done left this file, and a start runs these lines of it: those that the
--- journal had before, and then the lines of the journal that stand for a beginning of what was read. To this beginning
--- belongs each line of which anything was told. Run again, they may lead to the state to which they led.
+-- A stop at the moment when these had been done left this file. A start runs the lines that the journal had before, and
+-- then the lines of the journal that stand for a beginning of what was read. To this beginning belongs each line of
+-- which anything was told. Run again, they may lead to the state to which they led.
 pub record Survives {S : Type 0} (serves : Serving S) (longest : ℕ) (s : S) (n : ℕ) (before lines : List Bytes)
     (done : List Act) (file : Bytes) : Type 0 where
   pub first : List Bytes
@@ -50,7 +50,7 @@ pub record Survives {S : Type 0} (serves : Serving S) (longest : ℕ) (s : S) (n
   pub runs : lines_run file ≡ before ++ (journal ++ more)
   pub replays : ServesAll serves longest s n (journal ++ more) (journal ++ more) again later
 
--- the same of each moment, and of each file that a stop may leave then, where the journal was on the disk before
+-- the same of each moment, and of each file that a stop may leave then, if the journal was on the disk before
 abbrev pub SurvivesStops : {S : Type 0} → Serving S → ℕ → S → ℕ → List Bytes → List Act → Type 0
 SurvivesStops serves longest s n lines acts =
     (before : List Bytes) → IsTrue (list_all is_whole_line before) → (done left : List Act) → acts ≡ done ++ left
@@ -69,7 +69,7 @@ IsTold (Err fault.NotAppended) old new acts = Appends old new (told_by acts)
 IsTold (Err fault.NotSynced) old new acts = Appends old new (told_by acts)
 IsTold (Err fault.CannotWrite) old new acts = Unit {0}
 
--- so much was done of lines, and what was told of it, unless telling failed
+-- these acts were done, and what they told was told, unless telling failed
 abbrev pub HasDone : Option (List Act) → Option (List Act) → Option Bytes → Option Bytes → Result (Unit {0}) Fault
     → List Act → Type 0
 HasDone before after old new result acts = Did before after acts × IsTold result old new acts
@@ -91,8 +91,9 @@ IsEndedBy fault.NotAppended m part waits t u = waits ≡ []
 IsEndedBy fault.NotSynced m part waits t u = Unit {0}
 IsEndedBy fault.CannotWrite m part waits t u = Unit {0}
 
--- What was sent was served line by line as it came, from a state on, the first line with this number, and this is left
--- of it. At the end all of its whole lines were served and told; else lines with which it begins.
+-- What was sent was served line by line as it came, from a state on. The first line has this number, and this is left
+-- of what was sent. At the end all its whole lines were served and told. After a fault, lines with which it begins were
+-- served.
 abbrev pub HasHostedStream : {S : Type 0} → Serving S → ℕ → S → ℕ → Option Bytes → Option Bytes
     → (Result (Unit {0}) Fault → List Act → Type 0) → Result (Unit {0}) Fault → S → Type 0
 HasHostedStream serves longest s n input left did (Ok _) t =

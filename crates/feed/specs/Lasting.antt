@@ -16,7 +16,7 @@ use Rattle.feed.specs.declared.answering.Drawn.{Drawn}
 
 -- ---- what is known of a journal
 
--- a line that declares a network, or a node or the roster of it
+-- a line that declares a network, one of its nodes or its roster
 pub record Declaration : Type 0 where
   pub network : ℕ
   pub text : Bytes
@@ -31,8 +31,8 @@ pub record SlotLines : Type 0 where
   pub lines : List ℕ
   pub drawn : Drawn
 
--- a network that is declared: the numbers of the lines that declared it, whether an event has named it, what events drew
--- that are not of open slots, and its open slots by number
+-- A network that is declared: the numbers of the lines that declared it, and whether an event has named it. Then what
+-- events drew that are not of open slots, and its open slots by number.
 pub record NetworkLines : Type 0 where
   pub declared : List ℕ
   pub is_named : Bool
@@ -224,7 +224,7 @@ lost_at (Some net) = net.lost
 abbrev pub declaration_text : List (ℕ × NetworkLines) → Declaration → Bytes
 declaration_text networks d = lowered (lost_at (entry_at networks d.network)) d.text ++ 10 ∷ []
 
--- `close N 0`, a line that is refused and names a network: where an event has named it, and no slot is open
+-- `close N 0`, a line that is refused and names a network; nothing if no event has named it, or a slot is open
 abbrev pub naming_text : ℕ × NetworkLines → Bytes
 naming_text e =
     if e.1.is_named && not (nat_lt 0 (length e.1.slots)) then codes "close " ++ (decimal e.0 ++ 32 ∷ 48 ∷ 10 ∷ []) else []

@@ -20,15 +20,15 @@ unkept_stays n (Some []) text did old e = refl
 unkept_stays n (Some (b ∷ line)) text None old e = refl
 unkept_stays n (Some (b ∷ line)) text (Some done) old e = cc
 
--- a law: only kept lines change a server that also notes which lines last, if this is so of it alone
+-- a law: only kept lines change a server that also notes which lines last, if this is so without the notes
 pub lasting_only_kept_lines_count : {S : Type 0} (serves : Serving S) → OnlyKeptLinesCount serves → OnlyKeptLinesCount (Watching serves)
 lasting_only_kept_lines_count serves only s t n line a by e =
     same_watched s t (only s.server t.server n line a by.0 e) (by.1 ∙ unkept_stays n line a.text a.done s.lines e)
 
--- a law: empty lines change nothing of a server that also notes which lines last, if this is so of it alone
+-- a law: empty lines change nothing of a server that also notes which lines last, if this is so without the notes
 pub lasting_empty_lines_are_skipped : {S : Type 0} (serves : Serving S) → EmptyLinesAreSkipped serves → EmptyLinesAreSkipped (Watching serves)
 lasting_empty_lines_are_skipped serves skipped s n = (skipped s.server n, refl)
 
--- a law: kept lines of a server that notes which lines last have no byte 0, if this is so of it alone
+-- a law: kept lines of a server that notes which lines last have no byte 0, if this is so without the notes
 pub lasting_kept_lines_are_whole : {S : Type 0} (serves : Serving S) → KeptLinesAreWhole serves → KeptLinesAreWhole (Watching serves)
 lasting_kept_lines_are_whole serves whole s t n line a by kept = whole s.server t.server n line a by.0 kept

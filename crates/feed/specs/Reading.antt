@@ -8,7 +8,7 @@ use Rattle.scripts.specs.declared.input.ReadError.TheVariants as read
 use Rattle.feed.specs.declared.reading.Piece.{Piece}
 use Rattle.feed.specs.declared.reading.Piece.TheVariants as piece
 
--- what is kept of a line: the line as it is given, and whether a byte of it is 0
+-- what is kept of a line: the line as it is given, and whether one of its bytes is 0
 pub record HeldLine : Type 0 where
   pub given : Option Bytes
   pub hole : Bool
@@ -34,12 +34,12 @@ longer_given longest (Some line) more = given longest (line ++ more)
 abbrev pub longer : ℕ → HeldLine → Bytes → HeldLine
 longer longest h more = record { given = longer_given longest h.given more; hole = h.hole || has_hole more }
 
--- what is kept of a line that these bytes come behind: as it is held with them, where it was held so far
+-- what is kept of a line that these bytes come behind: if the line was held so far, it is held with them now
 abbrev pub Grows : ℕ → HeldLine → HeldLine → Bytes → Type 0
 Grows longest before after bytes = (line : Bytes) → before ≡ held longest line → after ≡ held longest (line ++ bytes)
 
--- what was taken from a reader as the next piece of a line, of which this was and is kept: bytes with no line feed (10) in
--- them, and behind the last of the line its feed. At the end nothing is left to take.
+-- What was taken from a reader as the next piece of a line, of which this was kept before and that is kept now. It is
+-- bytes with no line feed (10) in them, and behind the last of the line its feed. At the end nothing is left to take.
 abbrev pub IsNextPiece : ℕ → Option Bytes → Option Bytes → HeldLine → HeldLine → Piece → Type 0
 IsNextPiece longest old new before after piece.Part =
     (bytes : Bytes) × IsTrue (has_no_feed bytes) × Consumes old new bytes × Grows longest before after bytes
@@ -47,7 +47,7 @@ IsNextPiece longest old new before after (piece.Last more) =
     (bytes : Bytes) × IsTrue (has_no_feed bytes) × Consumes old new (bytes ++ 10 ∷ []) × Grows longest before after bytes
 IsNextPiece longest old new before after piece.End = Consumes old new [] × IfSome old (λ _. IsAtEnd new)
 
--- a reader's next line was taken with its line feed, or, where there was none any more, all that was left
+-- a reader's next line was taken with its line feed; or, if there was none any more, all that was left
 abbrev pub IsNextLine : ℕ → Option Bytes → Option Bytes → HeldLine → Option Bool → Type 0
 IsNextLine longest old new read (Some more) =
     (line : Bytes) × IsTrue (has_no_feed line) × Consumes old new (line ++ 10 ∷ []) × (read ≡ held longest line)

@@ -9,12 +9,12 @@ use Rattle.feed.specs.Served.{LineReply, ServesAll, Serving, is_kept, unanswered
 use Rattle.feed.specs.Acts.{lines_run}
 use Rattle.feed.specs.declared.replaying.JournalEnd.{JournalEnd}
 
--- a line with this number is told, where lines are told from that one on
+-- a line with this number is told: lines are told from a given one on, or none is
 abbrev pub is_told : Option ℕ → ℕ → Bool
 is_told None n = false
 is_told (Some first) n = nat_le first n
 
--- a text where it is to be told, else nothing
+-- a text if it is to be told, else nothing
 abbrev pub told_if : Bool → Bytes → Bytes
 told_if true text = text
 told_if false text = []
@@ -23,7 +23,7 @@ told_if false text = []
 abbrev pub IsJournalReply : LineReply → Type 0
 IsJournalReply a = (is_kept a ≡ true) ⊎ (a ≡ unanswered)
 
--- a line is answered as it was, if it is one of a journal; what is told of it is told only from that line on
+-- a line is answered as it was, if it is one of a journal; the answer is told only from that line on
 abbrev pub Replaying : {S : Type 0} → Option ℕ → Serving S → Serving S
 Replaying from serves s n line told t =
     (a : LineReply) × serves s n line a t × IsJournalReply a × (told ≡ record { text = told_if (is_told from n) a.text; done = a.done })

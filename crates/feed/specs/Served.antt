@@ -5,7 +5,7 @@ use Rattle.feed.specs.WholeLines.{given, has_no_hole}
 use Rattle.feed.specs.declared.answering.Answer.{Answer}
 use Rattle.feed.specs.declared.answering.Done.{Done}
 
--- what a line is answered: what is told of it; and what it did, where the journal keeps it
+-- what a line is answered: what is told; and what the line did, if the journal keeps it
 pub record LineReply : Type 0 where
   pub text : Bytes
   pub done : Option Done
@@ -18,7 +18,7 @@ is_kept a = is_some a.done
 abbrev pub unanswered : LineReply
 unanswered = record { text = []; done = None }
 
--- what is told of a line's answer, and what the line did; nothing where the line is skipped
+-- what is told of a line's answer, and what the line did; nothing if the line is skipped
 abbrev pub reply_of : Option Answer → LineReply
 reply_of None = unanswered
 reply_of (Some a) = record { text = string_bytes a.block; done = a.done }
@@ -35,7 +35,7 @@ AreAnswered serves s n [] (a ∷ answers) t = ⊥
 AreAnswered {S} serves s n (line ∷ lines) (a ∷ answers) t =
     (u : S) × serves s n line a u × AreAnswered serves u (n + 1) lines answers t
 
--- the line of the journal that stands for a line: the line, where it is kept, or an empty one
+-- the line of the journal that stands for a line: the line, if it is kept and not too long, or an empty one
 abbrev pub kept_as : Option Bytes → Bool → Bytes
 kept_as None kept = []
 kept_as (Some line) true = line
@@ -58,8 +58,8 @@ abbrev pub KeptLinesAreWhole : {S : Type 0} → Serving S → Type 0
 KeptLinesAreWhole {S} serves =
     (s t : S) (n : ℕ) (line : Bytes) (a : LineReply) → serves s n (Some line) a t → is_kept a ≡ true → IsTrue (has_no_hole line)
 
--- lines were served one after the other, the first with this number: the lines of the journal that stand for them, what
--- is told of them, and the state that is left
+-- Lines were served one after the other, the first with this number. These are the lines of the journal that stand for
+-- them, what is told of them, and the state that is left.
 pub data ServesAll {S : Type 0} (serves : Serving S) (longest : ℕ) : S → ℕ → List Bytes → List Bytes → Bytes → S → Type 0 where
   none : {s : S} {n : ℕ} → ServesAll serves longest s n [] [] [] s
   next : {s t u : S} {n : ℕ} {line : Bytes} {more journal : List Bytes} {others : Bytes} (a : LineReply)

@@ -8,7 +8,7 @@ use Rattle.feed.specs.Acts.Act.{Synced, Told, Wrote}
 use Rattle.feed.specs.declared.fault.Fault.{Fault}
 use Rattle.feed.specs.declared.fault.Fault.TheVariants as fault
 
--- the line behind so many was answered and written; or why not
+-- the line behind this many was answered and written; or why not
 abbrev pub HasServedLine : {S : Type 0} → Serving S → S → ℕ → Option Bytes → Bytes → Option (List Act) → Option (List Act)
     → Result (Unit {0}) Fault → Bytes → ℕ → S → Type 0
 HasServedLine serves s c given waits old new (Ok _) now d t =
@@ -23,7 +23,7 @@ HasServedLine serves s c given waits old new (Err fault.CannotRead) now d t = �
 HasServedLine serves s c given waits old new (Err fault.NotSynced) now d t = ⊥
 HasServedLine serves s c given waits old new (Err fault.CannotWrite) now d t = ⊥
 
--- lines behind so many were answered and written one after the other, until one was not
+-- lines behind this many were answered and written one after the other, until one was not
 abbrev pub HasServedLines : {S : Type 0} → Serving S → S → ℕ → List (Option Bytes) → Bytes → Option (List Act)
     → Option (List Act) → Result (Unit {0}) Fault → Bytes → ℕ → S → Type 0
 HasServedLines serves s c [] waits old new result later e u =

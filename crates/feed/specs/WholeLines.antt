@@ -16,7 +16,7 @@ pub record AreWholeLines (text : Bytes) (lines : List Bytes) : Type 0 where
   pub plain : IsTrue (list_all has_no_feed lines)
   pub unended : IsTrue (has_no_feed rest)
 
--- a line as it is given: itself, or `None` where it has more bytes than the longest
+-- a line as it is given: itself, or `None` if it has more bytes than the longest
 abbrev pub given : ℕ → Bytes → Option Bytes
 given longest line = if nat_lt longest (length line) then None else Some line
 

@@ -14,7 +14,7 @@ use std::thread::Threads;
 /// What a line is answered.
 #[derive(Drop)]
 pub struct Answer {
-    /// What is told of it: whole lines with their line feeds.
+    /// What is told: whole lines with their line feeds.
     pub block: String,
     /// What it did, if a journal keeps it. A line that no journal keeps has changed nothing.
     pub done: Option<Done>,
@@ -32,7 +32,7 @@ pub struct Done {
 /// What a line did to its network.
 #[derive(Clone, Copy)]
 pub enum Deed {
-    /// It declared the network, or a node or the roster of it.
+    /// It declared the network, one of its nodes or its roster.
     Declared,
     /// It was an event that was refused. It still names the network, which takes no declaration after it.
     Refused,

@@ -181,7 +181,7 @@ impl Drawn {
     }
 }
 
-/// A line that declares a network, or a node or the roster of it.
+/// A line that declares a network, one of its nodes or its roster.
 #[derive(Drop)]
 struct Declaration {
     network: u32,
@@ -292,8 +292,8 @@ impl Model for SlotLines {
     ghost view = { λ slot. record { lines = slot.lines.items; drawn = slot.drawn } };
 }
 
-/// A network that is declared: the numbers of the lines that declared it, whether an event has named it, what events
-/// drew that are not of open slots, and its open slots.
+/// A network that is declared: the numbers of the lines that declared it, and whether an event has named it. Then what
+/// events drew that are not of open slots, and its open slots.
 #[derive(Drop)]
 struct NetworkLines {
     declared: Vec<u64>,

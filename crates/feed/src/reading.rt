@@ -17,8 +17,8 @@ pub const LONGEST_LINE: usize = 262_144;
 /// How many bytes of lines are read at a time (this host's profile).
 pub const READ_SIZE: usize = 262_144;
 
-/// A line as far as it has come. Of one with more than `LONGEST_LINE` bytes it shows only that, and whether a byte of
-/// it is 0.
+/// A line as far as it has come. Of one with more than `LONGEST_LINE` bytes it shows only that, and whether one of its
+/// bytes is 0.
 #[derive(Drop)]
 pub struct KeptLine {
     bytes: Vec<u8>,
@@ -134,7 +134,7 @@ pub(crate) fn next_line<X: Wait, R: BufRead>(
     unreachable!()
 }
 
-/// Reads what the reader has at hand of a line, or waits for more of it.
+/// Reads what the reader has at hand of a line, or waits for more.
 fn read_piece<R: BufRead>(reader: &mut R, line: &mut KeptLine) -> Result<Piece, ReadError>
     ensures next { IfOk result (IsNextPiece LONGEST_LINE (R.remaining reader.old) (R.remaining reader.new) line.old line.new) }
     ensures failed { IfErr result (λ why. why ≢ ReadError.TooLong) }

@@ -28,9 +28,9 @@ pub struct JournalEnd {
 /// number, nothing is. Only lines that come in one read are kept, and their answers. They are answered together, as
 /// many as the server takes at once, and fewer behind answers of many bytes.
 ///
-/// It stops early if a line is no line of a journal ([`Stop::BadLine`], with its number): it is too long, or its answer
-/// says that a journal does not keep it. It also stops if a read or a write fails, or if it is out of memory; and if no
-/// number below 2^64 is left for the lines or their bytes ([`Stop::TooLong`]).
+/// It stops early if a line is no line of a journal ([`Stop::BadLine`], with its number). Such a line is too long, or
+/// its answer says that a journal does not keep it. It also stops if a read or a write fails, or if it is out of
+/// memory. And it stops if no number below 2^64 is left for the lines or their bytes ([`Stop::TooLong`]).
 pub fn replay<X: Threads + Wait + AllocGlobal + Sync, S: BatchServer, R: BufRead, W: Write>(
     rt: &X,
     server: &mut S,
@@ -85,7 +85,7 @@ fn replay_lines<X: Threads + AllocGlobal + Sync, S: BatchServer, W: Write>(
                 *answered = answered.saturating_add(length_of(&answer));
                 end = take_line::<S, W>(line, answer, Place { from, end }, out)?;
             }
-            // Memory: an answer is wanting, so there was none for it.
+            // Memory: an answer is missing, so there was none for it.
             None => return Err(Stop::NoMemory),
         }
     }

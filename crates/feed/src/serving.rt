@@ -44,7 +44,7 @@ impl<S: BatchServer> Feed<S> {
     }
 
     /// Reads lines until the input ends, and has each of them answered, with its number, counted over all lines. A line
-    /// stands in the journal, and the journal is on the disk, before anything is told of it. The lines at hand go there
+    /// stands in the journal, and the journal is on the disk, before its answer is told. The lines at hand go there
     /// together, and what they are answered is told before a further one is waited for.
     ///
     /// A line ends with its line feed, and is given without it; what stands behind the last line feed when the input
@@ -94,7 +94,7 @@ impl<S: BatchServer> Feed<S> {
         for line in numbered {
             match answers.pop_front() {
                 Some(answer) => self.settle(line, answer, desk)?,
-                // Memory: an answer is wanting, so there was none for it.
+                // Memory: an answer is missing, so there was none for it.
                 None => return Err(Fault::NoMemory),
             }
         }
@@ -104,7 +104,7 @@ impl<S: BatchServer> Feed<S> {
         Ok(())
     }
 
-    /// Writes a line that was answered to the journal. What is told of it waits.
+    /// Writes a line that was answered to the journal. Its answer waits to be told.
     fn settle<D: Desk>(
         &mut self,
         line: &KeptLine,

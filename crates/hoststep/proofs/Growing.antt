@@ -18,7 +18,7 @@ use Rattle.protocol.specs.Networks.Reply.{Done}
 use Rattle.protocol.specs.Networks.Step.{Opens, Closes, Proposes, Delivers, Hears, NominationTimerFires, BallotTimerFires, Reslices}
 use Rattle.protocol.specs.Hosts.{Config, Entry, new_net}
 use Rattle.protocol.specs.Runs.{IsRun, net_after, outs_given, refusal_of, state_of}
-use Rattle.slot.specs.Filings.{AreFiledOuts, IsFiledOut, copies_of, whole_outs}
+use Rattle.slot.specs.Filings.{AreFiledOuts, IsFiledOut, whole_outs}
 use Rattle.slot.specs.declared.filed.FiledOut.{FiledOut}
 use Rattle.network.specs.Answers.{IsApplied}
 use Rattle.network.specs.declared.applied.Outcome.{Outcome}
@@ -31,7 +31,7 @@ use Rattle.hoststep.specs.declared.kept.KeptEvent.TheVariants as events
 use Rattle.hoststep.specs.Hosting.{NamesNodes}
 use Rattle.hoststep.specs.Keeping.{AreKept, AreOutsListed, IsKeptEvent, IsReadable, entry_of, step_in}
 use Rattle.hoststep.proofs.Listing.{AreEarlier, put-behind}
-use Rattle.hoststep.specs.Logs.{IsJournal, Log, marks_of, with_entry}
+use Rattle.hoststep.specs.Logs.{IsEntered, IsJournal, Log, marks_of, with_entry}
 
 -- ---- runs
 -- an element of a list one longer stands in the old part, or is the new one
@@ -188,58 +188,47 @@ Stands m lists xs = IsJournal (machine_of m) (map entry_of xs) × AreKept m.conf
 abbrev pub log_of : FiledMachine → List StoredEntry → Log
 log_of m xs = record { config = m.config; entries = map entry_of xs }
 
-next-of : (old new : FiledMachine) (lists : OutsLists) (xs : List StoredEntry) (e : Step) (count : ℕ) (a : Outcome) → Stands old lists xs → IsApplied old e count new a → IsNext old.config (map entry_of xs) (record { event = e; outs = whole_outs a.outs.items })
-next-of old new lists xs e count a h d = applied-next old new (map entry_of xs) e (whole_outs a.outs.items) h.0 d.step
+next-of : (old new : FiledMachine) (lists : OutsLists) (xs : List StoredEntry) (e : Step) (a : Outcome) → Stands old lists xs → IsApplied old e new a → IsNext old.config (map entry_of xs) (record { event = e; outs = a.given.outs.items })
+next-of old new lists xs e a h d = applied-next old new (map entry_of xs) e a.given.outs.items h.0 d.step
 
-pub is-readable : (old new : FiledMachine) (lists : OutsLists) (xs : List StoredEntry) (e : Step) (count : ℕ) (a : Outcome) → Stands old lists xs → IsApplied old e count new a → IsReadable e
-is-readable old new lists xs e count a h d = readable (state_of old.config (map entry_of xs)) e (next-of old new lists xs e count a h d).0
+pub is-readable : (old new : FiledMachine) (lists : OutsLists) (xs : List StoredEntry) (e : Step) (a : Outcome) → Stands old lists xs → IsApplied old e new a → IsReadable e
+is-readable old new lists xs e a h d = readable (state_of old.config (map entry_of xs)) e (next-of old new lists xs e a h d).0
 
-pub names-nodes : (old new : FiledMachine) (config : Config) (lists : OutsLists) (xs : List StoredEntry) (e : Step) (count : ℕ) (a : Outcome) → Stands old lists xs → IsApplied old e count new a → config ≡ new.config → new.config ≡ old.config → NamesNodes config.nodes e
-names-nodes old new config lists xs e count a h d is same =
+pub names-nodes : (old new : FiledMachine) (config : Config) (lists : OutsLists) (xs : List StoredEntry) (e : Step) (a : Outcome) → Stands old lists xs → IsApplied old e new a → config ≡ new.config → new.config ≡ old.config → NamesNodes config.nodes e
+names-nodes old new config lists xs e a h d is same =
     let net = state_of old.config (map entry_of xs) in
-    subst (λ (k : Config). NamesNodes k.nodes e) (sym (is ∙ same)) (subst (λ (n : Net). NamesNodes n.nodes e) h.0.state.is (all-hosted net e (next-of old new lists xs e count a h d).0))
+    subst (λ (k : Config). NamesNodes k.nodes e) (sym (is ∙ same)) (subst (λ (n : Net). NamesNodes n.nodes e) h.0.state.is (all-hosted net e (next-of old new lists xs e a h d).0))
 
--- what an event gives out after the entries of a journal
-abbrev pub outs_after : Log → Step → List Out
-outs_after l e = outs_given l.config l.entries e
+pub entered : (l : Log) (old new : FiledMachine) (lists : OutsLists) (xs : List StoredEntry) (e : Step) (a : Outcome) → log_of old xs ≡ l → Stands old lists xs → IsApplied old e new a → IsEntered l e a.given.outs.items
+entered l old new lists xs e a is h d = subst (λ (k : Log). IsEntered k e a.given.outs.items) is (next-of old new lists xs e a h d)
 
--- an event is not refused after a journal, and leaves its marks and so many whole copies of its outs
-pub record IsEnteredWith (l : Log) (e : Step) (count : ℕ) (a : Outcome) : Type 0 where
-  pub free : refusal_of l.config l.entries e ≡ None
-  pub marks : a.marks.items ≡ marks_of l.config l.entries e
-  pub copies : map (λ v. v.items) a.copies.items ≡ copies_of count (outs_after l e)
-
-pub entered-with : (l : Log) (old new : FiledMachine) (lists : OutsLists) (xs : List StoredEntry) (e : Step) (count : ℕ) (a : Outcome) → log_of old xs ≡ l → Stands old lists xs → IsApplied old e count new a → IsEnteredWith l e count a
-entered-with l old new lists xs e count a is h d =
-    let next = next-of old new lists xs e count a h d in
-    subst (λ (k : Log). IsEnteredWith k e count a) is
-    (record { free = next.0; marks = d.marks (state_of old.config (map entry_of xs)) h.0.state; copies = d.copies ∙ ap (λ (os : List Out). copies_of count os) next.1 })
+pub marks-named : (l : Log) (old new : FiledMachine) (lists : OutsLists) (xs : List StoredEntry) (e : Step) (a : Outcome) → log_of old xs ≡ l → Stands old lists xs → IsApplied old e new a → a.given.marks.items ≡ marks_of l.config l.entries e
+marks-named l old new lists xs e a is h d = subst (λ (k : Log). a.given.marks.items ≡ marks_of k.config k.entries e) is (d.marks (state_of old.config (map entry_of xs)) h.0.state)
 
 -- what an entry more is made of: the event, and what was given out
 pub record IsEntryFor (e : Step) (outs : List FiledOut) (x : StoredEntry) : Type 0 where
   pub step : step_in x.event ≡ e
   pub gave : kept_outs x.outs ≡ outs
 
-more : (xs ys zs : List StoredEntry) (x : StoredEntry) (e : Step) (os : List FiledOut) → ys ≡ xs → zs ≡ ys ++ x ∷ [] → IsEntryFor e os x → map entry_of zs ≡ map entry_of xs ++ record { event = e; outs = whole_outs os } ∷ []
-more xs ys zs x e os same is entry =
+more : (xs ys zs : List StoredEntry) (x : StoredEntry) (e : Step) (a : Outcome) → ys ≡ xs → zs ≡ ys ++ x ∷ [] → IsEntryFor e a.filed.items x → whole_outs a.filed.items ≡ a.given.outs.items → map entry_of zs ≡ map entry_of xs ++ record { event = e; outs = a.given.outs.items } ∷ []
+more xs ys zs x e a same is entry whole =
     ap (map entry_of) (is ∙ ap (λ (l : List StoredEntry). l ++ x ∷ []) same) ∙ map-append entry_of xs (x ∷ [])
     ∙ ap (λ (s : Step). map entry_of xs ++ record { event = s; outs = whole_outs (kept_outs x.outs) } ∷ []) entry.step
-    ∙ ap (λ (l : List FiledOut). map entry_of xs ++ record { event = e; outs = whole_outs l } ∷ []) entry.gave
+    ∙ ap (λ (os : List Out). map entry_of xs ++ record { event = e; outs = os } ∷ []) (ap whole_outs entry.gave ∙ whole)
 
-pub stands-more : (old new : FiledMachine) (hosting : Config) (before middle after : OutsLists) (n : ℕ) (xs ys zs : List StoredEntry) (x : StoredEntry) (e : Step) (count : ℕ) (a : Outcome) → Stands old before xs → IsApplied old e count new a → hosting ≡ new.config → new.config ≡ old.config
-    → Keeps old.archive new.archive → middle ≡ before → n ≡ length ys → after ≡ with_outs n a.outs middle → ys ≡ xs → zs ≡ ys ++ x ∷ [] → IsEntryFor e a.outs.items x → IsKeptEvent hosting.nodes new.archive x.event → Stands new after zs
-stands-more old new hosting before middle after n xs ys zs x e count a h d there config kept stays counted put same is entry filed =
+pub stands-more : (old new : FiledMachine) (hosting : Config) (before middle after : OutsLists) (n : ℕ) (xs ys zs : List StoredEntry) (x : StoredEntry) (e : Step) (a : Outcome) → Stands old before xs → IsApplied old e new a → hosting ≡ new.config → new.config ≡ old.config
+    → Keeps old.archive new.archive → middle ≡ before → n ≡ length ys → after ≡ with_outs n a.filed middle → ys ≡ xs → zs ≡ ys ++ x ∷ [] → IsEntryFor e a.filed.items x → IsKeptEvent hosting.nodes new.archive x.event → Stands new after zs
+stands-more old new hosting before middle after n xs ys zs x e a h d there config kept stays counted put same is entry filed =
     let earlier : AreKept new.config.nodes old.archive before xs = subst (λ (k : Config). AreKept k.nodes old.archive before xs) (sym config) h.1 in
     let mine : IsKeptEvent new.config.nodes new.archive x.event = subst (λ (k : Config). IsKeptEvent k.nodes new.archive x.event) there filed in
-    let outs : AreFiledOuts new.archive (kept_outs x.outs) = subst (λ (os : List FiledOut). AreFiledOuts new.archive os) (sym entry.gave) d.outs in
-    let lists : after ≡ with_outs (length xs) a.outs before = put ∙ ap₂ (λ (i : ℕ) (l : OutsLists). with_outs i a.outs l) (counted ∙ ap length same) stays in (
-      subst (λ (es : List Entry). IsJournal (machine_of new) es) (sym (more xs ys zs x e a.outs.items same is entry)) (journal-grows old new (map entry_of xs) e (whole_outs a.outs.items) h.0 d.step config),
-      subst (λ (l : OutsLists × List StoredEntry). AreKept new.config.nodes new.archive l.0 l.1) (λ i. (sym lists i, sym (is ∙ ap (λ (l : List StoredEntry). l ++ x ∷ []) same) i)) (kept-more new.config.nodes old.archive new.archive before xs x a.outs kept earlier mine entry.gave outs),
+    let outs : AreFiledOuts new.archive (kept_outs x.outs) = subst (λ (os : List FiledOut). AreFiledOuts new.archive os) (sym entry.gave) d.filed in
+    let lists : after ≡ with_outs (length xs) a.filed before = put ∙ ap₂ (λ (i : ℕ) (l : OutsLists). with_outs i a.filed l) (counted ∙ ap length same) stays in (
+      subst (λ (es : List Entry). IsJournal (machine_of new) es) (sym (more xs ys zs x e a same is entry d.whole)) (journal-grows old new (map entry_of xs) e a.given.outs.items h.0 d.step config),
+      subst (λ (l : OutsLists × List StoredEntry). AreKept new.config.nodes new.archive l.0 l.1) (λ i. (sym lists i, sym (is ∙ ap (λ (l : List StoredEntry). l ++ x ∷ []) same) i)) (kept-more new.config.nodes old.archive new.archive before xs x a.filed kept earlier mine entry.gave outs),
     )
 
-pub log-grows : (l : Log) (old new : FiledMachine) (before : OutsLists) (xs ys zs : List StoredEntry) (x : StoredEntry) (e : Step) (count : ℕ) (a : Outcome) → log_of old xs ≡ l → Stands old before xs → IsApplied old e count new a → new.config ≡ old.config
-    → ys ≡ xs → zs ≡ ys ++ x ∷ [] → IsEntryFor e a.outs.items x → log_of new zs ≡ with_entry l e (outs_after l e)
-log-grows l old new before xs ys zs x e count a of h d config same is entry =
-    let next = next-of old new before xs e count a h d in
-    subst (λ (k : Log). log_of new zs ≡ with_entry k e (outs_after k e)) of
-    (λ i. record { config = config i; entries = (more xs ys zs x e a.outs.items same is entry ∙ ap (λ (os : List Out). map entry_of xs ++ record { event = e; outs = os } ∷ []) next.1) i })
+pub log-grows : (l : Log) (old new : FiledMachine) (xs ys zs : List StoredEntry) (x : StoredEntry) (e : Step) (a : Outcome) → log_of old xs ≡ l → IsApplied old e new a → new.config ≡ old.config
+    → ys ≡ xs → zs ≡ ys ++ x ∷ [] → IsEntryFor e a.filed.items x → log_of new zs ≡ with_entry l e a.given.outs.items
+log-grows l old new xs ys zs x e a of d config same is entry =
+    subst (λ (k : Log). log_of new zs ≡ with_entry k e a.given.outs.items) of
+    (λ i. record { config = config i; entries = more xs ys zs x e a same is entry d.whole i })

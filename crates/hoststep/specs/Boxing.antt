@@ -19,6 +19,6 @@ is_large (NominationTimer i u r) = false
 is_large (BallotTimer i u n) = false
 is_large (Reslice i u q) = true
 
--- there is a box for an event where it is large
+-- there is a box for an event if it is large
 abbrev pub HasBoxFor : Event → EventRoom → Type 0
 HasBoxFor e room = is_large e ≡ true → is_some room.boxed ≡ true

@@ -29,7 +29,7 @@ decided_at (Some at) xs = map (λ x. record { slot = at.0; node = at.1; value = 
 abbrev pub decisions_in : Entry → List ExternalizedValue
 decisions_in x = decided_at (slot_and_node_of x.event) (externalized_values x.outs)
 
--- nothing where there is no entry
+-- nothing if there is no entry
 abbrev pub decisions_in_any : Option Entry → List ExternalizedValue
 decisions_in_any None = []
 decisions_in_any (Some x) = decisions_in x

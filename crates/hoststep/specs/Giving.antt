@@ -14,17 +14,17 @@ kept_outs p = p.outs.value.items
 abbrev pub entry_number : EntryOuts → ℕ
 entry_number x = x.entry
 
--- what the entry with a number gave out: nothing, where these lists have none of it
+-- what the entry with a number gave out: nothing, if none of these lists is that of the entry
 abbrev pub listed_at : List EntryOuts → ℕ → List FiledOut
 listed_at [] n = []
 listed_at (x ∷ xs) n = if x.entry == n then x.outs.items else listed_at xs n
 
--- the lists with one more behind them, where something was given out
+-- the lists with one more behind them, if something was given out
 abbrev pub put_behind : List FiledOut → List EntryOuts → EntryOuts → List EntryOuts
 put_behind [] lists x = lists
 put_behind (o ∷ os) lists x = lists ++ x ∷ []
 
--- the lists with what an entry gave out, where that is something
+-- the lists with what an entry gave out, if that is something
 abbrev pub with_outs : ℕ → Vec FiledOut Global → List EntryOuts → List EntryOuts
 with_outs n outs lists = put_behind outs.items lists (record { entry = n; outs = outs })
 

@@ -43,8 +43,8 @@ IsReadable _ = ⊤
 unfoldable pub spelled_size : Sent → ℕ
 spelled_size e = length (spelling e)
 
--- an event is kept: its nodes stand at their places among the hosted ones; the archive has the envelope that was
--- delivered, and as many bytes came as its spelling has; what lies in a box is large
+-- An event is kept: its nodes stand at their places among the hosted ones. The archive has the envelope that was
+-- delivered, and as many bytes came as its spelling has. What lies in a box is large.
 abbrev pub IsKeptEvent : List HostedNode → Archived → KeptEvent → Type 0
 IsKeptEvent nodes archive (OpenSlot i) = ⊤
 IsKeptEvent nodes archive (CloseSlot i) = ⊤

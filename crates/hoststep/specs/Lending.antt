@@ -19,7 +19,7 @@ lent_step (NominationTimer i u r) = NominationTimerFires i u r
 lent_step (BallotTimer i u n) = BallotTimerFires i u n
 lent_step (Reslice i u q) = Reslices i u q.now
 
--- what an entry gave out; nothing where there is none
+-- what an entry gave out; nothing if there is none
 abbrev pub outs_in : Option Entry → List Out
 outs_in None = []
 outs_in (Some x) = x.outs

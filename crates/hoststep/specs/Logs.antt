@@ -1,5 +1,5 @@
 -- Journals and the worlds that have them.
-use Rattle.std.specs.Prelude.{◌≡◌, ◌⊎◌, ℕ, length, ⊤, Vec, List, [], ◌∷◌, ◌++◌, Option, Some, None}
+use Rattle.std.specs.Prelude.{◌≡◌, ◌⊎◌, ℕ, ⊤, Vec, List, [], ◌∷◌, ◌++◌, Option, Some, None}
 use Rattle.std.specs.Global.{Global}
 use Rattle.types.specs.declared.event.Event.{Event}
 use Rattle.types.specs.declared.event.Out.{Out}
@@ -9,7 +9,6 @@ use Rattle.protocol.specs.Networks.{Step}
 use Rattle.protocol.specs.Hosts.{Config, Entry}
 use Rattle.protocol.specs.Runs.{IsRun, outs_given, refusal_of, state_of}
 use Rattle.network.specs.Marks.{marks_in}
-use Rattle.hoststep.specs.declared.recorded.Recorded.{Recorded}
 use Rattle.network.specs.Decoding.{step_of}
 use Rattle.network.specs.Standing.{IsDeliveryThatTakesMemory, Machine, StandsFor}
 
@@ -31,12 +30,12 @@ with_entry l e os = record l { entries = l.entries ++ record { event = e; outs =
 abbrev pub IsEntered : Log → Step → List Out → Type 0
 IsEntered l e os = (refusal_of l.config l.entries e ≡ None) × (os ≡ outs_given l.config l.entries e)
 
--- memory may be wanting for an event after these entries: nothing else refuses it, or bytes are being read that may take
--- memory
+-- it may be out of memory for an event after these entries: nothing else refuses it, or bytes are being read that may
+-- take memory
 abbrev pub MayWantMemory : Config → List Entry → Step → Type 0
 MayWantMemory config entries e = (refusal_of config entries e ≡ None) ⊎ IsDeliveryThatTakesMemory config.nodes e
 
--- the first refusal that applies after these entries; or memory is wanting where it may be
+-- the first refusal that applies after these entries; or that it is out of memory, if it may be
 abbrev pub IsRefused : Log → Step → Refusal → Type 0
 IsRefused l e r =
     ((r ≡ NoMemory) × MayWantMemory l.config l.entries e) ⊎ (refusal_of l.config l.entries e ≡ Some r)
@@ -44,12 +43,6 @@ IsRefused l e r =
 -- by which numbers the emissions of an event after these entries are named
 abbrev pub marks_of : Config → List Entry → Step → List ℕ
 marks_of config before e = marks_in (state_of config before) e
-
--- the entry that an event makes, as it is handed out: its number, the event itself, and its marks
-pub record IsRecorded (old : Log) (event : Event) (r : Recorded) : Type 0 where
-  pub number : r.number ≡ length old.entries
-  pub event_is : r.event ≡ event
-  pub marks : r.marks.items ≡ marks_of old.config old.entries (step_of event)
 
 -- an event as it comes, and outs, are those of an entry
 abbrev pub IsEntryAt : Option Entry → Option (Event × Vec Out Global) → Type 0

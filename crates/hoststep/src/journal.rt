@@ -5,22 +5,20 @@ ghost use Rattle.protocol.specs.Networks.{is_open, slices_of};
 ghost use Rattle.protocol.specs.Runs.{IsRun, state_of};
 ghost use Rattle.network.specs.Decoding.{step_of};
 ghost use Rattle.network.specs.Standing.{slices_of_node};
-ghost use Rattle.hoststep.specs.Logs.{IsEntered, IsEntryAt, IsRecorded, IsRefused, marks_of, with_entry};
+ghost use Rattle.hoststep.specs.Logs.{IsEntered, IsEntryAt, IsRefused, marks_of, with_entry};
 ghost use Rattle.hoststep.specs.Externalized.{externalized_at};
 ghost use Rattle.hoststep.specs.Lending.{lent_step, outs_of_entry};
 ghost use Rattle.hoststep.specs.Deciding.{decided_by, decisions_at};
 
 use crate::event_room::EventRoom;
 use crate::externalized::externalized_by;
-use crate::given::{Given, only_copy};
 use crate::kept::{StoredEntry, entry_at, kept_event, push_whole_outs, whole_event};
 use crate::lent_decision::{LentDecision, lent_decision};
 use crate::lent_event::{LentEvent, lent_event};
 use crate::outs_list::{EntryOuts, KeptOuts};
-use crate::recorded::Recorded;
 use configuration::NetConfig;
 use envstore::Shelf;
-use network::{Network, Outcome};
+use network::{Given, Network, Outcome};
 use std::alloc::{AllocError, Global};
 use std::marker::Model;
 use types::{Event, Nested, NodeId, Out, Refusal, Value};
@@ -118,7 +116,7 @@ impl<S: Shelf> Journal<S> {
         self.network.is_open(slot)
     }
 
-    /// What a hosted node has externalized at an open slot after all entries; `None` if the slot is not open then, the
+    /// What a hosted node has externalized at an open slot after all entries. `None` if the slot is not open then, the
     /// node is not hosted, or it has externalized nothing. It takes no memory.
     pub fn externalized(&self, slot: u64, node: &NodeId) -> Option<&Value>
         ensures { option_map (λ v. v.now) result ≡ externalized_at (state_of self.now.config self.now.entries) slot node.now }
@@ -137,7 +135,8 @@ impl<S: Shelf> Journal<S> {
         self.network.refusal(event)
     }
 
-    /// Applies one event, and enters it in the journal if it is not refused. What it gives out is answered whole.
+    /// Applies one event, and enters it in the journal if it is not refused. What it gives out is answered whole. The
+    /// marks that are answered are the numbers by which other nodes of the network hear its emissions.
     ///
     /// An error is the first refusal that applies, or says that it is out of memory. In the latter case no refusal
     /// applies, or bytes came to a hosted node that may take memory to be read. Those are at most 65,536, of a version
@@ -158,62 +157,27 @@ impl<S: Shelf> Journal<S> {
             drop(event);
             return Err(refusal);
         }
-        match self.network.apply(&event, 1) {
+        match self.network.apply(&event) {
             Err(refusal) => {
                 drop(event);
                 Err(refusal)
             }
-            Ok(applied) => {
+            Ok(outcome) => {
                 let Outcome {
-                    outs,
-                    marks,
-                    copies,
+                    filed,
+                    given,
                     delivered,
-                } = applied;
+                } = outcome;
                 let event = kept_event(self.network.config(), &mut self.room, event, delivered);
-                let outs = KeptOuts::put(&mut self.given, self.entries.len(), outs);
+                let outs = KeptOuts::put(&mut self.given, self.entries.len(), filed);
                 self.entries.push_reserved(StoredEntry { event, outs });
-                let outs = only_copy(copies);
-                Ok(Given { outs, marks })
-            }
-        }
-    }
-
-    /// Applies one event as [`Journal::apply`] does, and answers the entry that it makes and the numbers that name its
-    /// emissions.
-    pub fn apply_recorded(&mut self, event: Event) -> Result<Recorded, Refusal>
-        ensures ok { IfOk result (λ r. IsEntered self.old (step_of event) r.outs.items) }
-        ensures entered { IfOk result (λ r. self.new ≡ with_entry self.old (step_of event) r.outs.items) }
-        ensures recorded { IfOk result (IsRecorded self.old event) }
-        ensures err { IfErr result (IsRefused self.old (step_of event)) }
-        ensures same { OnErr result (self.new ≡ self.old) }
-    {
-        let number = self.entries.len();
-        let Ok(copy) = event.try_copy(self.alloc) else {
-            // Memory: the copy has none; a refusal that applies comes first.
-            let refusal = self.refusal(&event);
-            drop(event);
-            return Err(refusal);
-        };
-        match self.apply(copy) {
-            Err(refusal) => {
-                drop(event);
-                Err(refusal)
-            }
-            Ok(given) => {
-                let Given { outs, marks } = given;
-                Ok(Recorded {
-                    number,
-                    event,
-                    outs,
-                    marks,
-                })
+                Ok(given)
             }
         }
     }
 
     /// The entry of this number, made from the places of its envelopes: the event, with its bytes if it is a delivery,
-    /// and what it gave out; `None` past the last. An error says that it is out of memory.
+    /// and what it gave out. `None` past the last. An error says that it is out of memory.
     pub fn entry(
         &self,
         alloc: Global,
@@ -242,7 +206,7 @@ impl<S: Shelf> Journal<S> {
         }
     }
 
-    /// What the entry of this number decided, read in place: all of it, since an event decides one value at most.
+    /// What the entry of this number decided, read in place. That is all, since an event decides one value at most.
     /// `None` if it decided none, and past the last. It takes no memory.
     pub fn decision(&self, number: usize) -> Option<LentDecision<'_>>
         ensures { option_to_list (option_map decided_by result) ≡ decisions_at self.now.entries number }

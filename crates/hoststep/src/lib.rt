@@ -7,7 +7,6 @@
 mod announcing;
 mod event_room;
 mod externalized;
-mod given;
 mod journal;
 mod kept;
 mod lent_decision;
@@ -15,13 +14,10 @@ mod lent_event;
 mod machine;
 mod node_place;
 mod outs_list;
-mod recorded;
 mod sizes;
 
 pub use configuration::{Budgets, ConfigError, HostedNode, NetConfig, Reservation, Roster, Shares};
-pub use given::Given;
 pub use journal::Journal;
 pub use lent_decision::LentDecision;
 pub use lent_event::LentEvent;
 pub use machine::NetMachine;
-pub use recorded::Recorded;

@@ -5,7 +5,6 @@ ghost use Rattle.protocol.specs.Hosts.{new_net};
 ghost use Rattle.network.specs.Decoding.{step_of};
 ghost use Rattle.network.specs.Standing.{IsRefusal, IsStep, StandsFor};
 
-use crate::given::only_copy;
 use configuration::NetConfig;
 use envstore::Shelf;
 use network::Network;
@@ -53,7 +52,7 @@ impl<S: Shelf> NetMachine<S> {
         self.network.config()
     }
 
-    /// Applies one event. It is the step of every network of the definitions that the machine stands for: what it gives
+    /// Applies one event. It is the step of every network of the definitions that the machine stands for. What it gives
     /// out is answered whole, and the machine stands for the network after it.
     ///
     /// An error is the first refusal that applies, or says that it is out of memory. In the latter case no refusal
@@ -63,9 +62,9 @@ impl<S: Shelf> NetMachine<S> {
         ensures err { IfErr result (IsRefusal self.old (step_of event)) }
         ensures same { OnErr result (self.new ≡ self.old) }
     {
-        let applied = self.network.apply(&event, 1);
+        let outcome = self.network.apply(&event);
         drop(event);
-        let applied = applied?;
-        Ok(only_copy(applied.copies))
+        let given = outcome?.given;
+        Ok(given.outs)
     }
 }

@@ -8,8 +8,8 @@ use configuration::NetConfig;
 use std::snapshot::Snapshot;
 use types::NodeId;
 
-/// A hosted node by its place among those of its network, from 0 on: two bytes, where a name has 32. In
-/// contracts it is known with its name.
+/// A hosted node by its place among those of its network, from 0 on: two bytes, while a name has 32. In contracts it is
+/// known with its name.
 #[derive(Drop)]
 pub(crate) struct NodePlace {
     place: u16,

@@ -1,5 +1,5 @@
-//! How many bytes an entry of a journal takes in place, beside a list of what it gave out. So a field that grows by a
-//! buffer is seen here, and not only as memory of long journals. These bounds are this host's profile; no contract
+//! How many bytes an entry of a journal takes in place, apart from a list of what it gave out. So a field that grows by
+//! a buffer is seen here, and not only as memory of long journals. These bounds are this host's profile; no contract
 //! speaks of them.
 
 use crate::kept::{KeptEvent, StoredEntry};

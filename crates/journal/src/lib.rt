@@ -1,4 +1,4 @@
-//! The journal of a live host: a file that has each line before anything is told of it.
+//! The journal of a live host: a file that has each line before its answer is told.
 //!
 //! [`open_journal`] locks the file and brings it to the disk. [`resume`] runs its lines up to its end, cuts it there
 //! and says how many there are. From then on [`append_line`] writes each line behind them. What a stop leaves of such a

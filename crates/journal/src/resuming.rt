@@ -12,8 +12,8 @@ use std::sync::Wait;
 use std::thread::Threads;
 
 /// Has the lines of a journal answered, up to its end, cuts the file there and brings it to the disk. Then it writes
-/// `resumed L`, where L is how many lines the file has, and answers L. What lines from the number `from` on are
-/// answered is written before that; of the others, and without a number, nothing is.
+/// `resumed L`, and answers L, which is how many lines the file has. What lines from the number `from` on are answered
+/// is written before that; of the others, and without a number, nothing is.
 ///
 /// After an error the file has the lines that it had; behind their end it may have been cut
 /// ([`JournalFault::CannotWrite`], [`JournalFault::CannotTell`]).

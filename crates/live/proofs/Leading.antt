@@ -1,5 +1,5 @@
 -- What hearings lead to, one after the other.
-use Rattle.std.proofs.Common.{◌≡◌, ◌∙◌, ◌==◌, ◌++◌, ◌+◌, ◌↔◌, IfOk, IfErr, OnOk, OnErr, ℕ, Bool, true, false, not, List, [], ◌∷◌, map, filter, take, Option, Some, None, Result, Ok, Err, IsTrue, refl, sym, ap, subst, subst₂, inl, inr, ⊎_elim, append_assoc, append-nil}
+use Rattle.std.proofs.Common.{◌≡◌, ◌∙◌, ◌==◌, ◌++◌, ◌+◌, ◌↔◌, OnOk, ℕ, Bool, true, false, not, List, [], ◌∷◌, map, filter, take, Option, Some, None, Result, Ok, Err, IsTrue, refl, sym, ap, subst, subst₂, inl, inr, ⊎_elim, append_assoc, append-nil}
 use Rattle.std.proofs.lemmas.Bool.{eq-eqb, eqb-true, false≢true}
 use Rattle.std.proofs.lemmas.Grind.{flat_map-append}
 use Rattle.std.proofs.lemmas.List.{map-append}
@@ -14,17 +14,18 @@ use Rattle.protocol.specs.Networks.Reply.{Done, Refused}
 use Rattle.protocol.specs.Networks.Step.{Opens, Closes, Proposes, Delivers, Hears, NominationTimerFires, BallotTimerFires, Reslices}
 use Rattle.protocol.specs.Networks.Reading.{Read, Fault}
 use Rattle.configuration.specs.Configs.{names_of}
+use Rattle.network.specs.declared.applied.Given.{Given}
 use Rattle.network.specs.declared.emission.Emission.{Emission}
 use Rattle.network.specs.Decoding.{step_of}
-use Rattle.network.specs.Marks.{named, slot_and_node_of}
-use Rattle.network.specs.Standing.{IsRefusal, IsDeliveryThatTakesMemory, Machine, StandsFor}
+use Rattle.network.specs.Marks.{marks_in, named, slot_and_node_of}
+use Rattle.network.specs.Standing.{IsRefusal, IsDeliveryThatTakesMemory, IsStep, Machine, StandsFor}
 use Rattle.live.specs.Serving.{AreHeard, Hearing, IsServed, IsTried, ToldReply, all_hearings, emissions_by, hearings_of, is_stale, slot_at, step_of_hearing, told_at, told_of, waits_after}
 use Rattle.live.specs.Serving.AreHeard.{all_heard, one_heard}
 use Rattle.live.specs.Serving.Ending.{IsDone}
 use Rattle.live.specs.Serving.IsServed.{done, refused}
 use Rattle.live.specs.Serving.IsTried.{stepped, wanting}
 use Rattle.live.specs.Steps.{IsStepped, LeadsTo}
-use Rattle.live.specs.Telling.{HaveHeard, IsHeardByAll, IsServedBy, IsToldAt, emissions_of, ending_by, ending_of, outcome_of, tellings_of}
+use Rattle.live.specs.Telling.{HaveHeard, IsHeardByAll, IsServedBy, IsToldAt, emissions_of, ending_by, ending_of, tellings_of}
 use Rattle.live.specs.declared.hearing.Following.{Following}
 use Rattle.live.specs.declared.served.Served.{Served}
 use Rattle.live.specs.declared.stepping.Stepped.{Stepped}
@@ -72,10 +73,12 @@ waits-by : (m : Machine) (net : Net) (e : Step) (r : Reply) (es : List Emission)
 waits-by m net e r es stands is =
     subst₂ (λ (ns : List HostedNode) (xs : List Emission). all_hearings (names_of net.nodes) (emissions_by net e r) ≡ all_hearings (names_of ns) xs) (ap (λ (n : Net). n.nodes) stands.is) is refl
 
+-- a step was answered so, and has these emissions, for each network that the machine stands for
+abbrev IsAnswered : Machine → Step → Reply → List Emission → Machine → Type 0
+IsAnswered old e r es new = (net : Net) → StandsFor old net → (now : Net) × StandsFor new now × IsTried net e r now × (emissions_by net e r ≡ es)
+
 -- one hearing that was tried leads to what it makes wait
-leads-one : (i : ℕ) (h : Hearing) (old new : Machine) (r : Reply) (es : List Emission)
-    → ((net : Net) → StandsFor old net → (now : Net) × StandsFor new now × IsTried net (step_of_hearing i h) r now × (emissions_by net (step_of_hearing i h) r ≡ es))
-    → LeadsTo i (h ∷ []) old (all_hearings (names_of old.config.nodes) es) (told_of h.node r) new
+leads-one : (i : ℕ) (h : Hearing) (old new : Machine) (r : Reply) (es : List Emission) → IsAnswered old (step_of_hearing i h) r es new → LeadsTo i (h ∷ []) old (all_hearings (names_of old.config.nodes) es) (told_of h.node r) new
 leads-one i h old new r es tried = λ net stands.
     let t = tried net stands in (
       t.0,
@@ -84,26 +87,14 @@ leads-one i h old new r es tried = λ net stands.
           one_heard r t.2 (subst (λ l. AreHeard i (hs ++ l) t.0 rest after) (sym (waits-by old net (step_of_hearing i h) r es stands t.3)) heard),
     )
 
--- the step by which a node hears an emission
-hear-step : (i u : ℕ) (e : Emission) → step_of (Hear i u e.from e.kind e.number) ≡ step_of_hearing i (record { node = u; emission = e })
-hear-step i u e = refl
+-- the answers of the code: it is the network's step, or it is refused and nothing changes
+pub answered-done : (old new : Machine) (e : Step) (g : Given) → IsStep old e g.outs.items new → ((net : Net) → StandsFor old net → g.marks.items ≡ marks_in net e) → IsAnswered old e (Done g.outs.items) (emissions_of g) new
+answered-done old new e g step marks = λ net stands.
+    let s = step net stands in
+    ((net_step net e).0, s.0, tried-done net e g.outs.items s.1, ap (λ ks. named (emissions g.outs.items) ks) (sym (marks net stands)))
 
--- an answer of the code: it is the network's step, or it is refused and nothing changes
-pub data IsAnswer (old : Machine) (e : Step) : Result Stepped Refusal → Machine → Type 0 where
-  ok : {new : Machine} (g : Stepped) → IsStepped old e g new → IsAnswer old e (Ok g) new
-  err : (r : Refusal) → IsRefusal old e r → IsAnswer old e (Err r) old
-
-tried-by : (old new : Machine) (e : Step) (a : Result Stepped Refusal) → IsAnswer old e a new → (net : Net) → StandsFor old net
-    → (now : Net) × StandsFor new now × IsTried net e (outcome_of a) now × (emissions_by net e (outcome_of a) ≡ emissions_of a)
-tried-by old new e a (ok g h) net stands =
-    let s = h.step net stands in
-    ((net_step net e).0, s.0, tried-done net e g.outs.items s.1, ap (λ ks. named (emissions g.outs.items) ks) (sym (h.marks net stands)))
-tried-by old new e a (err r h) net stands = (net, stands, tried-refused old net e r stands h, refl)
-
--- the same by what the code's step ensures
-pub answer-of : (old new : Machine) (e : Step) (a : Result Stepped Refusal) → IfOk a (λ g. IsStepped old e g new) → IfErr a (IsRefusal old e) → OnErr a (new ≡ old) → IsAnswer old e a new
-answer-of old new e (Ok g) stepping _ _ = ok g stepping
-answer-of old new e (Err r) _ why same = subst (λ m. IsAnswer old e (Err r) m) (sym same) (err r why)
+pub answered-refused : (old new : Machine) (e : Step) (r : Refusal) → IsRefusal old e r → new ≡ old → IsAnswered old e (Refused r) [] new
+answered-refused old new e r why same = λ net stands. (net, subst (λ m. StandsFor m net) (sym same) stands, tried-refused old net e r stands why, refl)
 
 -- two facts of an answer that is right make a third one
 pub on-both : {A E P Q R : Type 0} (a : Result A E) → OnOk a P → OnOk a Q → (P → Q → R) → OnOk a R
@@ -138,19 +129,14 @@ hears-not-its-own i us e u m f same law is =
     subst (λ l. IsHeardByAll i us l m f f m) (sym (own e u (u == e.from) refl (eq-eqb u e.from (law.0 is)))) (heard-nothing i us m f)
 
 -- another node's hearing was answered, and noted
-pub hears-another : (i : ℕ) (e : Emission) (u : ℕ) (old new : Machine) (f g : Following) (event : Event) (a : Result Stepped Refusal) (same : Bool) → (IsTrue same ↔ (u ≡ e.from)) → same ≡ false
-    → event ≡ Hear i u e.from e.kind e.number → IsAnswer old (step_of event) a new → g.emissions.items ≡ f.emissions.items ++ emissions_of a → tellings_of g.told.items ≡ tellings_of f.told.items ++ told_of u (outcome_of a)
+pub hears-another : (i : ℕ) (e : Emission) (u : ℕ) (old new : Machine) (f g : Following) (event : Event) (r : Reply) (es : List Emission) (same : Bool) → (IsTrue same ↔ (u ≡ e.from)) → same ≡ false
+    → event ≡ Hear i u e.from e.kind e.number → IsAnswered old (step_of event) r es new → g.emissions.items ≡ f.emissions.items ++ es → tellings_of g.told.items ≡ tellings_of f.told.items ++ told_of u r
     → IsHeardByAll i (names_of old.config.nodes) (hearings_of (u ∷ []) e) old f g new
-hears-another i e u old new f g event a same law other is answer emitted told =
+hears-another i e u old new f g event r es same law other is answer emitted told =
     let h : Hearing = record { node = u; emission = e } in
     subst (λ l. IsHeardByAll i (names_of old.config.nodes) l old f g new)
-    (sym (another e u (u == e.from) refl (λ k. false≢true (sym other ∙ law.1 (eqb-true u e.from k))))) (
-      emissions_of a,
-      told_of u (outcome_of a),
-      emitted,
-      told,
-      leads-one i h old new (outcome_of a) (emissions_of a) (tried-by old new (step_of_hearing i h) a (subst (λ (x : Event). IsAnswer old (step_of x) a new) is answer)),
-    )
+    (sym (another e u (u == e.from) refl (λ k. false≢true (sym other ∙ law.1 (eqb-true u e.from k)))))
+    (es, told_of u r, emitted, told, leads-one i h old new r es (subst (λ (x : Event). IsAnswered old (step_of x) r es new) is answer))
 
 -- the names up to the next one
 pub hearings-more : (us : List ℕ) (k u : ℕ) (e : Emission) → take (k + 1) us ≡ take k us ++ u ∷ [] → hearings_of (take (k + 1) us) e ≡ hearings_of (take k us) e ++ hearings_of (u ∷ []) e
@@ -165,9 +151,6 @@ abbrev pub ComesTo : ℕ → List ℕ → List Emission → Machine → List Emi
 ComesTo i us es old left told now =
     (net : Net) → StandsFor old net → (after : Net) × StandsFor now after
     × ((rest : List ToldReply) (end : Net) → AreHeard i (all_hearings us left) after rest end → AreHeard i (all_hearings us es) net (told ++ rest) end)
-
-pub comes-first : (i : ℕ) (us : List ℕ) (es : List Emission) (m : Machine) → ComesTo i us es m es [] m
-comes-first i us es m = λ net stands. (net, stands, λ rest end heard. heard)
 
 pub comes-next : (i : ℕ) (us : List ℕ) (es : List Emission) (old now new : Machine) (e : Emission) (left more : List Emission) (told next : List ToldReply) → ComesTo i us es old (e ∷ left) told now
     → LeadsTo i (hearings_of us e) now (all_hearings us more) next new → ComesTo i us es old (left ++ more) (told ++ next) new
@@ -230,12 +213,12 @@ served-alone old new e g s h alone is stale zero none = record {
   served = λ net stands.
       let t = h.step net stands in
       let now = (net_step net e).0 in
-      let nothing : g.outs.items ≡ [] = done-outs net e g.outs.items t.1 ∙ placeless-effect net e placeless in
-      let waits : waits_after net e (Done g.outs.items) ≡ [] = ap (λ os. waits_after net e (Done os)) nothing in
-      let heard : AreHeard (slot_at (slot_and_node_of e)) (waits_after net e (Done g.outs.items)) now [] now = subst (λ l. AreHeard (slot_at (slot_and_node_of e)) l now [] now) (sym waits) all_heard in
-      let told : told_at (slot_and_node_of e) g.outs.items ++ [] ≡ [] = ap (λ at. told_at at g.outs.items ++ []) placeless in (
+      let nothing : g.given.outs.items ≡ [] = done-outs net e g.given.outs.items t.1 ∙ placeless-effect net e placeless in
+      let waits : waits_after net e (Done g.given.outs.items) ≡ [] = ap (λ os. waits_after net e (Done os)) nothing in
+      let heard : AreHeard (slot_at (slot_and_node_of e)) (waits_after net e (Done g.given.outs.items)) now [] now = subst (λ l. AreHeard (slot_at (slot_and_node_of e)) l now [] now) (sym waits) all_heard in
+      let told : told_at (slot_and_node_of e) g.given.outs.items ++ [] ≡ [] = ap (λ at. told_at at g.given.outs.items ++ []) placeless in (
         now,
-        subst₂ (λ o l. IsServed net e o l now) (ending-done net e g s is stale (h.stale net stands)) (told ∙ sym none) (done g.outs.items (tried-done net e g.outs.items t.1) heard),
+        subst₂ (λ o l. IsServed net e o l now) (ending-done net e g s is stale (h.stale net stands)) (told ∙ sym none) (done g.given.outs.items (tried-done net e g.given.outs.items t.1) heard),
         t.0,
       );
 }
@@ -244,20 +227,20 @@ served-alone old new e g s h alone is stale zero none = record {
     placeless = sym h.place ∙ alone
 
 pub served-and-heard : (old now new : Machine) (e : Step) (g : Stepped) (i u : ℕ) (first all : List ToldReply) (rest : List ToldReply) (s : Served) → IsStepped old e g now → g.place ≡ Some (i, u) → now.config ≡ old.config
-    → HaveHeard i (all_hearings (names_of now.config.nodes) (named (emissions g.outs.items) g.marks.items)) now rest new → first ≡ told_of u (Done g.outs.items) → all ≡ first ++ rest → s.refused ≡ None → s.stale ≡ g.stale → s.slot ≡ i → tellings_of s.told.items ≡ all → IsServedBy old e new s
+    → HaveHeard i (all_hearings (names_of now.config.nodes) (named (emissions g.given.outs.items) g.given.marks.items)) now rest new → first ≡ told_of u (Done g.given.outs.items) → all ≡ first ++ rest → s.refused ≡ None → s.stale ≡ g.stale → s.slot ≡ i → tellings_of s.told.items ≡ all → IsServedBy old e new s
 served-and-heard old now new e g i u first all rest s h at config heard told both is stale slot is-told = record {
   slot = subst (λ o. IsToldAt o s.slot e) (sym is) (slot ∙ sym (ap slot_at place));
   served = λ net stands.
       let t = h.step net stands in
-      let waits : waits_after net e (Done g.outs.items) ≡ all_hearings (names_of now.config.nodes) (named (emissions g.outs.items) g.marks.items) =
-      waits-by old net e (Done g.outs.items) (named (emissions g.outs.items) g.marks.items) stands (ap (λ ks. named (emissions g.outs.items) ks) (sym (h.marks net stands)))
-      ∙ ap (λ (c : Config). all_hearings (names_of c.nodes) (named (emissions g.outs.items) g.marks.items)) (sym config) in
+      let waits : waits_after net e (Done g.given.outs.items) ≡ all_hearings (names_of now.config.nodes) (named (emissions g.given.outs.items) g.given.marks.items) =
+      waits-by old net e (Done g.given.outs.items) (named (emissions g.given.outs.items) g.given.marks.items) stands (ap (λ ks. named (emissions g.given.outs.items) ks) (sym (h.marks net stands)))
+      ∙ ap (λ (c : Config). all_hearings (names_of c.nodes) (named (emissions g.given.outs.items) g.given.marks.items)) (sym config) in
       let end = heard (net_step net e).0 t.0 in
-      let rest-heard : AreHeard (slot_at (slot_and_node_of e)) (waits_after net e (Done g.outs.items)) (net_step net e).0 rest end.0 =
+      let rest-heard : AreHeard (slot_at (slot_and_node_of e)) (waits_after net e (Done g.given.outs.items)) (net_step net e).0 rest end.0 =
       subst₂ (λ p l. AreHeard (slot_at p) l (net_step net e).0 rest end.0) (sym place) (sym waits) end.1 in
-      let own : told_at (slot_and_node_of e) g.outs.items ++ rest ≡ all = ap (λ p. told_at p g.outs.items ++ rest) place ∙ ap (λ l. l ++ rest) (sym told) ∙ sym both in (
+      let own : told_at (slot_and_node_of e) g.given.outs.items ++ rest ≡ all = ap (λ p. told_at p g.given.outs.items ++ rest) place ∙ ap (λ l. l ++ rest) (sym told) ∙ sym both in (
         end.0,
-        subst₂ (λ o l. IsServed net e o l end.0) (ending-done net e g s is stale (h.stale net stands)) (own ∙ sym is-told) (done g.outs.items (tried-done net e g.outs.items t.1) rest-heard),
+        subst₂ (λ o l. IsServed net e o l end.0) (ending-done net e g s is stale (h.stale net stands)) (own ∙ sym is-told) (done g.given.outs.items (tried-done net e g.given.outs.items t.1) rest-heard),
         end.2,
       );
 }

@@ -1,4 +1,4 @@
--- What a line of a served network does: its event, and then what the others hear of it.
+-- What a line of a served network does: its event, and then what the others hear.
 use Rattle.std.specs.Prelude.{◌≡◌, ◌==◌, ◌++◌, ◌⊎◌, not, ℕ, Bool, false, is_none, filter, map, List, [], ◌∷◌, Option, Some, None}
 use Rattle.std.specs.List.{flat_map}
 use Rattle.types.specs.declared.event.NodeEvent.{NodeEvent}
@@ -51,7 +51,7 @@ pub record ToldReply : Type 0 where
   pub node : ℕ
   pub reply : Reply
 
--- what is told of a node's step: what it gave out, or why it was refused; nothing where it gave nothing out
+-- what is told of a node's step: what it gave out, or why it was refused; nothing if it gave nothing out
 abbrev pub told_of : ℕ → Reply → List ToldReply
 told_of u (Done []) = []
 told_of u (Done (o ∷ os)) = record { node = u; reply = Done (o ∷ os) } ∷ []
@@ -64,14 +64,14 @@ told_at (Some at) os = told_of at.1 (Done os)
 
 -- ---- steps that are tried
 
--- a step is the network's step; or memory is wanting, where no refusal applies or bytes are being read, and then nothing
--- changes
+-- a step is the network's step; or it is refused as out of memory, if no refusal applies or bytes are being read, and
+-- then nothing changes
 pub data IsTried (old : Net) (e : Step) : Reply → Net → Type 0 where
   stepped : IsTried old e (net_step old e).1 (net_step old e).0
   wanting : (first_that (tests old e) ≡ None) ⊎ IsDeliveryThatTakesMemory old.nodes e → IsTried old e (Refused NoMemory) old
 
--- what waits at a slot is heard, one hearing after the other; what it makes wait joins the end, and a hearing that is
--- refused is told and not tried again. These are told.
+-- What waits at a slot is heard, one hearing after the other. What a hearing makes wait joins the end. A hearing that
+-- is refused is told and not tried again. These replies are told.
 pub data AreHeard (i : ℕ) : List Hearing → Net → List ToldReply → Net → Type 0 where
   all_heard : {net : Net} → AreHeard i [] net [] net
   one_heard : {h : Hearing} {hs : List Hearing} {old now new : Net} {told : List ToldReply} (r : Reply)

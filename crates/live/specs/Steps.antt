@@ -7,11 +7,11 @@ use Rattle.live.specs.Serving.{AreHeard, Hearing, ToldReply, is_stale}
 use Rattle.live.specs.declared.stepping.Stepped.{Stepped}
 
 -- an event at a served network: the network's step, its marks, whose it was, and whether it is stale
-pub record IsStepped (old : Machine) (e : Step) (g : Stepped) (new : Machine) : Type 0 where
-  pub step : IsStep old e g.outs.items new
-  pub marks : (net : Net) → StandsFor old net → g.marks.items ≡ marks_in net e
-  pub place : g.place ≡ slot_and_node_of e
-  pub stale : (net : Net) → StandsFor old net → g.stale ≡ is_stale net e
+pub record IsStepped (old : Machine) (e : Step) (s : Stepped) (new : Machine) : Type 0 where
+  pub step : IsStep old e s.given.outs.items new
+  pub marks : (net : Net) → StandsFor old net → s.given.marks.items ≡ marks_in net e
+  pub place : s.place ≡ slot_and_node_of e
+  pub stale : (net : Net) → StandsFor old net → s.stale ≡ is_stale net e
 
 -- These hearings, in front of whatever waits, come to this: they are told so, and what they make wait joins the end.
 abbrev pub LeadsTo : ℕ → List Hearing → Machine → List Hearing → List ToldReply → Machine → Type 0

@@ -5,6 +5,7 @@ use Rattle.types.specs.declared.event.Out.{Out}
 use Rattle.types.specs.declared.event.Refusal.{Refusal}
 use Rattle.protocol.specs.Networks.{Net, Reply, Step, emissions}
 use Rattle.protocol.specs.Networks.Reply.{Done, Refused}
+use Rattle.network.specs.declared.applied.Given.{Given}
 use Rattle.network.specs.declared.emission.Emission.{Emission}
 use Rattle.network.specs.Marks.{named, slot_and_node_of}
 use Rattle.network.specs.Standing.{Machine, StandsFor}
@@ -14,17 +15,10 @@ use Rattle.live.specs.Steps.{LeadsTo}
 use Rattle.live.specs.declared.hearing.Following.{Following}
 use Rattle.live.specs.declared.hearing.Told.{Told}
 use Rattle.live.specs.declared.served.Served.{Served}
-use Rattle.live.specs.declared.stepping.Stepped.{Stepped}
 
--- what a step was answered, as a reply of the definitions
-abbrev pub outcome_of : Result Stepped Refusal → Reply
-outcome_of (Ok g) = Done g.outs.items
-outcome_of (Err r) = Refused r
-
--- the emissions of a step that was answered
-abbrev pub emissions_of : Result Stepped Refusal → List Emission
-emissions_of (Ok g) = named (emissions g.outs.items) g.marks.items
-emissions_of (Err r) = []
+-- the emissions of a step that gave this out
+abbrev pub emissions_of : Given → List Emission
+emissions_of g = named (emissions g.outs.items) g.marks.items
 
 -- the answer of a step that is told, as a reply of the definitions
 abbrev pub reply_of_step : Result (Vec Out Global) Refusal → Reply

@@ -1,14 +1,14 @@
 //! What waits to be heard, and what is told of it.
 
 ghost use Rattle.std.specs.Prelude.{◌≡◌, ◌++◌, ◌∷◌, [], List, OnOk};
+ghost use Rattle.protocol.specs.Networks.Reply.{Done};
 ghost use Rattle.configuration.specs.Configs.{names_of};
 ghost use Rattle.network.specs.Standing.{machine_of};
 ghost use Rattle.live.specs.Serving.{ToldReply, all_hearings, hearings_of, told_of};
-ghost use Rattle.live.specs.Telling.{HaveHeard, IsHeardByAll, emissions_of, outcome_of, tellings_of};
+ghost use Rattle.live.specs.Telling.{HaveHeard, IsHeardByAll, emissions_of, reply_of_step, tellings_of};
 
-use crate::stepping::{Stepped, step};
 use envstore::Shelf;
-use network::{Emission, Network, hearing, push_named};
+use network::{Emission, Given, Network, hearing, push_named};
 use std::alloc::{AllocError, Global};
 use types::{NodeId, Out, Refusal};
 
@@ -37,33 +37,23 @@ impl Following {
         }
     }
 
-    /// Notes the answer to a node's step: its emissions wait behind the others, and it is told if it gave anything out
-    /// or was refused. An error says that it is out of memory; then a part may have been noted.
-    pub fn note(&mut self, node: NodeId, answer: Result<Stepped, Refusal>) -> Result<(), AllocError>
-        ensures emissions { OnOk result (self.new.emissions.items ≡ self.old.emissions.items ++ emissions_of answer) }
-        ensures told { OnOk result (tellings_of self.new.told.items ≡ tellings_of self.old.told.items ++ told_of node (outcome_of answer)) }
+    /// Notes what a node's step gave out: its emissions wait behind the others, and it is told if it gave anything out.
+    /// An error says that it is out of memory; then a part may have been noted.
+    pub fn note(&mut self, node: NodeId, given: Given) -> Result<(), AllocError>
+        ensures emissions { OnOk result (self.new.emissions.items ≡ self.old.emissions.items ++ emissions_of given) }
+        ensures told { OnOk result (tellings_of self.new.told.items ≡ tellings_of self.old.told.items ++ told_of node (Done given.outs.items)) }
     {
-        match answer {
-            Err(refusal) => self.tell(node, Err(refusal)),
-            Ok(given) => {
-                let Stepped {
-                    place: _,
-                    stale: _,
-                    outs,
-                    marks,
-                } = given;
-                push_named(&outs, &marks, &mut self.emissions)?;
-                if outs.is_empty() {
-                    return Ok(());
-                }
-                self.tell(node, Ok(outs))
-            }
+        let Given { outs, marks } = given;
+        push_named(&outs, &marks, &mut self.emissions)?;
+        if outs.is_empty() {
+            return Ok(());
         }
+        self.tell(node, Ok(outs))
     }
 
     fn tell(&mut self, node: NodeId, answer: Result<Vec<Out>, Refusal>) -> Result<(), AllocError>
         ensures emissions { self.new.emissions ≡ self.old.emissions }
-        ensures told { OnOk result (self.new.told.items ≡ self.old.told.items ++ (record { node = node; answer = answer }) ∷ []) }
+        ensures told { OnOk result (tellings_of self.new.told.items ≡ tellings_of self.old.told.items ++ (record { node = node; reply = reply_of_step answer }) ∷ []) }
     {
         match self.told.push(Told { node, answer }) {
             Ok(()) => Ok(()),
@@ -77,7 +67,6 @@ impl Following {
 /// waits. A hearing that is refused is told, and not tried again. An error says that it is out of memory for what is
 /// told; then some were heard.
 pub(crate) fn hear_all<S: Shelf>(
-    alloc: Global,
     network: &mut Network<S>,
     names: &[NodeId],
     slot: u64,
@@ -90,7 +79,7 @@ pub(crate) fn hear_all<S: Shelf>(
     let mut at = 0;
     while at < following.emissions.len() {
         let emission = following.emissions[at];
-        let_others_hear(alloc, network, names, slot, &emission, following)?;
+        let_others_hear(network, names, slot, &emission, following)?;
         at += 1;
     }
     Ok(())
@@ -98,7 +87,6 @@ pub(crate) fn hear_all<S: Shelf>(
 
 /// Has each other node hear an emission, ascending.
 fn let_others_hear<S: Shelf>(
-    alloc: Global,
     network: &mut Network<S>,
     names: &[NodeId],
     slot: u64,
@@ -110,14 +98,13 @@ fn let_others_hear<S: Shelf>(
     ensures config { network.new.config ≡ network.old.config }
 {
     for name in names {
-        hear(alloc, network, slot, *name, emission, following)?;
+        hear(network, slot, *name, emission, following)?;
     }
     Ok(())
 }
 
 /// Has a node hear an emission, unless it is its own.
 fn hear<S: Shelf>(
-    alloc: Global,
     network: &mut Network<S>,
     slot: u64,
     node: NodeId,
@@ -131,7 +118,10 @@ fn hear<S: Shelf>(
         return Ok(());
     }
     let event = hearing(slot, node, emission);
-    let answer = step(alloc, network, &event);
+    let answer = network.apply(&event);
     drop(event);
-    following.note(node, answer)
+    match answer {
+        Ok(outcome) => following.note(node, outcome.given),
+        Err(refusal) => following.tell(node, Err(refusal)),
+    }
 }

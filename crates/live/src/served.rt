@@ -127,26 +127,20 @@ impl<S: Shelf + Drop> ServedNetwork<S> {
                 slot: 0,
                 told: following.told,
             }),
-            Ok(given) => match given.place {
+            Ok(stepped) => match stepped.place {
                 None => {
                     self.network.forget_closed();
                     Ok(Served {
                         refused: None,
-                        stale: given.stale,
+                        stale: stepped.stale,
                         slot: 0,
                         told: following.told,
                     })
                 }
                 Some((slot, node)) => {
-                    let stale = given.stale;
-                    following.note(node, Ok(given))?;
-                    hear_all(
-                        self.alloc,
-                        &mut self.network,
-                        &self.names,
-                        slot,
-                        &mut following,
-                    )?;
+                    let stale = stepped.stale;
+                    following.note(node, stepped.given)?;
+                    hear_all(&mut self.network, &self.names, slot, &mut following)?;
                     Ok(Served {
                         refused: None,
                         stale,

@@ -1,9 +1,7 @@
 //! One step of a network, answered whole.
 
-ghost use Rattle.std.specs.Prelude.{◌≡◌, IfErr, IfOk, IfSome, List, OnErr, map, option_map};
+ghost use Rattle.std.specs.Prelude.{◌≡◌, IfErr, IfOk, IfSome, OnErr, option_map};
 ghost use Rattle.envstore.specs.Archives.{IsFiled, sent_of};
-ghost use Rattle.slot.specs.Filings.{copies_of};
-ghost use Rattle.types.specs.declared.event.Out.{Out};
 ghost use Rattle.network.specs.Answers.{delivered_of};
 ghost use Rattle.network.specs.Decoding.{step_of};
 ghost use Rattle.network.specs.Marks.{slot_and_node_of};
@@ -14,18 +12,16 @@ ghost use Rattle.live.specs.Serving.{is_left, is_stale};
 ghost use Rattle.live.specs.Steps.{IsStepped};
 
 use envstore::{Filed, Shelf};
-use network::{Network, Outcome, Reading, read};
+use network::{Given, Network, Outcome, Reading, read};
 use std::alloc::{AllocError, Global};
-use types::{Envelope, Event, NodeId, Out, Refusal};
+use types::{Envelope, Event, NodeId, Refusal};
 
-/// What an applied event gave out, whole; by which numbers, from 1 on, its emissions are heard; the slot and the node,
-/// if it is an event of a node; and whether it is stale.
+/// An applied event: the slot and the node, if it is an event of a node; whether it is stale; and what it gave out.
 #[derive(Drop)]
 pub(crate) struct Stepped {
     pub place: Option<(u64, NodeId)>,
     pub stale: bool,
-    pub outs: Vec<Out>,
-    pub marks: Vec<u64>,
+    pub given: Given,
 }
 
 /// Applies one event. An error is the first refusal that applies, or says that it is out of memory; then the network is
@@ -35,7 +31,7 @@ pub(crate) fn step<S: Shelf>(
     network: &mut Network<S>,
     event: &Event,
 ) -> Result<Stepped, Refusal>
-    ensures stepped { IfOk result (λ given. IsStepped (machine_of network.old) (step_of event.now) given (machine_of network.new)) }
+    ensures stepped { IfOk result (λ stepped. IsStepped (machine_of network.old) (step_of event.now) stepped (machine_of network.new)) }
     ensures err { IfErr result (IsRefusal (machine_of network.old) (step_of event.now)) }
     ensures same { OnErr result (machine_of network.new ≡ machine_of network.old) }
     ensures config { network.new.config ≡ network.old.config }
@@ -44,19 +40,17 @@ pub(crate) fn step<S: Shelf>(
         return Err(network.refusal(event));
     };
     let Outcome {
-        outs,
-        marks,
-        copies,
+        filed,
+        given,
         delivered,
-    } = network.apply(event, 1)?;
+    } = network.apply(event)?;
     let place = place_of(network, event, &delivered);
-    drop(outs);
+    drop(filed);
     drop(delivered);
     Ok(Stepped {
         place,
         stale,
-        outs: only_copy(copies),
-        marks,
+        given,
     })
 }
 
@@ -148,16 +142,5 @@ fn place_of<S: Shelf>(
         | Event::NominationTimer { slot, node, .. }
         | Event::BallotTimer { slot, node, .. }
         | Event::Reslice { slot, node, .. } => Some((*slot, *node)),
-    }
-}
-
-/// The one copy that was asked for; of nothing there is none. It takes no memory.
-fn only_copy(mut copies: Vec<Vec<Out>>) -> Vec<Out>
-    ensures { (outs : List Out) → map (λ v. v.items) copies.items ≡ copies_of 1 outs → result.items ≡ outs }
-{
-    let alloc = *copies.allocator();
-    match copies.pop() {
-        None => Vec::new(alloc),
-        Some(only) => only,
     }
 }

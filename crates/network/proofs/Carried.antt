@@ -20,14 +20,14 @@ use Rattle.protocol.proofs.Networks.Counts.{next}
 use Rattle.protocol.proofs.Networks.Effects.{effect-keeps}
 use Rattle.protocol.proofs.Networks.Room.{room-bytes, room-events}
 use Rattle.protocol.proofs.Networks.Drawn.{steps_are_counted}
-use Rattle.slot.specs.Filings.{copies_of, event_of, whole_outs}
+use Rattle.slot.specs.Filings.{event_of}
 use Rattle.configuration.specs.Configs.{index_in, names_of}
 use Rattle.configuration.specs.Budgets.{AreShares}
-use Rattle.network.specs.Answers.{IsApplied}
+use Rattle.network.specs.Answers.{IsApplied, IsOutcome}
 use Rattle.network.specs.Changes.{IsChangedAt, changed_at}
 use Rattle.network.specs.Charges.{HasReadyNode, HasRoomInCounts, HasRoomOnNetwork, IsActed, IsSlotActed, on_budgets_of, on_opens_of}
 use Rattle.network.specs.Deeds.{IsDrawn, IsEventOf, IsNodeOf, IsPlan, IsThere, slots_after_event, envelope_to_file, instance_at, outs_of_deed, slots_after}
-use Rattle.network.specs.Doings.{IsDeedAnswer, IsDoable, IsDone, marks_after, slots_of}
+use Rattle.network.specs.Doings.{IsDoable, IsDone, marks_after, slots_of}
 use Rattle.network.specs.FiledSlots.{AreTallied, CountedInstance, CountedSlot, FiledInstance, FiledSlot, IsInstanceFiled, IsTallied, HasDrawnNothing, bytes_from, counted_instance, counted_slot, events_from, instance_of_filed, slot_of}
 use Rattle.network.specs.Marks.{marks_in, numbers_by_kind, slot_and_node_of, emitted_at, emitted_before}
 use Rattle.network.specs.Standing.{IsOfSlot, IsStanding, IsStep, IsTidy, Machine, FiledMachine, StandsFor, machine_of, net_of}
@@ -131,21 +131,21 @@ acted-slots c e h (suc k) (x ∷ xs) (y ∷ ys) r = ap₂ {C = List Slot} (λ (s
 pub done-slots : (c : Charge) (d : Deed) (old new : List FiledSlot) → IsDone c d old new → slots_of new ≡ slots_after (slots_of old) d
 done-slots c (Open s) old new h = ap slots_of h ∙ ap (map slot_of) (map-append counted_slot old (s ∷ [])) ∙ map-append slot_of (map counted_slot old) (counted_slot s ∷ [])
 done-slots c (Close k) old new h = ap slots_of h ∙ ap (map slot_of) (map-remove counted_slot old k) ∙ map-remove slot_of (map counted_slot old) k
-done-slots c (Act k h e) old new d = acted-slots c (event_of e) h k old new d
-done-slots c (Hand k h e) old new d = acted-slots c (NodeEvent.Take e) h k old new d
+done-slots c (Act at e) old new d = acted-slots c (event_of e) at.node_at at.slot_at old new d
+done-slots c (Hand at e) old new d = acted-slots c (NodeEvent.Take e) at.node_at at.slot_at old new d
 
 -- ---- what is counted on the network
 pub budgets-are : (m : Machine) (d : Drawn) (s : Source) → IsDrawn m d s → (n : ℕ) → on_budgets s n ≡ on_budgets_of d n
 budgets-are m ByBudgets s q n = ap (λ z. on_budgets z n) q
 budgets-are m ByOpens s q n = ap (λ z. on_budgets z n) q.2
-budgets-are m (ByOwn k h) s q n = ap (λ z. on_budgets z n) q.6
-budgets-are m (ByPair k h u) s q n = ap (λ z. on_budgets z n) q.6
+budgets-are m (ByOwn at) s q n = ap (λ z. on_budgets z n) q.6
+budgets-are m (ByPair at u) s q n = ap (λ z. on_budgets z n) q.6
 
 pub opens-are : (m : Machine) (d : Drawn) (s : Source) → IsDrawn m d s → on_opens s ≡ on_opens_of d
 opens-are m ByBudgets s q = ap on_opens q
 opens-are m ByOpens s q = ap on_opens q.2
-opens-are m (ByOwn k h) s q = ap on_opens q.6
-opens-are m (ByPair k h u) s q = ap on_opens q.6
+opens-are m (ByOwn at) s q = ap on_opens q.6
+opens-are m (ByPair at u) s q = ap on_opens q.6
 
 -- ---- what is counted at the nodes
 -- the hosted nodes stand in their order at each slot
@@ -313,11 +313,8 @@ node_where_open-at ns slots i u k h names q r = ap (λ o. node_where_open o u) (
     go (Some s) e = known-instance ns s.instances u h (at-place (λ (s : Slot). names_at s.instances ≡ ns) slots k s names e) r
 
 -- ---- the step
-abbrev pub charge_of : Plan → Charge
-charge_of p = record { drawn = p.drawn; size = p.size }
-
 abbrev pub carried : FiledMachine → Plan → List FiledSlot → Machine
-carried m p new = record { config = m.config; slots = map counted_slot new; events = m.events + on_budgets_of p.drawn 1; bytes = m.bytes + on_budgets_of p.drawn p.size; opens = m.opens + on_opens_of p.drawn }
+carried m p new = record { config = m.config; slots = map counted_slot new; events = m.events + on_budgets_of p.charge.drawn 1; bytes = m.bytes + on_budgets_of p.charge.drawn p.charge.size; opens = m.opens + on_opens_of p.charge.drawn }
 
 abbrev reply_of : Net → Step → Net × Reply
 reply_of net e = (next net e, Done (effect net e).1)
@@ -356,36 +353,36 @@ module _ (m : FiledMachine) (e : Step) (p : Plan) (t : IsStanding m) (plan : IsP
       none-any (map number_at m.slots) i (ap (λ ns. list_any (λ w. w == i) ns) (sym (numbers-are m.slots)) ∙ absent (slots_of m.slots) i f)
 
   module _ (new : List FiledSlot) where
-    by-deed : (d : Deed) → IsDone (charge_of p) d m.slots new → IsEventOf (machine_of m) e d → IsThere m.archive (slots_of m.slots) d → All (AreCounted (net_step net e).0.draws) new
+    by-deed : (d : Deed) → IsDone p.charge d m.slots new → IsEventOf (machine_of m) e d → IsThere m.archive (slots_of m.slots) d → All (AreCounted (net_step net e).0.draws) new
     by-deed (Open s) dn nm th =
         subst (λ (ss : List FiledSlot). All (AreCounted (net_step net e).0.draws) ss) (sym dn)
         (counted-open net (net_step net e).0 s m.slots (subst (λ z. IsCountedAfter net z (net_step net e).0) nm counted-after) (out-of s.number nm) th.1 (counted-from draws m.slots tallied))
     by-deed (Close k) dn nm th =
         subst (λ (ss : List FiledSlot). All (AreCounted (net_step net e).0.draws) ss) (sym dn)
         (counted-close net (net_step net e).0 nm.0 k m.slots (subst (λ z. IsCountedAfter net z (net_step net e).0) nm.1 counted-after) (counted-from draws m.slots tallied))
-    by-deed (Act k h x) dn nm th =
-        let a = node-named (machine_of m) e k h nm in
+    by-deed (Act at x) dn nm th =
+        let a = node-named (machine_of m) e at.slot_at at.node_at nm in
         let q = source-of m.config.roster e a.0 a.1 a.2 in
-        counted-act net (net_step net e).0 e counted-after a.0 a.1 (opens-none e (pair_of a.0 a.1) a.2) q (charge_of p) (event_of x) plan.size (agrees (machine_of m) p.drawn (source m.config.roster e) a.0 a.1 plan.drawn q)
-        (names_of m.config.nodes) h k m.slots new (slots-index a.0 k a.3) (only-at (names_of m.config.nodes) a.1 h a.4 t.tidy.single) (names-all (names_of m.config.nodes) m.slots t.tidy.names) dn (counted-from draws m.slots tallied)
-    by-deed (Hand k h x) dn nm th =
-        let a = node-named (machine_of m) e k h nm in
+        counted-act net (net_step net e).0 e counted-after a.0 a.1 (opens-none e (pair_of a.0 a.1) a.2) q p.charge (event_of x) plan.size (agrees (machine_of m) p.charge.drawn (source m.config.roster e) a.0 a.1 plan.drawn q)
+        (names_of m.config.nodes) at.node_at at.slot_at m.slots new (slots-index a.0 at.slot_at a.3) (only-at (names_of m.config.nodes) a.1 at.node_at a.4 t.tidy.single) (names-all (names_of m.config.nodes) m.slots t.tidy.names) dn (counted-from draws m.slots tallied)
+    by-deed (Hand at x) dn nm th =
+        let a = node-named (machine_of m) e at.slot_at at.node_at nm in
         let q = source-of m.config.roster e a.0 a.1 a.2 in
-        counted-act net (net_step net e).0 e counted-after a.0 a.1 (opens-none e (pair_of a.0 a.1) a.2) q (charge_of p) (NodeEvent.Take x) plan.size (agrees (machine_of m) p.drawn (source m.config.roster e) a.0 a.1 plan.drawn q)
-        (names_of m.config.nodes) h k m.slots new (slots-index a.0 k a.3) (only-at (names_of m.config.nodes) a.1 h a.4 t.tidy.single) (names-all (names_of m.config.nodes) m.slots t.tidy.names) dn (counted-from draws m.slots tallied)
+        counted-act net (net_step net e).0 e counted-after a.0 a.1 (opens-none e (pair_of a.0 a.1) a.2) q p.charge (NodeEvent.Take x) plan.size (agrees (machine_of m) p.charge.drawn (source m.config.roster e) a.0 a.1 plan.drawn q)
+        (names_of m.config.nodes) at.node_at at.slot_at m.slots new (slots-index a.0 at.slot_at a.3) (only-at (names_of m.config.nodes) a.1 at.node_at a.4 t.tidy.single) (names-all (names_of m.config.nodes) m.slots t.tidy.names) dn (counted-from draws m.slots tallied)
 
-    module _ (done : IsDone (charge_of p) p.deed m.slots new) where
+    module _ (done : IsDone p.charge p.deed m.slots new) where
       slots-are : (effect net e).0.slots ≡ map slot_of (map counted_slot new)
-      slots-are = sym (plan.slots net stands-for) ∙ sym (done-slots (charge_of p) p.deed m.slots new done)
+      slots-are = sym (plan.slots net stands-for) ∙ sym (done-slots p.charge p.deed m.slots new done)
 
-      events-are : (effect net e).0.events + on_budgets (source net.roster e) 1 ≡ m.events + on_budgets_of p.drawn 1
-      events-are = ap₂ (λ a b. a + b) (effect-keeps net e).events (budgets-are (machine_of m) p.drawn (source m.config.roster e) plan.drawn 1)
+      events-are : (effect net e).0.events + on_budgets (source net.roster e) 1 ≡ m.events + on_budgets_of p.charge.drawn 1
+      events-are = ap₂ (λ a b. a + b) (effect-keeps net e).events (budgets-are (machine_of m) p.charge.drawn (source m.config.roster e) plan.drawn 1)
 
-      bytes-are : (effect net e).0.bytes + on_budgets (source net.roster e) (size_of e) ≡ m.bytes + on_budgets_of p.drawn p.size
-      bytes-are = ap₂ (λ a b. a + b) (effect-keeps net e).bytes (budgets-are (machine_of m) p.drawn (source m.config.roster e) plan.drawn (size_of e) ∙ ap (on_budgets_of p.drawn) (sym plan.size))
+      bytes-are : (effect net e).0.bytes + on_budgets (source net.roster e) (size_of e) ≡ m.bytes + on_budgets_of p.charge.drawn p.charge.size
+      bytes-are = ap₂ (λ a b. a + b) (effect-keeps net e).bytes (budgets-are (machine_of m) p.charge.drawn (source m.config.roster e) plan.drawn (size_of e) ∙ ap (on_budgets_of p.charge.drawn) (sym plan.size))
 
-      opens-same : (effect net e).0.opens + on_opens (source net.roster e) ≡ m.opens + on_opens_of p.drawn
-      opens-same = ap₂ (λ a b. a + b) (effect-keeps net e).opens (opens-are (machine_of m) p.drawn (source m.config.roster e) plan.drawn)
+      opens-same : (effect net e).0.opens + on_opens (source net.roster e) ≡ m.opens + on_opens_of p.charge.drawn
+      opens-same = ap₂ (λ a b. a + b) (effect-keeps net e).opens (opens-are (machine_of m) p.charge.drawn (source m.config.roster e) plan.drawn)
 
       next-is : next net e ≡ net_of (carried m p new) (next net e).draws
       next-is = λ j. record {
@@ -418,22 +415,22 @@ module _ (m : FiledMachine) (e : Step) (p : Plan) (t : IsStanding m) (plan : IsP
   marks-by : (d : Deed) → IsEventOf (machine_of m) e d → outs_of_deed (slots_of m.slots) d ≡ (effect net e).1 → marks_after (slots_of m.slots) d ≡ marks_in net e
   marks-by (Open s) nm os = open-marks net s.number ∙ ap (marks_in net) (sym nm)
   marks-by (Close k) nm os = close-marks net nm.0 ∙ ap (marks_in net) (sym nm.1)
-  marks-by (Act k h x) nm os =
-      let a = node-named (machine_of m) e k h nm in
+  marks-by (Act at x) nm os =
+      let a = node-named (machine_of m) e at.slot_at at.node_at nm in
       let n = neat-of (machine_of m) t.tidy in
-      let emitted = ap (emitted_before net) a.2 ∙ ap emitted_at (node_where_open-at (names_of m.config.nodes) (slots_of m.slots) a.0 a.1 k h n.names a.3 a.4) in
+      let emitted = ap (emitted_before net) a.2 ∙ ap emitted_at (node_where_open-at (names_of m.config.nodes) (slots_of m.slots) a.0 a.1 at.slot_at at.node_at n.names a.3 a.4) in
       ap₂ (λ (ts : List Sent) (ys : List Out). numbers_by_kind ts (emissions ys)) (sym emitted) os
-  marks-by (Hand k h x) nm os =
-      let a = node-named (machine_of m) e k h nm in
+  marks-by (Hand at x) nm os =
+      let a = node-named (machine_of m) e at.slot_at at.node_at nm in
       let n = neat-of (machine_of m) t.tidy in
-      let emitted = ap (emitted_before net) a.2 ∙ ap emitted_at (node_where_open-at (names_of m.config.nodes) (slots_of m.slots) a.0 a.1 k h n.names a.3 a.4) in
+      let emitted = ap (emitted_before net) a.2 ∙ ap emitted_at (node_where_open-at (names_of m.config.nodes) (slots_of m.slots) a.0 a.1 at.slot_at at.node_at n.names a.3 a.4) in
       ap₂ (λ (ts : List Sent) (ys : List Out). numbers_by_kind ts (emissions ys)) (sym emitted) os
 
   pub marks-after : marks_after (slots_of m.slots) p.deed ≡ marks_in net e
   marks-after = marks-by p.deed plan.named (plan.outs net stands-for)
 
 -- ---- for each network for which it stands
-pub steps : (m : FiledMachine) (e : Step) (p : Plan) (new : List FiledSlot) (os : List Out) → IsStanding m → IsPlan m e p → IsDone (charge_of p) p.deed m.slots new → os ≡ outs_of_deed (slots_of m.slots) p.deed → IsStep (machine_of m) e os (carried m p new)
+pub steps : (m : FiledMachine) (e : Step) (p : Plan) (new : List FiledSlot) (os : List Out) → IsStanding m → IsPlan m e p → IsDone p.charge p.deed m.slots new → os ≡ outs_of_deed (slots_of m.slots) p.deed → IsStep (machine_of m) e os (carried m p new)
 steps m e p new os t plan done is = λ net s.
     subst (λ (n : Net). StandsFor (carried m p new) (net_step n e).0 × ((net_step n e).1 ≡ Done os)) (sym s.is)
     (stands-after m e p t plan net.draws s.tallied new done, given-after m e p t plan net.draws s.tallied new done ∙ ap Done (sym is))
@@ -493,19 +490,19 @@ module _ {m : FiledMachine} {e : Step} {p : Plan} (known : IsCarriable m e p) wh
   room : HasRoom stood e
   room = applied_where_room stood e (known.plan.allowed stood (record { is = refl; tallied = known.standing.stood.1 }))
 
-  bytes-kept : (d : Drawn) → IsDrawn (machine_of m) d its → m.bytes + on_budgets_of d p.size ≤ m.config.budgets.bytes
+  bytes-kept : (d : Drawn) → IsDrawn (machine_of m) d its → m.bytes + on_budgets_of d p.charge.size ≤ m.config.budgets.bytes
   bytes-kept ByBudgets q = elim (room-bytes stood e room) [
     | inl f ↦ let l : m.bytes + size_of e ≤ m.config.budgets.bytes = subst (λ z. HasRoomForBytes stood z (size_of e)) q f in let z = known.plan.size in omega (arith, l, z)
     | inr z ↦ let l = known.standing.tidy.bytes in let s = known.plan.size in omega (arith, l, z, s)
   ]
   bytes-kept ByOpens q = let l = known.standing.tidy.bytes in omega (arith, l)
-  bytes-kept (ByOwn k h) q = let l = known.standing.tidy.bytes in omega (arith, l)
-  bytes-kept (ByPair k h u) q = let l = known.standing.tidy.bytes in omega (arith, l)
+  bytes-kept (ByOwn at) q = let l = known.standing.tidy.bytes in omega (arith, l)
+  bytes-kept (ByPair at u) q = let l = known.standing.tidy.bytes in omega (arith, l)
 
-  network-room : (d : Drawn) → IsDrawn (machine_of m) d its → HasRoomOnNetwork d p.size m.events m.bytes m.opens
+  network-room : (d : Drawn) → IsDrawn (machine_of m) d its → HasRoomOnNetwork d p.charge.size m.events m.bytes m.opens
   network-room ByBudgets q =
       let l : m.events < m.config.budgets.events = subst (HasRoomForEvents stood) q (room-events stood e room) in
-      let b : m.bytes + p.size ≤ m.config.budgets.bytes = bytes-kept ByBudgets q in
+      let b : m.bytes + p.charge.size ≤ m.config.budgets.bytes = bytes-kept ByBudgets q in
       let few_events = known.events in
       let few_bytes = known.bytes in
       (omega (arith, l, few_events), omega (arith, b, few_bytes))
@@ -513,23 +510,23 @@ module _ {m : FiledMachine} {e : Step} {p : Plan} (known : IsCarriable m e p) wh
       let l : m.opens < q.0.shares.opens = subst (HasRoomForEvents stood) q.2 (room-events stood e room) in
       let s = (known.shares q.0 q.1).few_opens in
       omega (arith, l, s)
-  network-room (ByOwn k h) q = tt
-  network-room (ByPair k h u) q = tt
+  network-room (ByOwn at) q = tt
+  network-room (ByPair at u) q = tt
 
-  pub room-on-network : HasRoomOnNetwork p.drawn p.size m.events m.bytes m.opens
-  room-on-network = network-room p.drawn known.plan.drawn
+  pub room-on-network : HasRoomOnNetwork p.charge.drawn p.charge.size m.events m.bytes m.opens
+  room-on-network = network-room p.charge.drawn known.plan.drawn
 
-  node-room : (d : Drawn) (i u : ℕ) (x : FiledSlot) (y : FiledInstance) → IsDrawn (machine_of m) d its → IsSourceOf i u its → x.number ≡ i → y.held.node.name ≡ u → IsTallied x.number known.standing.stood.0 (counted_instance y) → HasRoomInCounts d p.size y.own y.heard
+  node-room : (d : Drawn) (i u : ℕ) (x : FiledSlot) (y : FiledInstance) → IsDrawn (machine_of m) d its → IsSourceOf i u its → x.number ≡ i → y.held.node.name ≡ u → IsTallied x.number known.standing.stood.0 (counted_instance y) → HasRoomInCounts d p.charge.size y.own y.heard
   node-room ByBudgets i u x y q s xn yn tl = tt
   node-room ByOpens i u x y q s xn yn tl = tt
-  node-room (ByOwn k h) i u x y q s xn yn tl =
+  node-room (ByOwn at) i u x y q s xn yn tl =
       let f = subst (IsSourceOf i u) q.6 s in
       let l : events_drawn q.1.number (Own q.2.instance.node.name) known.standing.stood.0 < q.0.shares.own = subst (HasRoomForEvents stood) q.6 (room-events stood e room) in
       let same = ap₂ (λ a b. events_drawn a (Own b) known.standing.stood.0) (f.0 ∙ sym xn) (f.1 ∙ sym yn) in
       let o = tl.own in
       let b = (known.shares q.0 q.3).few_own in
       omega (arith, l, same, o, b)
-  node-room (ByPair k h w) i u x y q s xn yn tl =
+  node-room (ByPair at w) i u x y q s xn yn tl =
       let f = subst (IsSourceOf i u) q.6 s in
       let l : events_drawn q.1.number (Pair q.2.instance.node.name w) known.standing.stood.0 < q.0.shares.pair = subst (HasRoomForEvents stood) q.6 (room-events stood e room) in
       let same = ap₂ (λ a b. events_drawn a (Pair b w) known.standing.stood.0) (f.0 ∙ sym xn) (f.1 ∙ sym yn) in
@@ -546,29 +543,29 @@ module _ {m : FiledMachine} {e : Step} {p : Plan} (known : IsCarriable m e p) wh
         ],
       )
 
-  ready : (k h : ℕ) → IsNodeOf (machine_of m) (slot_and_node_of e) k h → HasReadyNode (charge_of p) m.slots k h
+  ready : (k h : ℕ) → IsNodeOf (machine_of m) (slot_and_node_of e) k h → HasReadyNode p.charge m.slots k h
   ready k h nm =
       let a = node-named (machine_of m) e k h nm in
       let x = keyed number_at m.slots k a.0 (index-gives (map number_at m.slots) a.0 k (ap (λ ns. index_in ns a.0) (sym (numbers-are m.slots)) ∙ a.3)) in
       let names = all-at (λ (s : FiledSlot). map name_at s.instances ≡ names_of m.config.nodes) m.slots k x.it (names-all (names_of m.config.nodes) m.slots known.standing.tidy.names) x.is in
       let y = keyed name_at x.it.instances h a.1 (index-gives (map name_at x.it.instances) a.1 h (ap (λ ns. index_in ns a.1) names ∙ a.4)) in
       let tl = all-at (λ (l : FiledInstance). IsTallied x.it.number known.standing.stood.0 (counted_instance l)) x.it.instances h y.it (all-at (AreCounted known.standing.stood.0) m.slots k x.it (counted-from known.standing.stood.0 m.slots known.standing.stood.1) x.is) y.is in
-      record { slot = x.it; instance = y.it; slot_is = x.is; instance_is = y.is; room = node-room p.drawn a.0 a.1 x.it y.it known.plan.drawn (source-of m.config.roster e a.0 a.1 a.2) x.named y.named tl }
+      record { slot = x.it; instance = y.it; slot_is = x.is; instance_is = y.is; room = node-room p.charge.drawn a.0 a.1 x.it y.it known.plan.drawn (source-of m.config.roster e a.0 a.1 a.2) x.named y.named tl }
 
-  doable-by : (d : Deed) → IsEventOf (machine_of m) e d → IsThere m.archive (slots_of m.slots) d → IsDoable m.archive (charge_of p) m.slots d
+  doable-by : (d : Deed) → IsEventOf (machine_of m) e d → IsThere m.archive (slots_of m.slots) d → IsDoable m.archive p.charge m.slots d
   doable-by (Open s) nm th = (th.0, none-index (map number_at m.slots) s.number (out-of m e p known.standing known.plan known.standing.stood.0 known.standing.stood.1 s.number nm))
   doable-by (Close k) nm th =
       let a = mapped-length slot_of (map counted_slot m.slots) in
       let b = mapped-length counted_slot m.slots in
       let l : k < length (slots_of m.slots) = th in
       (omega (arith, a, b, l), ap all_differ (sym (counted-numbers m.slots)) ∙ known.standing.tidy.apart)
-  doable-by (Act k h x) nm th = (ready k h nm, th.1)
-  doable-by (Hand k h x) nm th = ready k h nm
+  doable-by (Act at x) nm th = (ready at.slot_at at.node_at nm, th.1)
+  doable-by (Hand at x) nm th = ready at.slot_at at.node_at nm
 
-  pub doable : IsDoable m.archive (charge_of p) m.slots p.deed
+  pub doable : IsDoable m.archive p.charge m.slots p.deed
   doable = doable-by p.deed known.plan.named known.plan.there
 
-  module _ (new : List FiledSlot) (archive : Archived) (done : IsDone (charge_of p) p.deed m.slots new) (archived : All (λ (s : FiledSlot). All (IsInstanceFiled archive) s.instances) new) where
+  module _ (new : List FiledSlot) (archive : Archived) (done : IsDone p.charge p.deed m.slots new) (archived : All (λ (s : FiledSlot). All (IsInstanceFiled archive) s.instances) new) where
     tidy-after : IsTidy (carried m p new)
     tidy-after =
         let n = neat-after m e p known.standing known.plan known.standing.stood.0 known.standing.stood.1 new done in
@@ -577,26 +574,26 @@ module _ {m : FiledMachine} {e : Step} {p : Plan} (known : IsCarriable m e p) wh
           names = from-names (names_of m.config.nodes) (map counted_slot new) n.names;
           apart = ap all_differ (sym (slots-numbers (map counted_slot new))) ∙ n.apart;
           own = from-own (map counted_slot new) (own-after m e p known.standing known.plan known.standing.stood.0 known.standing.stood.1 new done);
-          bytes = bytes-kept p.drawn known.plan.drawn;
+          bytes = bytes-kept p.charge.drawn known.plan.drawn;
         }
 
-    pub standing-after : (events bytes opens : ℕ) → events ≡ m.events + on_budgets_of p.drawn 1 → bytes ≡ m.bytes + on_budgets_of p.drawn p.size → opens ≡ m.opens + on_opens_of p.drawn
+    pub standing-after : (events bytes opens : ℕ) → events ≡ m.events + on_budgets_of p.charge.drawn 1 → bytes ≡ m.bytes + on_budgets_of p.charge.drawn p.charge.size → opens ≡ m.opens + on_opens_of p.charge.drawn
         → IsStanding (record { config = m.config; archive = archive; slots = new; events = events; bytes = bytes; opens = opens })
     standing-after events bytes opens a b c =
         subst IsStanding (λ j. record { config = m.config; archive = archive; slots = new; events = sym a j; bytes = sym b j; opens = sym c j })
         (record { archived = archived; tidy = tidy-after; stood = ((net_step stood e).0.draws, (stands-after m e p known.standing known.plan known.standing.stood.0 known.standing.stood.1 new done).tallied) })
 
 -- ---- what carrying out leaves
-pub applied : (m : FiledMachine) (e : Step) (p : Plan) (new : List FiledSlot) (archive : Archived) (events bytes opens count : ℕ) (a : Outcome) → IsStanding m → IsPlan m e p → IsDone (charge_of p) p.deed m.slots new
-    → events ≡ m.events + on_budgets_of p.drawn 1 → bytes ≡ m.bytes + on_budgets_of p.drawn p.size → opens ≡ m.opens + on_opens_of p.drawn
-    → IsDeedAnswer (outs_of_deed (slots_of m.slots) p.deed) (marks_after (slots_of m.slots) p.deed) (envelope_to_file p.deed) count archive a
-    → IsApplied m e count (record { config = m.config; archive = archive; slots = new; events = events; bytes = bytes; opens = opens }) a
-applied m e p new archive events bytes opens count a t plan done x y z answer = record {
-  step = subst (λ (w : Machine). IsStep (machine_of m) e (whole_outs a.outs.items) w) (λ j. record { config = m.config; slots = map counted_slot new; events = sym x j; bytes = sym y j; opens = sym z j })
-      (steps m e p new (whole_outs a.outs.items) t plan done answer.outs_are);
-  marks = marks m e p a.marks.items t plan answer.marks_are;
-  copies = answer.copies ∙ ap (copies_of count) (sym answer.outs_are);
-  outs = answer.outs_filed;
-  delivered = answer.delivered_is ∙ plan.handed;
-  filed = answer.filed;
+pub applied : (m : FiledMachine) (e : Step) (p : Plan) (new : List FiledSlot) (archive : Archived) (events bytes opens : ℕ) (a : Outcome) → IsStanding m → IsPlan m e p → IsDone p.charge p.deed m.slots new
+    → events ≡ m.events + on_budgets_of p.charge.drawn 1 → bytes ≡ m.bytes + on_budgets_of p.charge.drawn p.charge.size → opens ≡ m.opens + on_opens_of p.charge.drawn
+    → IsOutcome (outs_of_deed (slots_of m.slots) p.deed) (marks_after (slots_of m.slots) p.deed) (envelope_to_file p.deed) archive a
+    → IsApplied m e (record { config = m.config; archive = archive; slots = new; events = events; bytes = bytes; opens = opens }) a
+applied m e p new archive events bytes opens a t plan done x y z outcome = record {
+  step = subst (λ (w : Machine). IsStep (machine_of m) e a.given.outs.items w) (λ j. record { config = m.config; slots = map counted_slot new; events = sym x j; bytes = sym y j; opens = sym z j })
+      (steps m e p new a.given.outs.items t plan done outcome.outs_are);
+  whole = outcome.whole;
+  marks = marks m e p a.given.marks.items t plan outcome.marks_are;
+  filed = outcome.filed;
+  delivered = outcome.delivered_is ∙ plan.handed;
+  delivered_filed = outcome.delivered_filed;
 }

@@ -16,6 +16,7 @@ use Rattle.network.specs.Standing.{Machine}
 use Rattle.network.specs.declared.plan.Charge.{Charge}
 use Rattle.network.specs.declared.plan.Drawn.{Drawn}
 use Rattle.network.specs.declared.plan.Drawn.TheVariants.{Budgets as ByBudgets, Opens as ByOpens, Own as ByOwn, Pair as ByPair}
+use Rattle.network.specs.declared.plan.Spot.{Spot}
 
 -- ---- on what an event of a node draws
 -- it draws on no share of a node of this name at this slot
@@ -106,14 +107,14 @@ no-pair : (b : Bool) (k : ℕ) → 0 ≡ (if b && false then k else 0)
 no-pair true k = refl
 no-pair false k = refl
 
-own-agrees : (shares : Shares) (i u j a k h : ℕ) → j ≡ i → a ≡ u → Agrees i u (ByOwn k h) (OfShare shares j (Own a))
-own-agrees shares i u j a k h p q = record {
+own-agrees : (shares : Shares) (i u j a : ℕ) (at : Spot) → j ≡ i → a ≡ u → Agrees i u (ByOwn at) (OfShare shares j (Own a))
+own-agrees shares i u j a at p q = record {
   own = sym (ap₂ (λ b c. if b && c then 1 else 0) (same-as j i p) (same-as a u q));
   pair = λ n v. no-pair (j == i) n;
 }
 
-pair-agrees : (shares : Shares) (i u j a k h from : ℕ) → j ≡ i → a ≡ u → Agrees i u (ByPair k h from) (OfShare shares j (Pair a from))
-pair-agrees shares i u j a k h from p q = record {
+pair-agrees : (shares : Shares) (i u j a from : ℕ) (at : Spot) → j ≡ i → a ≡ u → Agrees i u (ByPair at from) (OfShare shares j (Pair a from))
+pair-agrees shares i u j a from at p q = record {
   own = no-pair (j == i) 1;
   pair = λ n v. sym (ap₂ (λ b c. if b && (c && (from == v)) then n else 0) (same-as j i p) (same-as a u q));
 }
@@ -122,14 +123,14 @@ pair-agrees shares i u j a k h from p q = record {
 pub agrees : (m : Machine) (d : Drawn) (s : Source) (i u : ℕ) → IsDrawn m d s → IsSourceOf i u s → Agrees i u d s
 agrees m ByBudgets s i u q h = subst (Agrees i u ByBudgets) (sym q) (record { own = refl; pair = λ k v. refl })
 agrees m ByOpens s i u q h = subst (Agrees i u ByOpens) (sym q.2) (record { own = refl; pair = λ k v. refl })
-agrees m (ByOwn k n) s i u q h =
+agrees m (ByOwn at) s i u q h =
     let is = q.6 in
     let f = subst (IsSourceOf i u) is h in
-    subst (Agrees i u (ByOwn k n)) (sym is) (own-agrees q.0.shares i u q.1.number q.2.instance.node.name k n f.0 f.1)
-agrees m (ByPair k n w) s i u q h =
+    subst (Agrees i u (ByOwn at)) (sym is) (own-agrees q.0.shares i u q.1.number q.2.instance.node.name at f.0 f.1)
+agrees m (ByPair at w) s i u q h =
     let is = q.6 in
     let f = subst (IsSourceOf i u) is h in
-    subst (Agrees i u (ByPair k n w)) (sym is) (pair-agrees q.0.shares i u q.1.number q.2.instance.node.name k n w f.0 f.1)
+    subst (Agrees i u (ByPair at w)) (sym is) (pair-agrees q.0.shares i u q.1.number q.2.instance.node.name w at f.0 f.1)
 
 -- ---- the counts after an event
 pub stays : (net after : Net) (e : Step) (n : ℕ) (x : CountedInstance) → IsCountedAfter net e after → is_opening n e ≡ false → Spared n x.instance.node.name (source net.roster e) → IsTallied n net.draws x → IsTallied n after.draws x

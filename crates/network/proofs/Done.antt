@@ -1,17 +1,18 @@
 -- One slot of those that are open.
-use Rattle.std.proofs.Common.{◌≡◌, ℕ, zero, suc, ◌<◌, List, [], ◌∷◌, ◌++◌, length, map, get_or, set, take, drop, Option, Some, IfSome, slice_get, refl, sym, ◌∙◌, ap, subst, arith}
+use Rattle.std.proofs.Common.{◌≡◌, ℕ, zero, suc, ◌<◌, List, [], ◌∷◌, ◌++◌, length, map, get_or, set, take, drop, Option, Some, None, IfSome, IfOk, Result, slice_get, refl, sym, ◌∙◌, ap, subst, arith}
 use Rattle.std.specs.List.{All, remove}
 use Rattle.std.proofs.lemmas.List.Elements.{All-append, All-cons, All-drop, All-nil, All-set, All-take}
 use Rattle.types.specs.declared.event.NodeEvent.{NodeEvent}
 use Rattle.protocol.specs.Networks.{Instance, emissions, outs_at}
 use Rattle.envstore.specs.Archives.{Archived, Keeps}
+use Rattle.network.specs.Answers.{IsOutcome}
 use Rattle.network.specs.Charges.{HasReadyNode, HasRoomForCharge}
 use Rattle.network.specs.Deeds.{instance_at}
 use Rattle.network.specs.Doings.{slots_of}
-use Rattle.network.specs.FiledSlots.{AreOutsGiven, AreSlotsFiled, CountedInstance, FiledInstance, FiledSlot, IsInstanceFiled, counted_instance, instance_of_filed}
+use Rattle.network.specs.FiledSlots.{AreSlotsFiled, CountedInstance, FiledInstance, FiledSlot, IsInstanceFiled, counted_instance, instance_of_filed}
 use Rattle.network.specs.Marks.{numbers_by_kind, emitted_at}
 use Rattle.network.specs.declared.plan.Charge.{Charge}
-use Rattle.network.specs.declared.emission_log.NumberedOuts.{NumberedOuts}
+use Rattle.network.specs.declared.applied.Outcome.{Outcome}
 use Rattle.network.proofs.Placed.{archived-still}
 
 pub at-get : {X : Type 0} (xs : List X) (k : ℕ) (x y : X) → slice_get xs k ≡ Some x → y ≡ get_or xs k y → y ≡ x
@@ -63,11 +64,11 @@ instance-room c items k h y r is =
     let q = at-get items k r.slot y r.slot_is is in
     subst (λ (s : FiledSlot). IfSome (slice_get s.instances h) (HasRoomForCharge c)) (sym q) (subst (λ (o : Option FiledInstance). IfSome o (HasRoomForCharge c)) (sym r.instance_is) r.room)
 
-abbrev pub IsSeen : NodeEvent → ℕ → Option Instance → NumberedOuts → Type 0
-IsSeen e count o n = AreOutsGiven (outs_at e o) (numbers_by_kind (emitted_at o) (emissions (outs_at e o))) count n
+abbrev pub IsSeen : NodeEvent → Archived → Option Instance → Outcome → Type 0
+IsSeen e archive o a = IsOutcome (outs_at e o) (numbers_by_kind (emitted_at o) (emissions (outs_at e o))) None archive a
 
 -- what its event answers
-pub given-seen : (c : Charge) (items : List FiledSlot) (k h : ℕ) (y : FiledSlot) (e : NodeEvent) (count : ℕ) (n : NumberedOuts) → (r : HasReadyNode c items k h) → y ≡ get_or items k y → IsSeen e count (slice_get (map instance_of_filed y.instances) h) n → IsSeen e count (instance_at (slice_get (slots_of items) k) h) n
-given-seen c items k h y e count n r is g =
+pub given-seen : {E : Type 0} (c : Charge) (items : List FiledSlot) (k h : ℕ) (y : FiledSlot) (e : NodeEvent) (archive : Archived) (result : Result Outcome E) → (r : HasReadyNode c items k h) → y ≡ get_or items k y → IfOk result (IsSeen e archive (slice_get (map instance_of_filed y.instances) h)) → IfOk result (IsSeen e archive (instance_at (slice_get (slots_of items) k) h))
+given-seen c items k h y e archive result r is g =
     let q = at-get items k r.slot y r.slot_is is in
-    subst (λ (o : Option Instance). IsSeen e count o n) (ap (λ (s : FiledSlot). slice_get (map instance_of_filed s.instances) h) q ∙ sym (seen-at items k h r.slot r.slot_is)) g
+    subst (λ (o : Option Instance). IfOk result (IsSeen e archive o)) (ap (λ (s : FiledSlot). slice_get (map instance_of_filed s.instances) h) q ∙ sym (seen-at items k h r.slot r.slot_is)) g

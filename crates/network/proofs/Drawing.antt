@@ -8,12 +8,13 @@ use Rattle.configuration.specs.Configs.{index_of_name}
 use Rattle.network.specs.Deeds.{IsDrawn, IsSlotThere, own_source, pair_source}
 use Rattle.network.specs.Standing.{IsStanding, FiledMachine, machine_of}
 use Rattle.network.specs.declared.plan.Drawn.TheVariants.{Own, Pair}
+use Rattle.network.specs.declared.plan.Spot.{Spot}
 use Rattle.network.proofs.Plans.{instance-there}
 
 -- a node's own events
-pub own-on : (m : FiledMachine) (i u k h : ℕ) (r : Roster) → IsStanding m → IsSlotThere m i k → index_of_name m.config.nodes u ≡ Some h → m.config.roster ≡ Some r → among r.names u ≡ true → IsDrawn (machine_of m) (Own k h) (own_source m.config.roster i u)
-own-on m i u k h r st a b q t =
-    let y = instance-there (machine_of m) i u k h st.tidy a b in (
+pub own-on : (m : FiledMachine) (i u : ℕ) (at : Spot) (r : Roster) → IsStanding m → IsSlotThere m i at.slot_at → index_of_name m.config.nodes u ≡ Some at.node_at → m.config.roster ≡ Some r → among r.names u ≡ true → IsDrawn (machine_of m) (Own at) (own_source m.config.roster i u)
+own-on m i u at r st a b q t =
+    let y = instance-there (machine_of m) i u at.slot_at at.node_at st.tidy a b in (
       r,
       y.0,
       y.1,
@@ -24,9 +25,9 @@ own-on m i u k h r st a b q t =
     )
 
 -- what comes to a node from a name
-pub pair-on : (m : FiledMachine) (i u w k h : ℕ) (r : Roster) → IsStanding m → IsSlotThere m i k → index_of_name m.config.nodes u ≡ Some h → m.config.roster ≡ Some r → (among r.names u && among r.names w) ≡ true → IsDrawn (machine_of m) (Pair k h w) (pair_source m.config.roster i u w)
-pair-on m i u w k h r st a b q t =
-    let y = instance-there (machine_of m) i u k h st.tidy a b in (
+pub pair-on : (m : FiledMachine) (i u w : ℕ) (at : Spot) (r : Roster) → IsStanding m → IsSlotThere m i at.slot_at → index_of_name m.config.nodes u ≡ Some at.node_at → m.config.roster ≡ Some r → (among r.names u && among r.names w) ≡ true → IsDrawn (machine_of m) (Pair at w) (pair_source m.config.roster i u w)
+pair-on m i u w at r st a b q t =
+    let y = instance-there (machine_of m) i u at.slot_at at.node_at st.tidy a b in (
       r,
       y.0,
       y.1,

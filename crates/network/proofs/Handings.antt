@@ -110,10 +110,10 @@ envelope-large {m} {u} {h} {k} {e} size d x r room full =
     ∙ stops (bytes_test net src size) x [] (full src net (drawn-in m net e.slot u e.sender d s room.0) s)
 
 pub envelope-plan : {m : FiledMachine} {u h k : ℕ} {e : Sent} (size : ℕ) (d : Drawn) → IsStanding m → IsReaching m u h k e → IsRoom m (λ o. pair_source o e.slot u e.sender) (Ok d) → HasRoomForDrawnBytes (machine_of m) d size
-    → IsPlan m (Delivers u size (Read e)) (record { deed = Hand k h e; drawn = d; size = size })
+    → IsPlan m (Delivers u size (Read e)) (record { deed = Hand (record { slot_at = k; node_at = h }) e; charge = record { drawn = d; size = size } })
 unfolding effect
 envelope-plan {m} {u} {h} {k} {e} size d st r room fits =
-    hand-plan m (Delivers u size (Read e)) e.slot u k h size e d st r.slot r.node (subst (IsDrawn (machine_of m) d) (sym (delivers-source m.config.roster u size e)) room.0) refl refl refl (λ net. refl)
+    hand-plan m (Delivers u size (Read e)) e.slot u size (record { slot_at = k; node_at = h }) e d st (record { slot = r.slot; node = r.node }) (subst (IsDrawn (machine_of m) d) (sym (delivers-source m.config.roster u size e)) room.0) refl refl refl (λ net. refl)
     (λ net s.
     let src = pair_source net.roster e.slot u e.sender in
     at-slot m net u h k size e r s ∙ passes (room_test net src) (bytes_test net src size ∷ []) (room.1 net s)
@@ -217,9 +217,9 @@ hears-full {m} {i} {u} {h} {w} {j} {k} {kind} {n} {y} {o} f e x some full =
     λ net s. heard-it m net i u h w j k kind n y o f x some s ∙ stops (room_test net (pair_source net.roster i u w)) e [] (full net s)
 
 pub hears-plan : {m : FiledMachine} {i u h w j k : ℕ} {kind : Kind} {n : ℕ} {y : CountedInstance} {o : Option (Bor Filed)} (f : Bor Filed) (d : Drawn) → IsHearing m i u h w j k kind n y o → o ≡ Some f
-    → IsFiled m.archive f.now → IsRoom m (λ o. pair_source o i u w) (Ok d) → IsPlan m (Hears i u w kind n) (record { deed = Act k h (events.Take f.now); drawn = d; size = 0 })
+    → IsFiled m.archive f.now → IsRoom m (λ o. pair_source o i u w) (Ok d) → IsPlan m (Hears i u w kind n) (record { deed = Act (record { slot_at = k; node_at = h }) (events.Take f.now); charge = record { drawn = d; size = 0 } })
 unfolding effect
 hears-plan {m} {i} {u} {h} {w} {j} {k} {kind} {n} {y} {o} f d x some filed room =
-    act-plan m (Hears i u w kind n) i u k h (events.Take f.now) d x.standing x.slot x.two.node filed (subst (IsDrawn (machine_of m) d) (sym (hears-source m.config.roster i u w kind n)) room.0) refl refl refl
+    act-plan m (Hears i u w kind n) i u (record { slot_at = k; node_at = h }) (events.Take f.now) d x.standing (record { slot = x.slot; node = x.two.node }) filed (subst (IsDrawn (machine_of m) d) (sym (hears-source m.config.roster i u w kind n)) room.0) refl refl refl
     (λ net s. ap (act_known net i u) (emission-is m net i w k j kind n y o x.standing s x.slot x.two.from x.counted x.sent ∙ ap (option_map (λ f. sent_of f.now)) some))
     (λ net s. heard-it m net i u h w j k kind n y o f x some s ∙ passes (room_test net (pair_source net.roster i u w)) [] (room.1 net s))

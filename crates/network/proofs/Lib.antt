@@ -11,7 +11,7 @@ mod Forgetting
 mod Handings
 mod Indexes
 pub mod KeyPlaces
-mod NumberedOuts
+mod Numbering
 mod OfSlots
 mod Openings
 mod Placed

@@ -64,7 +64,7 @@ counted-instances [] = refl
 counted-instances (l ∷ ls) = ap (λ (ps : List Instance). instance_of_filed l ∷ ps) (counted-instances ls)
 
 pub opens-plan : (m : FiledMachine) (i : ℕ) (d : Drawn) (x : FiledSlot) → index_of_slot (map slot_of (machine_of m).slots) i ≡ None → not (nat_lt (length m.slots) m.config.budgets.slots) ≡ false → IsRoom m (λ o. source o (Opens i)) (Ok d)
-    → x.number ≡ i → map instance_of_filed x.instances ≡ instances_of_new_slot m.config.nodes i → ((archive : Archived) → All (IsInstanceFiled archive) x.instances) → All HasDrawnNothing x.instances → IsPlan m (Opens i) (record { deed = Open x; drawn = d; size = 0 })
+    → x.number ≡ i → map instance_of_filed x.instances ≡ instances_of_new_slot m.config.nodes i → ((archive : Archived) → All (IsInstanceFiled archive) x.instances) → All HasDrawnNothing x.instances → IsPlan m (Opens i) (record { deed = Open x; charge = record { drawn = d; size = 0 } })
 unfolding effect
 opens-plan m i d x q l room number instances archived counts = record {
   allowed = opens-allowed m i d q l room;
@@ -86,7 +86,7 @@ closes-nowhere m i q = λ net s. not_open m net i (room_test net (source net.ros
 pub closes-full : (m : FiledMachine) (i k : ℕ) (r : Refusal) → IsSlotThere m i k → IsRoom m (λ o. source o (Closes i)) (Err r) → IsFirstRefusal (machine_of m) (Closes i) r
 closes-full m i k r q full = λ net s. open_then m net i k (room_test net (source net.roster (Closes i)) ∷ []) s q ∙ stops (room_test net (source net.roster (Closes i))) r [] (full net s)
 
-pub closes-plan : (m : FiledMachine) (i k : ℕ) (d : Drawn) → IsStanding m → IsSlotThere m i k → IsRoom m (λ o. source o (Closes i)) (Ok d) → IsPlan m (Closes i) (record { deed = Close k; drawn = d; size = 0 })
+pub closes-plan : (m : FiledMachine) (i k : ℕ) (d : Drawn) → IsStanding m → IsSlotThere m i k → IsRoom m (λ o. source o (Closes i)) (Ok d) → IsPlan m (Closes i) (record { deed = Close k; charge = record { drawn = d; size = 0 } })
 unfolding effect
 closes-plan m i k d st q room = record {
   allowed = λ net s. open_then m net i k (room_test net (source net.roster (Closes i)) ∷ []) s q ∙ passes (room_test net (source net.roster (Closes i))) [] (room.1 net s);

@@ -15,7 +15,7 @@ use Rattle.envstore.specs.Archives.{Archived, AreFiled, IsFiled, Keeps, sents_of
 use Rattle.protocol.specs.Hosts.{Config}
 use Rattle.protocol.specs.Sets.{IsAscending}
 use Rattle.network.specs.Changes.{IsChangedAt}
-use Rattle.network.specs.Charges.{IsActed}
+use Rattle.network.specs.Charges.{IsActed, IsSlotActed}
 use Rattle.network.specs.declared.plan.Charge.{Charge}
 use Rattle.configuration.specs.Configs.{names_of}
 use Rattle.network.specs.Standing.{IsStanding}
@@ -30,9 +30,13 @@ mapped (x ∷ xs) = ap suc (mapped xs)
 here : (old : List FiledInstance) (at : ℕ) (x : FiledInstance) → at < length old → x ≡ get_or old at x → instance_of_filed x ≡ get_or (map instance_of_filed old) at (instance_of_filed x)
 here old at x l is = ap instance_of_filed is ∙ sym (get_or-map instance_of_filed old at x (instance_of_filed x) l)
 
-pub placed : {A E : Type 0} (r : Result A E) (c : Charge) (e : NodeEvent) (old : List FiledInstance) (at : ℕ) (x y : FiledInstance) → at < length old → x ≡ get_or old at x → OnOk r (IsActed c e x y) → OnOk r (IsChangedAt (IsActed c e) at old (set old at y))
-placed (Ok a) c e old at x y l is h = changed-set (IsActed c e) old at x y l is h
-placed (Err a) c e old at x y l is h = tt
+pub placed : {A E X : Type 0} (r : Result A E) (R : X → X → Type 0) (old : List X) (at : ℕ) (x y : X) → at < length old → x ≡ get_or old at x → OnOk r (R x y) → OnOk r (IsChangedAt R at old (set old at y))
+placed (Ok a) R old at x y l is h = changed-set R old at x y l is h
+placed (Err a) R old at x y l is h = tt
+
+pub acted : {A E : Type 0} (r : Result A E) (c : Charge) (h : ℕ) (e : NodeEvent) (x y : FiledSlot) → y.number ≡ x.number → OnOk r (IsChangedAt (IsActed c e) h x.instances y.instances) → OnOk r (IsSlotActed c h e x y)
+acted (Ok a) c h e x y same is = record { number = same; instances = is }
+acted (Err a) c h e x y same is = tt
 
 pub stands : (old : List FiledInstance) (at : ℕ) (x : FiledInstance) → at < length old → x ≡ get_or old at x → slice_get old at ≡ Some x
 stands old at x l is = slice_get_read old (length old) at x refl l is

@@ -40,33 +40,33 @@ places-there m i u k h st q r =
     node-there (machine_of m) k h y.1 (y.0, y.2, y.3)
 
 -- an event that is filed
-pub act-plan : (m : FiledMachine) (e : Step) (i u k h : ℕ) (x : FiledEvent) (d : Drawn) → IsStanding m → IsSlotThere m i k → index_of_name m.config.nodes u ≡ Some h → IsFiledEvent m.archive x → IsDrawn (machine_of m) d (source m.config.roster e) → size_of e ≡ 0 → slot_and_node_of e ≡ Some (i, u) → delivered_of e ≡ None
+pub act-plan : (m : FiledMachine) (e : Step) (i u : ℕ) (at : Spot) (x : FiledEvent) (d : Drawn) → IsStanding m → IsSpot m i u at → IsFiledEvent m.archive x → IsDrawn (machine_of m) d (source m.config.roster e) → size_of e ≡ 0 → slot_and_node_of e ≡ Some (i, u) → delivered_of e ≡ None
     → ((net : Net) → StandsFor (machine_of m) net → effect net e ≡ act net i u (event_of x)) → ((net : Net) → StandsFor (machine_of m) net → first_that (tests net e) ≡ None)
-    → IsPlan m e (record { deed = Act k h x; drawn = d; size = 0 })
-act-plan m e i u k h x d st q r filed drawn sized named none is allowed = record {
+    → IsPlan m e (record { deed = Act at x; charge = record { drawn = d; size = 0 } })
+act-plan m e i u at x d st there filed drawn sized named none is allowed = record {
   allowed = allowed;
-  slots = λ net s. acted-in m net i u k h (event_of x) st q r s ∙ ap (λ (y : Net × List Out). y.0.slots) (sym (is net s));
-  outs = λ net s. outs-in m net i u k h (event_of x) st q r s ∙ ap (λ (y : Net × List Out). y.1) (sym (is net s));
-  named = subst (λ (o : Option (ℕ × ℕ)). IsNodeOf (machine_of m) o k h) (sym named) (q, r);
+  slots = λ net s. acted-in m net i u at.slot_at at.node_at (event_of x) st there.slot there.node s ∙ ap (λ (y : Net × List Out). y.0.slots) (sym (is net s));
+  outs = λ net s. outs-in m net i u at.slot_at at.node_at (event_of x) st there.slot there.node s ∙ ap (λ (y : Net × List Out). y.1) (sym (is net s));
+  named = subst (λ (o : Option (ℕ × ℕ)). IsNodeOf (machine_of m) o at.slot_at at.node_at) (sym named) (there.slot, there.node);
   handed = sym none;
   drawn = drawn;
   size = sym sized;
-  there = (places-there m i u k h st q r, filed);
+  there = (places-there m i u at.slot_at at.node_at st there.slot there.node, filed);
 }
 
 -- an envelope that no archive has yet
-pub hand-plan : (m : FiledMachine) (e : Step) (i u k h size : ℕ) (x : Sent) (d : Drawn) → IsStanding m → IsSlotThere m i k → index_of_name m.config.nodes u ≡ Some h → IsDrawn (machine_of m) d (source m.config.roster e) → size ≡ size_of e → slot_and_node_of e ≡ Some (i, u) → delivered_of e ≡ Some x
+pub hand-plan : (m : FiledMachine) (e : Step) (i u size : ℕ) (at : Spot) (x : Sent) (d : Drawn) → IsStanding m → IsSpot m i u at → IsDrawn (machine_of m) d (source m.config.roster e) → size ≡ size_of e → slot_and_node_of e ≡ Some (i, u) → delivered_of e ≡ Some x
     → ((net : Net) → effect net e ≡ act net i u (NodeEvent.Take x)) → ((net : Net) → StandsFor (machine_of m) net → first_that (tests net e) ≡ None)
-    → IsPlan m e (record { deed = Hand k h x; drawn = d; size = size })
-hand-plan m e i u k h size x d st q r drawn sized named taken is allowed = record {
+    → IsPlan m e (record { deed = Hand at x; charge = record { drawn = d; size = size } })
+hand-plan m e i u size at x d st there drawn sized named taken is allowed = record {
   allowed = allowed;
-  slots = λ net s. acted-in m net i u k h (NodeEvent.Take x) st q r s ∙ ap (λ (y : Net × List Out). y.0.slots) (sym (is net));
-  outs = λ net s. outs-in m net i u k h (NodeEvent.Take x) st q r s ∙ ap (λ (y : Net × List Out). y.1) (sym (is net));
-  named = subst (λ (o : Option (ℕ × ℕ)). IsNodeOf (machine_of m) o k h) (sym named) (q, r);
+  slots = λ net s. acted-in m net i u at.slot_at at.node_at (NodeEvent.Take x) st there.slot there.node s ∙ ap (λ (y : Net × List Out). y.0.slots) (sym (is net));
+  outs = λ net s. outs-in m net i u at.slot_at at.node_at (NodeEvent.Take x) st there.slot there.node s ∙ ap (λ (y : Net × List Out). y.1) (sym (is net));
+  named = subst (λ (o : Option (ℕ × ℕ)). IsNodeOf (machine_of m) o at.slot_at at.node_at) (sym named) (there.slot, there.node);
   handed = sym taken;
   drawn = drawn;
   size = sized;
-  there = places-there m i u k h st q r;
+  there = places-there m i u at.slot_at at.node_at st there.slot there.node;
 }
 
 -- what takes no memory is a plan or a refusal
@@ -80,9 +80,9 @@ abbrev own_tests_on : Net → ℕ → ℕ → Source → List (Bool × Refusal)
 own_tests_on net i u s = hosted_test net u ∷ open_test net i ∷ room_test net s ∷ []
 
 pub own-plan : (m : FiledMachine) (i u : ℕ) (sp : Spot) (x : FiledEvent) (d : Drawn) (e : Step) → IsStanding m → IsSpot m i u sp → IsFiledEvent m.archive x → IsRoom m (λ o. own_source o i u) (Ok d) → IsOwnEvent i u x e
-    → IsPlan m e (record { deed = Act sp.slot_at sp.node_at x; drawn = d; size = 0 })
+    → IsPlan m e (record { deed = Act sp x; charge = record { drawn = d; size = 0 } })
 own-plan m i u sp x d e st at filed room own =
-    act-plan m e i u sp.slot_at sp.node_at x d st at.slot at.node filed (subst (IsDrawn (machine_of m) d) (sym (own.source_is m.config.roster)) room.0) own.size_is own.named_is own.none_is (λ net s. own.effect_is net)
+    act-plan m e i u sp x d st at filed (subst (IsDrawn (machine_of m) d) (sym (own.source_is m.config.roster)) room.0) own.size_is own.named_is own.none_is (λ net s. own.effect_is net)
     (λ net s. ap first_that (own.tests_are net) ∙ node_then m net u sp.node_at (open_test net i ∷ room_test net (own_source net.roster i u) ∷ []) s at.node
     ∙ open_then m net i sp.slot_at (room_test net (own_source net.roster i u) ∷ []) s at.slot ∙ passes (room_test net (own_source net.roster i u)) [] (room.1 net s))
 
@@ -175,8 +175,8 @@ asks-full m i u x sp y b r st at is good given has full =
     λ net s. asks-good m net i u x sp y b st at is good given s ∙ passes (b, ProposedAlready) (room_test net (own_source net.roster i u) ∷ []) has ∙ stops (room_test net (own_source net.roster i u)) r [] (full net s)
 
 pub asks-plan : (m : FiledMachine) (i u : ℕ) (x : List ℕ) (sp : Spot) (y : CountedInstance) (b : Bool) (d : Drawn) → IsStanding m → IsSpot m i u sp → IsCountedInstance (machine_of m) sp.slot_at sp.node_at y → is_bad_value x ≡ false → b ≡ has_proposal (Some y.instance) → b ≡ false → IsRoom m (λ o. own_source o i u) (Ok d)
-    → IsPlan m (Proposes i u x) (record { deed = Act sp.slot_at sp.node_at (events.Propose x); drawn = d; size = 0 })
+    → IsPlan m (Proposes i u x) (record { deed = Act sp (events.Propose x); charge = record { drawn = d; size = 0 } })
 unfolding effect
 asks-plan m i u x sp y b d st at is good given has room =
-    act-plan m (Proposes i u x) i u sp.slot_at sp.node_at (events.Propose x) d st at.slot at.node tt (subst (IsDrawn (machine_of m) d) (sym (asks-source m.config.roster i u x)) room.0) refl refl refl (λ net s. refl)
+    act-plan m (Proposes i u x) i u sp (events.Propose x) d st at tt (subst (IsDrawn (machine_of m) d) (sym (asks-source m.config.roster i u x)) room.0) refl refl refl (λ net s. refl)
     (λ net s. asks-good m net i u x sp y b st at is good given s ∙ passes (b, ProposedAlready) (room_test net (own_source net.roster i u) ∷ []) has ∙ passes (room_test net (own_source net.roster i u)) [] (room.1 net s))

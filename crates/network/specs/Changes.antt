@@ -7,7 +7,7 @@ changed_at n f [] = []
 changed_at zero f (x ∷ xs) = f x ∷ xs
 changed_at (suc n) f (x ∷ xs) = x ∷ changed_at n f xs
 
--- two lists that are the same but for one place, where these elements are related so
+-- two lists that are the same but for one place, and there the elements are related so
 abbrev pub IsChangedAt : {X : Type 0} → (X → X → Type 0) → ℕ → List X → List X → Type 0
 IsChangedAt R n [] ys = ⊥
 IsChangedAt R n (x ∷ xs) [] = ⊥

@@ -11,22 +11,22 @@ use Rattle.network.specs.declared.plan.Drawn.TheVariants.{Budgets, Opens, Own, P
 use Rattle.network.specs.declared.tallies.Tally.{Tally}
 
 -- ---- on what it counts
--- what an event counts on a node's own share: one where it draws on that
+-- what an event counts on a node's own share: one if it draws on that, else nothing
 abbrev pub on_own : Drawn → ℕ
-on_own (Own k h) = 1
+on_own (Own at) = 1
 on_own _ = 0
 
--- what an event counts on what a node gets from a name: so much where it draws on that
+-- what an event counts on what a node gets from a name: this many if it draws on that, else nothing
 abbrev pub on_pair : Drawn → ℕ → ℕ → ℕ
-on_pair (Pair k h w) n u = if w == u then n else 0
+on_pair (Pair at w) n u = if w == u then n else 0
 on_pair _ n u = 0
 
--- what an event counts on the budgets of the network: so much where it draws on them
+-- what an event counts on the budgets of the network: this many if it draws on them, else nothing
 abbrev pub on_budgets_of : Drawn → ℕ → ℕ
 on_budgets_of Budgets n = n
 on_budgets_of _ n = 0
 
--- what an event counts on openings and closings: one where it draws on them
+-- what an event counts on openings and closings: one if it draws on them, else nothing
 abbrev pub on_opens_of : Drawn → ℕ
 on_opens_of Opens = 1
 on_opens_of _ = 0
@@ -50,17 +50,17 @@ FitsOrNone bytes n = (bytes + n ≤ 2 ^ 40) ⊎ (n ≡ 0)
 
 -- with what an event draws on them, the counts of a node stay at most 2^40
 abbrev pub HasRoomInCounts : Drawn → ℕ → ℕ → List Tally → Type 0
-HasRoomInCounts (Own k h) n own heard = own < 2 ^ 40
-HasRoomInCounts (Pair k h u) n own heard = (events_from heard u < 2 ^ 40) × FitsOrNone (bytes_from heard u) n
+HasRoomInCounts (Own at) n own heard = own < 2 ^ 40
+HasRoomInCounts (Pair at u) n own heard = (events_from heard u < 2 ^ 40) × FitsOrNone (bytes_from heard u) n
 HasRoomInCounts _ n own heard = ⊤
 
 -- with what an event draws on them, the counts of a node at a slot stay at most 2^40
 abbrev pub HasRoomForCharge : Charge → FiledInstance → Type 0
 HasRoomForCharge c l = HasRoomInCounts c.drawn c.size l.own l.heard
 
--- there is room for the tally of one more name, where an event draws on what comes from one
+-- there is room for the tally of one more name, if an event draws on what comes from one
 abbrev pub HasRoomToTally : Drawn → TallyBook → Type 0
-HasRoomToTally (Pair k h u) b = 0 < b.room
+HasRoomToTally (Pair at u) b = 0 < b.room
 HasRoomToTally _ b = ⊤
 
 -- a node took one event, which is counted at it

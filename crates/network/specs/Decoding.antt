@@ -36,6 +36,6 @@ pub record IsExactly (bytes : List ℕ) : Type 0 where
   pub envelope : (e : Sent) → (reading bytes ≡ Read e) ↔ Spells bytes e
   pub fault : (f : Wrong) → (reading bytes ≡ Fault (fault_number f)) ↔ IsFault bytes f
 
--- each text is an envelope exactly where it spells that, and a fault exactly where it has that fault
+-- each text is an envelope exactly if it spells that, and a fault exactly if it has that fault
 abbrev pub ReadingsAreExact : Type 0
 ReadingsAreExact = (bytes : List ℕ) → IsBytes bytes → IsExactly bytes

@@ -43,15 +43,15 @@ slots_after_event slots k h e =
 abbrev pub slots_after : List Slot → Deed → List Slot
 slots_after slots (Open s) = slots ++ slot_of (counted_slot s) ∷ []
 slots_after slots (Close k) = remove slots k
-slots_after slots (Act k h e) = slots_after_event slots k h (event_of e)
-slots_after slots (Hand k h e) = slots_after_event slots k h (NodeEvent.Take e)
+slots_after slots (Act at e) = slots_after_event slots at.slot_at at.node_at (event_of e)
+slots_after slots (Hand at e) = slots_after_event slots at.slot_at at.node_at (NodeEvent.Take e)
 
 -- what a deed, which is told by places, gives out
 abbrev pub outs_of_deed : List Slot → Deed → List Out
 outs_of_deed slots (Open s) = []
 outs_of_deed slots (Close k) = []
-outs_of_deed slots (Act k h e) = outs_at (event_of e) (instance_at (slice_get slots k) h)
-outs_of_deed slots (Hand k h e) = outs_at (NodeEvent.Take e) (instance_at (slice_get slots k) h)
+outs_of_deed slots (Act at e) = outs_at (event_of e) (instance_at (slice_get slots at.slot_at) at.node_at)
+outs_of_deed slots (Hand at e) = outs_at (NodeEvent.Take e) (instance_at (slice_get slots at.slot_at) at.node_at)
 
 -- there is a node at these places
 abbrev pub IsNodeThere : List Slot → ℕ → ℕ → Type 0
@@ -61,8 +61,8 @@ IsNodeThere slots k h = (s : Slot) × (slice_get slots k ≡ Some s) × (h < len
 abbrev pub IsThere : Archived → List Slot → Deed → Type 0
 IsThere archive slots (Open s) = All (IsInstanceFiled archive) s.instances × All HasDrawnNothing s.instances
 IsThere archive slots (Close k) = k < length slots
-IsThere archive slots (Act k h e) = IsNodeThere slots k h × IsFiledEvent archive e
-IsThere archive slots (Hand k h e) = IsNodeThere slots k h
+IsThere archive slots (Act at e) = IsNodeThere slots at.slot_at at.node_at × IsFiledEvent archive e
+IsThere archive slots (Hand at e) = IsNodeThere slots at.slot_at at.node_at
 
 -- ---- whose event it is
 -- the node of this slot and name is the one at these places
@@ -75,15 +75,15 @@ IsNodeOf m (Some at) k h =
 abbrev pub IsEventOf : Machine → Step → Deed → Type 0
 IsEventOf m e (Open s) = e ≡ StepOpens s.number
 IsEventOf m e (Close k) = (i : ℕ) × (e ≡ StepCloses i)
-IsEventOf m e (Act k h x) = IsNodeOf m (slot_and_node_of e) k h
-IsEventOf m e (Hand k h x) = IsNodeOf m (slot_and_node_of e) k h
+IsEventOf m e (Act at x) = IsNodeOf m (slot_and_node_of e) at.slot_at at.node_at
+IsEventOf m e (Hand at x) = IsNodeOf m (slot_and_node_of e) at.slot_at at.node_at
 
 -- the envelope that is filed when it is handed over
 abbrev pub envelope_to_file : Deed → Option Sent
 envelope_to_file (Open s) = None
 envelope_to_file (Close k) = None
-envelope_to_file (Act k h x) = None
-envelope_to_file (Hand k h x) = Some x
+envelope_to_file (Act at x) = None
+envelope_to_file (Hand at x) = Some x
 
 -- the node at a place of an open slot, with its counts
 abbrev pub IsCountedInstance : Machine → ℕ → ℕ → CountedInstance → Type 0
@@ -98,12 +98,12 @@ IsInstanceThere m k h = (y : CountedInstance) × IsCountedInstance m k h y
 abbrev pub IsDrawn : Machine → Drawn → Source → Type 0
 IsDrawn m Budgets s = s ≡ OfBudgets
 IsDrawn m Opens s = (r : Roster) × (m.config.roster ≡ Some r) × (s ≡ OfOpens r.shares)
-IsDrawn m (Own k h) s =
-    (r : Roster) × (x : CountedSlot) × (y : CountedInstance) × (m.config.roster ≡ Some r) × (slice_get m.slots k ≡ Some x)
-    × (slice_get x.instances h ≡ Some y) × (s ≡ OfShare r.shares x.number (OwnShare y.instance.node.name))
-IsDrawn m (Pair k h u) s =
-    (r : Roster) × (x : CountedSlot) × (y : CountedInstance) × (m.config.roster ≡ Some r) × (slice_get m.slots k ≡ Some x)
-    × (slice_get x.instances h ≡ Some y) × (s ≡ OfShare r.shares x.number (PairShare y.instance.node.name u))
+IsDrawn m (Own at) s =
+    (r : Roster) × (x : CountedSlot) × (y : CountedInstance) × (m.config.roster ≡ Some r) × (slice_get m.slots at.slot_at ≡ Some x)
+    × (slice_get x.instances at.node_at ≡ Some y) × (s ≡ OfShare r.shares x.number (OwnShare y.instance.node.name))
+IsDrawn m (Pair at u) s =
+    (r : Roster) × (x : CountedSlot) × (y : CountedInstance) × (m.config.roster ≡ Some r) × (slice_get m.slots at.slot_at ≡ Some x)
+    × (slice_get x.instances at.node_at ≡ Some y) × (s ≡ OfShare r.shares x.number (PairShare y.instance.node.name u))
 
 -- a plan for an event that nothing refuses: what is done by places is what the event does, whatever network the machine
 -- stands for
@@ -113,11 +113,11 @@ pub record IsPlan (m : FiledMachine) (e : Step) (plan : Plan) : Type 0 where
   pub outs : (net : Net) → StandsFor (machine_of m) net → outs_of_deed net.slots plan.deed ≡ (effect net e).1
   pub named : IsEventOf (machine_of m) e plan.deed
   pub handed : envelope_to_file plan.deed ≡ delivered_of e
-  pub drawn : IsDrawn (machine_of m) plan.drawn (source m.config.roster e)
-  pub size : plan.size ≡ size_of e
+  pub drawn : IsDrawn (machine_of m) plan.charge.drawn (source m.config.roster e)
+  pub size : plan.charge.size ≡ size_of e
   pub there : IsThere m.archive (map slot_of (machine_of m).slots) plan.deed
 
--- a plan for an event, or a refusal of it
+-- a plan for an event, or a refusal
 abbrev pub IsPlanned : FiledMachine → Step → Result Plan Refusal → Type 0
 IsPlanned m e (Ok plan) = IsPlan m e plan
 IsPlanned m e (Err r) = IsRefusal (machine_of m) e r
@@ -140,12 +140,13 @@ HasRoomForEvent m d = (s : Source) (net : Net) → IsDrawn m d s → StandsFor m
 abbrev pub HasNoRoom : Machine → Drawn → Refusal → Type 0
 HasNoRoom m d r = (s : Source) (net : Net) → IsDrawn m d s → StandsFor m net → room_test net s ≡ (true, r)
 
--- there is room for so many bytes more on what is drawn on, whatever network the machine stands for
+-- there is room for this many bytes more on what is drawn on, whatever network the machine stands for
 abbrev pub HasRoomForDrawnBytes : Machine → Drawn → ℕ → Type 0
 HasRoomForDrawnBytes m d size =
     (s : Source) (net : Net) → IsDrawn m d s → StandsFor m net → (bytes_test net s size).0 ≡ false
 
--- there is no room for so many bytes more on what is drawn on, and this is the refusal
+-- there is no room for this many bytes more on what is drawn on, and this is the refusal, whatever network the machine
+-- stands for
 abbrev pub HasNoRoomForBytes : Machine → Drawn → ℕ → Refusal → Type 0
 HasNoRoomForBytes m d size r =
     (s : Source) (net : Net) → IsDrawn m d s → StandsFor m net → bytes_test net s size ≡ (true, r)
@@ -154,8 +155,8 @@ HasNoRoomForBytes m d size r =
 abbrev pub IsOfBudgetsOrPair : Drawn → Type 0
 IsOfBudgetsOrPair Budgets = ⊤
 IsOfBudgetsOrPair Opens = ⊥
-IsOfBudgetsOrPair (Own k h) = ⊥
-IsOfBudgetsOrPair (Pair k h u) = ⊤
+IsOfBudgetsOrPair (Own at) = ⊥
+IsOfBudgetsOrPair (Pair at u) = ⊤
 
 -- ---- what an event of a node draws on
 -- what an event of a node's own draws on
@@ -168,7 +169,7 @@ abbrev pub pair_source : Option Roster → ℕ → ℕ → ℕ → Source
 pair_source None i u from = OfBudgets
 pair_source (Some r) i u from = share_or_budgets r i (PairShare u from)
 
--- on what is drawn, where there is room on it for one more event, or the refusal where there is none
+-- on what is drawn, if there is room on it for one more event, or the refusal if there is none
 abbrev pub IsRoom : FiledMachine → (Option Roster → Source) → Result Drawn Refusal → Type 0
 IsRoom m of (Ok d) =
     IsDrawn (machine_of m) d (of m.config.roster)
@@ -179,11 +180,11 @@ IsRoom m of (Err r) = (net : Net) → StandsFor (machine_of m) net → room_test
 abbrev pub IsSlotThere : FiledMachine → ℕ → ℕ → Type 0
 IsSlotThere m i k = index_of_slot (map slot_of (machine_of m).slots) i ≡ Some k
 
--- on what a node's own event draws, where there is room for one more, or the refusal where there is none
+-- on what a node's own event draws, if there is room for one more, or the refusal if there is none
 abbrev pub IsOwnRoom : FiledMachine → Spot → ℕ → Result Drawn Refusal → Type 0
 IsOwnRoom m s u result = (i : ℕ) → IsSlotThere m i s.slot_at → IsRoom m (λ o. own_source o i u) result
 
--- on what an event from a name draws, where there is room for one more, or the refusal where there is none
+-- on what an event from a name draws, if there is room for one more, or the refusal if there is none
 abbrev pub IsPairRoom : FiledMachine → Spot → ℕ → ℕ → Result Drawn Refusal → Type 0
 IsPairRoom m s u from result = (i : ℕ) → IsSlotThere m i s.slot_at → IsRoom m (λ o. pair_source o i u from) result
 
@@ -203,7 +204,7 @@ IsSpotRefused m i u r =
 abbrev pub own_tests : Net → ℕ → ℕ → List (Bool × Refusal)
 own_tests net i u = hosted_test net u ∷ open_test net i ∷ room_test net (own_source net.roster i u) ∷ []
 
--- an event of a node's own that has no test beside those that all of these share
+-- an event of a node's own that has only the tests that all of these share
 pub record IsOwnEvent (i u : ℕ) (x : FiledEvent) (e : Step) : Type 0 where
   pub tests_are : (net : Net) → tests net e ≡ own_tests net i u
   pub effect_is : (net : Net) → effect net e ≡ act net i u (event_of x)

@@ -2,16 +2,13 @@
 use Rattle.std.specs.Prelude.{◌≡◌, ℕ, ◌≤◌, ◌+◌, ◌==◌, List, [], ◌∷◌, map, Vec, vec_len, vec_capacity, if◌then◌else◌}
 use Rattle.std.specs.Global.{Global}
 use Rattle.std.specs.List.{All}
-use Rattle.types.specs.declared.event.Out.{Out}
 use Rattle.protocol.specs.Networks.{Instance, Slot}
 use Rattle.protocol.specs.Rosters.{Draw, bytes_drawn, events_drawn}
 use Rattle.protocol.specs.Rosters.Share.{Own, Pair}
 use Rattle.envstore.specs.Archives.{Archived, AreFiled, sents_of}
 use Rattle.envstore.specs.declared.filed.Filed.{Filed}
-use Rattle.slot.specs.Filings.{copies_of, whole_outs}
 use Rattle.slot.specs.Listening.{FiledNode}
 use Rattle.network.specs.declared.tallies.Tally.{Tally}
-use Rattle.network.specs.declared.emission_log.NumberedOuts.{NumberedOuts}
 use Rattle.network.specs.declared.emission_log.PlacesByKind.{PlacesByKind}
 
 -- ---- a node at a slot
@@ -89,15 +86,8 @@ pub record IsTallied (i : ℕ) (draws : List Draw) (x : CountedInstance) : Type 
 abbrev pub AreTallied : List Draw → List CountedSlot → Type 0
 AreTallied draws slots = All (λ s. All (IsTallied s.number draws) s.instances) slots
 
--- ---- what an event of a node answers
--- what an event of a node answers: these outs, these marks, and N whole copies
-pub record AreOutsGiven (outs : List Out) (marks : List ℕ) (count : ℕ) (a : NumberedOuts) : Type 0 where
-  pub outs_are : whole_outs a.outs.items ≡ outs
-  pub marks_are : a.marks.items ≡ marks
-  pub copies : map (λ v. v.items) a.copies.items ≡ copies_of count outs
-
 -- ---- room that is made before an event
--- there is room for so many emissions more, for their places and for their marks
+-- there is room for this many emissions more, for their places and for their marks
 pub record HaveRoom (count : ℕ) (emitted : Vec Filed Global) (places : PlacesByKind) (marks : Vec ℕ Global)
     : Type 0 where
   pub emissions : vec_len emitted + count ≤ vec_capacity emitted

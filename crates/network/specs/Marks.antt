@@ -19,7 +19,7 @@ slot_and_node_of (NominationTimerFires i u r) = Some (i, u)
 slot_and_node_of (BallotTimerFires i u n) = Some (i, u)
 slot_and_node_of (Reslices i u q) = Some (i, u)
 
--- what a node at a slot has emitted; nothing where there is none
+-- what a node at a slot has emitted; nothing if there is none
 abbrev pub emitted_at : Option Instance → List Sent
 emitted_at None = []
 emitted_at (Some p) = p.emitted

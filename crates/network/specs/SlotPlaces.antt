@@ -14,11 +14,11 @@ number_kept e = e.number
 abbrev pub kept_for : List SlotPlace → ℕ → Option ℕ
 kept_for es i = at_key number_kept (λ e. e.place) es i
 
--- a place, once what stood at another one is gone: one less where it lay behind that
+-- a place, once what stood at another one is gone: one less if it lay behind that
 abbrev pub place_without : ℕ → ℕ → ℕ
 place_without k n = if nat_lt k n then n - 1 else n
 
--- the places that are kept, once what stood at one is gone: one less where they lay behind it
+-- the places that are kept, once what stood at one is gone: one less if they lay behind it
 abbrev pub slot_places_without : ℕ → List SlotPlace → List SlotPlace
 slot_places_without k es = map (λ e. record { number = e.number; place = place_without k e.place }) es
 
@@ -35,6 +35,6 @@ kept_without number place es i = if number == i then None else option_map (place
 abbrev pub slot_numbers : List FiledSlot → List ℕ
 slot_numbers slots = map (λ s. s.number) slots
 
--- for each number the place of its slot is kept, and none where no open slot has it
+-- for each number the place of its slot is kept, and none if no open slot has it
 pub record AreSlotsIndexed (slots : List FiledSlot) (index : List SlotPlace) : Type 0 where
   pub finds : (i : ℕ) → kept_for index i ≡ index_in (slot_numbers slots) i

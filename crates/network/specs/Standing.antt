@@ -41,7 +41,7 @@ abbrev pub machine_of : FiledMachine → Machine
 machine_of m =
     record { config = m.config; slots = map counted_slot m.slots; events = m.events; bytes = m.bytes; opens = m.opens }
 
--- the network, where this was drawn
+-- the network, if this was drawn
 abbrev pub net_of : Machine → List Draw → Net
 net_of m draws = record {
   number = m.config.number;
@@ -67,8 +67,8 @@ pub record IsOfSlot (i : ℕ) (p : Instance) : Type 0 where
   pub rows : AllByRecursion (λ e. e.slot ≡ i) p.node.table
   pub emitted : AllByRecursion (λ e. e.slot ≡ i) p.emitted
 
--- no name is hosted twice; the hosted nodes stand in their order at each open slot; no slot is open twice; each
--- node is of its slot; the bytes keep the budget
+-- No name is hosted twice, and the hosted nodes stand in their order at each open slot. No slot is open twice, each
+-- node is of its slot, and the bytes keep the budget.
 pub record IsTidy (m : Machine) : Type 0 where
   pub single : all_differ (names_of m.config.nodes) ≡ true
   pub names : AllByRecursion (λ s. map (λ x. x.instance.node.name) s.instances ≡ names_of m.config.nodes) m.slots
@@ -87,12 +87,12 @@ pub record IsStanding (m : FiledMachine) : Type 0 where
   pub stood : IsStood (machine_of m)
 
 -- ---- what is read of a node
--- a node at a slot of a network, as it is now; there is none where the slot is not open, and where the node is not hosted
+-- a node at a slot of a network, as it is now; there is none if the slot is not open or the node is not hosted
 abbrev pub node_at : Net → ℕ → ℕ → Option Node
 node_at net i u = option_map (λ p. p.node) (node_where_open (instances_at net.slots i) u)
 
--- the slices of a node at a slot of a network, as they are now; there are none where the slot is not open, and where
--- the node is not hosted
+-- the slices of a node at a slot of a network, as they are now; there are none if the slot is not open or the node is
+-- not hosted
 abbrev pub slices_of_node : Net → ℕ → ℕ → Option Slices
 slices_of_node net i u = option_map (λ p. p.node.slices) (node_where_open (instances_at net.slots i) u)
 
@@ -124,6 +124,6 @@ abbrev pub IsDeliveryThatTakesMemory : List HostedNode → Step → Type 0
 IsDeliveryThatTakesMemory nodes (Delivers u size said) = ((h : ℕ) × (index_of_name nodes u ≡ Some h)) × MayTakeMemory size said
 IsDeliveryThatTakesMemory nodes _ = ⊥
 
--- the first refusal that applies; or memory is wanting, and none applies, save that bytes were being read
+-- the first refusal that applies; or that it is out of memory, if none applies or bytes were read that may take memory
 abbrev pub IsRefusal : Machine → Step → Refusal → Type 0
 IsRefusal m e r = ((r ≡ NoMemory) × (IsAllowed m e ⊎ IsDeliveryThatTakesMemory m.config.nodes e)) ⊎ IsFirstRefusal m e r

@@ -3,7 +3,7 @@
 //! An `AllocError` of a function here says that it is out of memory. Then nothing changed, but the archive may have
 //! what was already filed for the event.
 
-ghost use Rattle.std.specs.Prelude.{◌≡◌, ◌<◌, ◌≤◌, ◌+◌, ◌^◌, ◌++◌, ◌∷◌, [], IfErr, IfOk, List, None, OnErr, OnOk, Some, length, true, ℕ};
+ghost use Rattle.std.specs.Prelude.{◌≡◌, ◌<◌, ◌≤◌, ◌+◌, ◌^◌, ◌++◌, ◌∷◌, [], IfErr, IfOk, None, OnErr, OnOk, Some, length, true};
 ghost use Rattle.std.specs.List.{All, remove};
 ghost use Rattle.types.specs.Trees.{all_differ};
 ghost use Rattle.configuration.specs.Budgets.{AreShares};
@@ -12,29 +12,28 @@ ghost use Rattle.envstore.specs.Archives.{Keeps};
 ghost use Rattle.protocol.specs.Rosters.{Roster as Names};
 ghost use Rattle.slot.specs.Filings.{IsFiledEvent, event_of};
 ghost use Rattle.types.specs.declared.event.NodeEvent.{NodeEvent};
-ghost use Rattle.network.specs.Answers.{IsApplied, IsLeftOrOutOfMemory};
+ghost use Rattle.network.specs.Answers.{IsApplied, IsLeftOrOutOfMemory, IsOutcome};
 ghost use Rattle.network.specs.Changes.{IsChangedAt};
 ghost use Rattle.network.specs.Charges.{HasReadyNode, HasRoomOnNetwork, IsSlotActed, on_budgets_of, on_opens_of};
 ghost use Rattle.network.specs.Decoding.{step_of};
-ghost use Rattle.network.specs.Deeds.{IsPlan, envelope_to_file, instance_at, outs_of_deed};
-ghost use Rattle.network.specs.Doings.{IsDeedAnswer, IsDoable, IsDone, marks_after, slots_of};
+ghost use Rattle.network.specs.Deeds.{IsPlan, envelope_to_file, outs_of_deed};
+ghost use Rattle.network.specs.Doings.{IsDoable, IsDone, marks_after, slots_of};
 ghost use Rattle.network.specs.FiledSlots.{AreSlotsFiled, IsInstanceFiled};
 ghost use Rattle.network.specs.SlotPlaces.{slot_numbers};
 ghost use Rattle.network.specs.Standing.{IsRefusal, machine_of};
 
-use crate::applied::Outcome;
+use crate::applied::{Given, Outcome};
 use crate::network::Network;
 use crate::open_slot::OpenSlot;
 use crate::open_slots::OpenSlots;
-use crate::plan::{Charge, Deed, Drawn, Plan, Spot, Terms};
-use envstore::{Archive, Filed, Shelf};
+use crate::plan::{Charge, Deed, Drawn, Plan, Spot};
+use envstore::{Archive, Shelf};
 use slot::FiledEvent;
 use std::alloc::{AllocError, Global};
-use types::{Envelope, Event, Out, Refusal};
+use types::{Envelope, Event, Refusal};
 
 impl<S: Shelf> Network<S> {
     /// Applies one event. It is tested in the order of the refusals, what needs memory is made, and then it is done.
-    /// `copies` whole copies are made of what it gives out.
     ///
     /// An error is the first refusal that applies, or says that it is out of memory. In the latter case no refusal
     /// applies, or bytes came to a hosted node that may take memory to be read. Those are at most 65,536, of a version
@@ -42,8 +41,8 @@ impl<S: Shelf> Network<S> {
     ///
     /// After a refusal that applies all is as it was, the archive too. If none applies and it is out of memory, all
     /// else is as it was, but the archive may have what was already filed for the event.
-    pub fn apply(&mut self, event: &Event, copies: usize) -> Result<Outcome, Refusal>
-        ensures applied { IfOk result (IsApplied self.old (step_of event.now) copies self.new) }
+    pub fn apply(&mut self, event: &Event) -> Result<Outcome, Refusal>
+        ensures applied { IfOk result (IsApplied self.old (step_of event.now) self.new) }
         ensures err { IfErr result (IsRefusal (machine_of self.old) (step_of event.now)) }
         ensures same { OnErr result (machine_of self.new ≡ machine_of self.old) }
         ensures left { IfErr result (IsLeftOrOutOfMemory self.old (step_of event.now) self.new) }
@@ -51,31 +50,30 @@ impl<S: Shelf> Network<S> {
         ensures kept { Keeps self.old.archive self.new.archive }
     {
         let plan = self.plan(event)?;
-        match self.carry_out(event, plan, copies) {
+        match self.carry_out(event, plan) {
             Ok(applied) => Ok(applied),
             Err(_) => Err(Refusal::NoMemory),
         }
     }
 
     /// Does and counts what was planned for an event.
-    fn carry_out(&mut self, event: &Event, plan: Plan, copies: usize) -> Result<Outcome, AllocError>
+    fn carry_out(&mut self, event: &Event, plan: Plan) -> Result<Outcome, AllocError>
         requires { IsPlan self.old (step_of event.now) plan }
-        ensures applied { IfOk result (IsApplied self.old (step_of event.now) copies self.new) }
+        ensures applied { IfOk result (IsApplied self.old (step_of event.now) self.new) }
         ensures same { OnErr result (machine_of self.new ≡ machine_of self.old) }
         ensures config { self.new.config ≡ self.old.config }
         ensures kept { Keeps self.old.archive self.new.archive }
     {
         self.limits();
-        let Plan { deed, drawn, size } = plan;
-        let charge = Charge { drawn, size };
-        let terms = Terms { charge, copies };
-        let applied = perform(self.alloc, &mut self.archive, &mut self.slots, deed, &terms)?;
-        count(
-            &mut self.events,
-            &mut self.bytes,
-            &mut self.opens,
-            &terms.charge,
-        );
+        let Plan { deed, charge } = plan;
+        let applied = perform(
+            self.alloc,
+            &mut self.archive,
+            &mut self.slots,
+            deed,
+            &charge,
+        )?;
+        count(&mut self.events, &mut self.bytes, &mut self.opens, &charge);
         Ok(applied)
     }
 
@@ -114,7 +112,7 @@ fn count(events: &mut u64, bytes: &mut u64, opens: &mut u64, charge: &Charge)
             *bytes += charge.size;
         }
         Drawn::Opens => *opens += 1,
-        Drawn::Own { .. } | Drawn::Pair { .. } => {}
+        Drawn::Own(_) | Drawn::Pair { .. } => {}
     }
 }
 
@@ -124,12 +122,12 @@ fn perform<S: Shelf>(
     archive: &mut Archive<S>,
     slots: &mut OpenSlots,
     deed: Deed,
-    terms: &Terms,
+    charge: &Charge,
 ) -> Result<Outcome, AllocError>
     requires archived { AreSlotsFiled archive.old slots.old }
-    requires doable { IsDoable archive.old terms.now.charge slots.old deed }
-    ensures done { OnOk result (IsDone terms.now.charge deed slots.old slots.new) }
-    ensures answer { IfOk result (IsDeedAnswer (outs_of_deed (slots_of slots.old) deed) (marks_after (slots_of slots.old) deed) (envelope_to_file deed) terms.now.copies archive.new) }
+    requires doable { IsDoable archive.old charge.now slots.old deed }
+    ensures done { OnOk result (IsDone charge.now deed slots.old slots.new) }
+    ensures outcome { IfOk result (IsOutcome (outs_of_deed (slots_of slots.old) deed) (marks_after (slots_of slots.old) deed) (envelope_to_file deed) archive.new) }
     ensures err { OnErr result (slots.new ≡ slots.old) }
     ensures archived { AreSlotsFiled archive.new slots.new }
     ensures kept { Keeps archive.old archive.new }
@@ -137,21 +135,9 @@ fn perform<S: Shelf>(
     match deed {
         Deed::Open(slot) => open(alloc, archive, slots, slot),
         Deed::Close { slot_at } => Ok(close(alloc, archive, slots, slot_at)),
-        Deed::Act {
-            slot_at,
-            node_at,
-            event,
-        } => {
-            let spot = Spot { slot_at, node_at };
-            act(archive, &mut slots.slots, &spot, event, terms)
-        }
-        Deed::Hand {
-            slot_at,
-            node_at,
-            envelope,
-        } => {
-            let spot = Spot { slot_at, node_at };
-            hand(archive, &mut slots.slots, &spot, envelope, terms)
+        Deed::Act { spot, event } => act(archive, &mut slots.slots, &spot, event, charge),
+        Deed::Hand { spot, envelope } => {
+            hand(archive, &mut slots.slots, &spot, envelope, charge)
         }
     }
 }
@@ -166,7 +152,7 @@ fn open<S: Shelf>(
     requires slot { All (IsInstanceFiled archive.now) slot.instances }
     requires fresh { index_in (slot_numbers slots.old) slot.number ≡ None }
     ensures done { OnOk result (slots.new ≡ slots.old ++ slot ∷ []) }
-    ensures answer { (count : ℕ) → IfOk result (IsDeedAnswer [] [] None count archive.now) }
+    ensures outcome { IfOk result (IsOutcome [] [] None archive.now) }
     ensures err { OnErr result (slots.new ≡ slots.old) }
     ensures archived { AreSlotsFiled archive.now slots.new }
 {
@@ -185,7 +171,7 @@ fn close<S: Shelf>(
     requires at { slot_at < length slots.old }
     requires apart { all_differ (slot_numbers slots.old) ≡ true }
     ensures done { slots.new ≡ remove slots.old slot_at }
-    ensures answer { (count : ℕ) → IsDeedAnswer [] [] None count archive.now result }
+    ensures outcome { IsOutcome [] [] None archive.now result }
     ensures archived { AreSlotsFiled archive.now slots.new }
 {
     slots.close(slot_at);
@@ -197,24 +183,18 @@ fn act<S: Shelf>(
     slots: &mut Vec<OpenSlot>,
     spot: &Spot,
     event: FiledEvent,
-    terms: &Terms,
+    charge: &Charge,
 ) -> Result<Outcome, AllocError>
     requires archived { AreSlotsFiled archive.old slots.old.items }
-    requires ready { HasReadyNode terms.now.charge slots.old.items spot.now.slot_at spot.now.node_at }
+    requires ready { HasReadyNode charge.now slots.old.items spot.now.slot_at spot.now.node_at }
     requires event { IsFiledEvent archive.old event }
-    ensures done { OnOk result (IsChangedAt (IsSlotActed terms.now.charge spot.now.node_at (event_of event)) spot.now.slot_at slots.old.items slots.new.items) }
-    ensures answer { IfOk result (IsDeedAnswer (outs_of_deed (slots_of slots.old.items) (Deed.Act spot.now.slot_at spot.now.node_at event)) (marks_after (slots_of slots.old.items) (Deed.Act spot.now.slot_at spot.now.node_at event)) None terms.now.copies archive.new) }
+    ensures done { OnOk result (IsChangedAt (IsSlotActed charge.now spot.now.node_at (event_of event)) spot.now.slot_at slots.old.items slots.new.items) }
+    ensures outcome { IfOk result (IsOutcome (outs_of_deed (slots_of slots.old.items) (Deed.Act spot.now event)) (marks_after (slots_of slots.old.items) (Deed.Act spot.now event)) None archive.new) }
     ensures err { OnErr result (slots.new.items ≡ slots.old.items) }
     ensures archived { AreSlotsFiled archive.new slots.new.items }
     ensures kept { Keeps archive.old archive.new }
 {
-    let noted = slots[spot.slot_at].act(archive, spot.node_at, event, terms)?;
-    Ok(Outcome {
-        outs: noted.outs,
-        marks: noted.marks,
-        copies: noted.copies,
-        delivered: None,
-    })
+    slots[spot.slot_at].act(archive, spot.node_at, event, charge)
 }
 
 /// Hands an envelope, which is filed first, to the node at these places.
@@ -223,35 +203,33 @@ fn hand<S: Shelf>(
     slots: &mut Vec<OpenSlot>,
     spot: &Spot,
     envelope: Envelope,
-    terms: &Terms,
+    charge: &Charge,
 ) -> Result<Outcome, AllocError>
     requires archived { AreSlotsFiled archive.old slots.old.items }
-    requires ready { HasReadyNode terms.now.charge slots.old.items spot.now.slot_at spot.now.node_at }
-    ensures done { OnOk result (IsChangedAt (IsSlotActed terms.now.charge spot.now.node_at (NodeEvent.Take envelope)) spot.now.slot_at slots.old.items slots.new.items) }
-    ensures answer { IfOk result (IsDeedAnswer (outs_of_deed (slots_of slots.old.items) (Deed.Hand spot.now.slot_at spot.now.node_at envelope)) (marks_after (slots_of slots.old.items) (Deed.Hand spot.now.slot_at spot.now.node_at envelope)) (Some envelope) terms.now.copies archive.new) }
+    requires ready { HasReadyNode charge.now slots.old.items spot.now.slot_at spot.now.node_at }
+    ensures done { OnOk result (IsChangedAt (IsSlotActed charge.now spot.now.node_at (NodeEvent.Take envelope)) spot.now.slot_at slots.old.items slots.new.items) }
+    ensures outcome { IfOk result (IsOutcome (outs_of_deed (slots_of slots.old.items) (Deed.Hand spot.now envelope)) (marks_after (slots_of slots.old.items) (Deed.Hand spot.now envelope)) (Some envelope) archive.new) }
     ensures err { OnErr result (slots.new.items ≡ slots.old.items) }
     ensures archived { AreSlotsFiled archive.new slots.new.items }
     ensures kept { Keeps archive.old archive.new }
 {
     let delivered = archive.put(envelope)?;
     let event = FiledEvent::Take(archive.copy_of(&delivered));
-    let applied = act(archive, slots, spot, event, terms)?;
-    Ok(Outcome {
-        outs: applied.outs,
-        marks: applied.marks,
-        copies: applied.copies,
-        delivered: Some(delivered),
-    })
+    let mut applied = act(archive, slots, spot, event, charge)?;
+    applied.delivered = Some(delivered);
+    Ok(applied)
 }
 
-/// Nothing is given out, whatever number of copies was asked for. It takes no memory.
+/// Nothing is given out. It takes no memory.
 fn nothing<S: Shelf>(alloc: Global, archive: &Archive<S>) -> Outcome
-    ensures { (count : ℕ) → IsDeedAnswer [] [] None count archive.now result }
+    ensures { IsOutcome [] [] None archive.now result }
 {
     Outcome {
-        outs: Vec::new(alloc),
-        marks: Vec::new(alloc),
-        copies: Vec::new(alloc),
+        filed: Vec::new(alloc),
+        given: Given {
+            outs: Vec::new(alloc),
+            marks: Vec::new(alloc),
+        },
         delivered: None,
     }
 }

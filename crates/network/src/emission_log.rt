@@ -1,36 +1,28 @@
 //! What a hosted node has emitted.
 
-ghost use Rattle.std.specs.Prelude.{◌≡◌, ◌≤◌, ◌<◌, ◌+◌, ◌++◌, ◌∷◌, [], IfOk, IfSome, List, OnErr, OnOk, ℕ, if◌then◌else◌, length, option_map, slice_get};
+ghost use Rattle.std.specs.Prelude.{◌≡◌, ◌≤◌, ◌<◌, ◌+◌, ◌++◌, ◌∷◌, [], IfOk, IfSome, List, None, OnErr, OnOk, ℕ, if◌then◌else◌, length, option_map, slice_get};
 ghost use Rattle.std.specs.Vec.{vec_capacity, vec_len};
 ghost use Rattle.envstore.specs.Archives.{Archived, AreFiled, IsFiled, Keeps, sent_of, sents_of};
-ghost use Rattle.types.specs.Statements.{kind_of};
 ghost use Rattle.types.specs.declared.kind.Kind.TheVariants.{Nomination, Ballot};
 ghost use Rattle.protocol.specs.Networks.{emissions};
 ghost use Rattle.protocol.specs.Nodes.{step};
 ghost use Rattle.protocol.specs.Rows.{is_kind};
+ghost use Rattle.network.specs.Answers.{IsOutcome};
 ghost use Rattle.network.specs.Marks.{numbers_by_kind};
 ghost use Rattle.slot.specs.Filings.{AreFiledOuts, IsFiledEvent, IsFiledOut, event_of, whole_outs};
-ghost use Rattle.network.specs.FiledSlots.{AreOutsGiven, HaveRoom};
+ghost use Rattle.network.specs.FiledSlots.{HaveRoom};
 ghost use Rattle.network.specs.EmissionsByKind.{AreByKind, nth_of, places_of_kind};
 
+use crate::applied::{Given, Outcome};
 use envstore::{Archive, Filed, Shelf};
 use slot::{FiledEvent, FiledOut, Node};
 use std::alloc::{AllocError, Global};
 use std::marker::Model;
 use std::mem;
-use types::{Kind, Out};
+use types::Kind;
 
 /// The most emissions of one event.
 const MOST_EMISSIONS: usize = 2;
-
-/// What an applied event gave out, filed; the numbers that name its emissions; and as many whole copies of what it gave
-/// out as were asked for.
-#[derive(Drop)]
-pub(crate) struct NumberedOuts {
-    pub outs: Vec<FiledOut>,
-    pub marks: Vec<u64>,
-    pub copies: Vec<Vec<Out>>,
-}
 
 /// What a hosted node has emitted since its slot was opened, in order. The places of each kind are kept with it, so the
 /// emission of a kind with a number is found at once, however many there are. Most events emit nothing; the room that
@@ -116,19 +108,17 @@ impl EmissionLog {
         archive: &mut Archive<S>,
         node: &mut Node,
         event: FiledEvent,
-        copies: usize,
-    ) -> Result<NumberedOuts, AllocError>
+    ) -> Result<Outcome, AllocError>
         requires emitted { AreFiled archive.old self.old }
         requires rows { AreFiled archive.old node.old.rows }
         requires event { IsFiledEvent archive.old event }
         ensures node { OnOk result (node.new.node ≡ (step node.old.node (event_of event)).0) }
         ensures emitted { OnOk result (sents_of self.new ≡ sents_of self.old ++ emissions (step node.old.node (event_of event)).1) }
-        ensures applied { IfOk result (AreOutsGiven (step node.old.node (event_of event)).1 (numbers_by_kind (sents_of self.old) (emissions (step node.old.node (event_of event)).1)) copies) }
+        ensures outcome { IfOk result (IsOutcome (step node.old.node (event_of event)).1 (numbers_by_kind (sents_of self.old) (emissions (step node.old.node (event_of event)).1)) None archive.new) }
         ensures node_err { OnErr result (node.new ≡ node.old) }
         ensures log_err { OnErr result (self.new ≡ self.old) }
         ensures rows { AreFiled archive.new node.new.rows }
         ensures log_filed { AreFiled archive.new self.new }
-        ensures filed { IfOk result (λ a. AreFiledOuts archive.new a.outs.items) }
         ensures kept { Keeps archive.old archive.new }
     {
         let alloc = *self.room.allocator();
@@ -138,18 +128,22 @@ impl EmissionLog {
             drop(event);
             return Err(AllocError);
         };
-        let given_out = node.advance(alloc, archive, event, copies)?;
+        let given_out = node.advance(alloc, archive, event)?;
         log_outs(
             archive,
-            &given_out.outs,
+            &given_out.filed,
             &mut self.emitted,
             &mut self.places,
             &mut marks,
         );
-        Ok(NumberedOuts {
+        let given = Given {
             outs: given_out.outs,
             marks: given_or_kept(alloc, marks, &mut self.room),
-            copies: given_out.copies,
+        };
+        Ok(Outcome {
+            filed: given_out.filed,
+            given,
+            delivered: None,
         })
     }
 }

@@ -11,7 +11,7 @@ ghost use Rattle.network.specs.declared.plan.Deed.TheVariants.{Hand};
 
 use crate::emission::Emission;
 use crate::network::Network;
-use crate::plan::{Deed, Drawn, Plan, Spot};
+use crate::plan::{Charge, Deed, Drawn, Plan, Spot};
 use crate::reading::{Reading, read};
 use envstore::Shelf;
 use slot::FiledEvent;
@@ -49,31 +49,26 @@ impl<S: Shelf> Network<S> {
                         drop(envelope);
                         Err(refusal)
                     }
-                    Ok((slot_at, drawn)) => Ok(Plan {
-                        deed: Deed::Hand {
-                            slot_at,
-                            node_at,
-                            envelope,
-                        },
-                        drawn,
-                        size,
+                    Ok((spot, drawn)) => Ok(Plan {
+                        deed: Deed::Hand { spot, envelope },
+                        charge: Charge { drawn, size },
                     }),
                 }
             }
         }
     }
 
-    /// The place of an envelope's slot, and on what its delivery draws, or the first refusal that applies. It takes no
-    /// memory.
+    /// Where the node stands at an envelope's slot, and on what its delivery draws, or the first refusal that applies.
+    /// It takes no memory.
     fn envelope_room(
         &self,
         node_at: usize,
         node: &NodeId,
         envelope: &Envelope,
         size: u64,
-    ) -> Result<(usize, Drawn), Refusal>
+    ) -> Result<(Spot, Drawn), Refusal>
         requires { index_of_name self.now.config.nodes node.now ≡ Some node_at }
-        ensures { MatchResult result (λ r. IsPlan self.now (Delivers node.now size (Read envelope.now)) (record { deed = Hand r.0 node_at envelope.now; drawn = r.1; size = size })) (IsFirstRefusal (machine_of self.now) (Delivers node.now size (Read envelope.now))) }
+        ensures { MatchResult result (λ r. IsPlan self.now (Delivers node.now size (Read envelope.now)) (record { deed = Hand r.0 envelope.now; charge = record { drawn = r.1; size = size } })) (IsFirstRefusal (machine_of self.now) (Delivers node.now size (Read envelope.now))) }
     {
         let _slots = &self.slots;
         if self.config.place(envelope.sender()).is_some() {
@@ -83,7 +78,7 @@ impl<S: Shelf> Network<S> {
         let spot = Spot { slot_at, node_at };
         let drawn = self.pair_room(&spot, node, envelope.sender())?;
         self.has_room_for_bytes(&drawn, size)?;
-        Ok((slot_at, drawn))
+        Ok((spot, drawn))
     }
 
     /// What is to be done if a node hears what another one has emitted. It takes no memory.
@@ -112,12 +107,10 @@ impl<S: Shelf> Network<S> {
         let drawn = self.pair_room(&spot, node, &emission.from)?;
         Ok(Plan {
             deed: Deed::Act {
-                slot_at,
-                node_at,
+                spot,
                 event: FiledEvent::Take(self.archive.copy_of(emitted)),
             },
-            drawn,
-            size: 0,
+            charge: Charge { drawn, size: 0 },
         })
     }
 
@@ -128,7 +121,7 @@ impl<S: Shelf> Network<S> {
         ensures room { IsPairRoom self.now spot.now node.now from.now result }
         ensures paired { IfOk result IsOfBudgetsOrPair }
     {
-        let drawn = self.pair(spot.slot_at, spot.node_at, node, from);
+        let drawn = self.pair(spot, node, from);
         self.has_room(&drawn)?;
         Ok(drawn)
     }

@@ -1,17 +1,19 @@
 //! A hosted node at a slot.
 
-ghost use Rattle.std.specs.Prelude.{◌≡◌, ◌++◌, [], IfOk, IfSome, List, OnErr, OnOk, Some, option_map};
-ghost use Rattle.envstore.specs.Archives.{Archived, AreFiled, IsFiled, Keeps, sent_of, sents_of};
+ghost use Rattle.std.specs.Prelude.{◌≡◌, [], IfOk, IfSome, None, OnErr, OnOk, Some, option_map};
+ghost use Rattle.envstore.specs.Archives.{Archived, IsFiled, Keeps, sent_of};
 ghost use Rattle.protocol.specs.Networks.{emissions, has_proposal, after_event};
 ghost use Rattle.protocol.specs.Nodes.{fresh, step};
+ghost use Rattle.network.specs.Answers.{IsOutcome};
 ghost use Rattle.network.specs.Marks.{numbers_by_kind};
-ghost use Rattle.slot.specs.Filings.{AreFiledOuts, IsFiledEvent, event_of};
+ghost use Rattle.slot.specs.Filings.{IsFiledEvent, event_of};
 ghost use Rattle.network.specs.Charges.{HasRoomForCharge, IsActed};
-ghost use Rattle.network.specs.FiledSlots.{AreOutsGiven, IsInstanceFiled, bytes_from, events_from, instance_of_filed};
+ghost use Rattle.network.specs.FiledSlots.{IsInstanceFiled, bytes_from, events_from, instance_of_filed};
 ghost use Rattle.network.specs.EmissionsByKind.{nth_of};
 
-use crate::emission_log::{EmissionLog, NumberedOuts};
-use crate::plan::Terms;
+use crate::applied::Outcome;
+use crate::emission_log::EmissionLog;
+use crate::plan::Charge;
 use crate::tallies::{Tallies, count};
 use envstore::{Archive, Filed, Shelf};
 use slot::{FiledEvent, Node};
@@ -114,16 +116,15 @@ impl Instance {
         &mut self,
         archive: &mut Archive<S>,
         event: FiledEvent,
-        terms: &Terms,
-    ) -> Result<NumberedOuts, AllocError>
+        charge: &Charge,
+    ) -> Result<Outcome, AllocError>
         requires archived { IsInstanceFiled archive.old self.old }
         requires event { IsFiledEvent archive.old event }
-        requires room { HasRoomForCharge terms.now.charge self.old }
-        ensures acted { OnOk result (IsActed terms.now.charge (event_of event) self.old self.new) }
-        ensures applied { IfOk result (AreOutsGiven (step (instance_of_filed self.old).node (event_of event)).1 (numbers_by_kind (instance_of_filed self.old).emitted (emissions (step (instance_of_filed self.old).node (event_of event)).1)) terms.now.copies) }
+        requires room { HasRoomForCharge charge.now self.old }
+        ensures acted { OnOk result (IsActed charge.now (event_of event) self.old self.new) }
+        ensures outcome { IfOk result (IsOutcome (step (instance_of_filed self.old).node (event_of event)).1 (numbers_by_kind (instance_of_filed self.old).emitted (emissions (step (instance_of_filed self.old).node (event_of event)).1)) None archive.new) }
         ensures err { OnErr result (self.new ≡ self.old) }
         ensures archived { IsInstanceFiled archive.new self.new }
-        ensures filed { IfOk result (λ a. AreFiledOuts archive.new a.outs.items) }
         ensures kept { Keeps archive.old archive.new }
     {
         let Instance {
@@ -132,13 +133,13 @@ impl Instance {
             own,
             heard,
         } = self;
-        let Ok(()) = heard.make_room(&terms.charge.drawn) else {
+        let Ok(()) = heard.make_room(&charge.drawn) else {
             drop(event);
             return Err(AllocError);
         };
-        let noted = emitted.advance(archive, node, event, terms.copies)?;
+        let applied = emitted.advance(archive, node, event)?;
         node.rows_are_its_table();
-        count(own, heard, &terms.charge);
-        Ok(noted)
+        count(own, heard, charge);
+        Ok(applied)
     }
 }

@@ -21,7 +21,7 @@ mod rooms;
 mod slot_index;
 mod tallies;
 
-pub use applied::Outcome;
+pub use applied::{Given, Outcome};
 pub use emission::{Emission, hearing, push_named};
 pub use network::{Network, Used};
 pub use reading::{Reading, envelopes_have_one_length, read, readings_are_exact};

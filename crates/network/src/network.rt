@@ -34,8 +34,8 @@ pub struct Used {
 /// Contracts see all of it, also numbers in the archive; its owner shows it without them.
 ///
 /// All envelopes lie in its archive, no slot is open twice, each has the hosted nodes in their order, and the bytes
-/// keep to the budget. For example, if A and C are hosted, an open slot 5 has a node A, then a node C; and of a budget
-/// of 100 bytes at most 100 are used up.
+/// keep to the budget. For example, if A and C are hosted, an open slot 5 has a node A, then a node C. Of a budget of
+/// 100 bytes at most 100 are used up.
 #[derive(Drop)]
 pub struct Network<S: Shelf> {
     pub(crate) alloc: Global,

@@ -1,18 +1,19 @@
 //! An open slot.
 
-ghost use Rattle.std.specs.Prelude.{◌≡◌, ◌<◌, IfOk, IfSome, List, OnErr, OnOk, length, map, slice_get};
+ghost use Rattle.std.specs.Prelude.{◌≡◌, ◌<◌, IfOk, IfSome, None, OnErr, OnOk, length, map, slice_get};
 ghost use Rattle.std.specs.List.{All};
 ghost use Rattle.envstore.specs.Archives.{Archived, Keeps};
 ghost use Rattle.protocol.specs.Networks.{emissions, instances_of_new_slot, outs_at};
+ghost use Rattle.network.specs.Answers.{IsOutcome};
 ghost use Rattle.network.specs.Marks.{numbers_by_kind, emitted_at};
-ghost use Rattle.slot.specs.Filings.{AreFiledOuts, IsFiledEvent, event_of};
+ghost use Rattle.slot.specs.Filings.{IsFiledEvent, event_of};
 ghost use Rattle.network.specs.Changes.{IsChangedAt};
 ghost use Rattle.network.specs.Charges.{HasRoomForCharge, IsActed};
-ghost use Rattle.network.specs.FiledSlots.{AreOutsGiven, IsInstanceFiled, HasDrawnNothing, instance_of_filed};
+ghost use Rattle.network.specs.FiledSlots.{IsInstanceFiled, HasDrawnNothing, instance_of_filed};
 
-use crate::emission_log::NumberedOuts;
+use crate::applied::Outcome;
 use crate::instance::Instance;
-use crate::plan::Terms;
+use crate::plan::Charge;
 use configuration::{HostedNode, NetConfig};
 use envstore::{Archive, Shelf};
 use slot::FiledEvent;
@@ -75,21 +76,20 @@ impl OpenSlot {
         archive: &mut Archive<S>,
         at: usize,
         event: FiledEvent,
-        terms: &Terms,
-    ) -> Result<NumberedOuts, AllocError>
+        charge: &Charge,
+    ) -> Result<Outcome, AllocError>
         requires at { at < length self.old.instances }
         requires archived { All (IsInstanceFiled archive.old) self.old.instances }
         requires event { IsFiledEvent archive.old event }
-        requires room { IfSome (slice_get self.old.instances at) (HasRoomForCharge terms.now.charge) }
-        ensures acted { OnOk result (IsChangedAt (IsActed terms.now.charge (event_of event)) at self.old.instances self.new.instances) }
-        ensures applied { IfOk result (AreOutsGiven (outs_at (event_of event) (slice_get (map instance_of_filed self.old.instances) at)) (numbers_by_kind (emitted_at (slice_get (map instance_of_filed self.old.instances) at)) (emissions (outs_at (event_of event) (slice_get (map instance_of_filed self.old.instances) at)))) terms.now.copies) }
+        requires room { IfSome (slice_get self.old.instances at) (HasRoomForCharge charge.now) }
+        ensures acted { OnOk result (IsChangedAt (IsActed charge.now (event_of event)) at self.old.instances self.new.instances) }
+        ensures outcome { IfOk result (IsOutcome (outs_at (event_of event) (slice_get (map instance_of_filed self.old.instances) at)) (numbers_by_kind (emitted_at (slice_get (map instance_of_filed self.old.instances) at)) (emissions (outs_at (event_of event) (slice_get (map instance_of_filed self.old.instances) at)))) None archive.new) }
         ensures err { OnErr result (self.new ≡ self.old) }
         ensures number { self.new.number ≡ self.old.number }
         ensures archived { All (IsInstanceFiled archive.new) self.new.instances }
-        ensures filed { IfOk result (λ a. AreFiledOuts archive.new a.outs.items) }
         ensures kept { Keeps archive.old archive.new }
     {
-        self.instances[at].act(archive, event, terms)
+        self.instances[at].act(archive, event, charge)
     }
 }
 

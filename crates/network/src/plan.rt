@@ -11,21 +11,11 @@ pub(crate) enum Deed {
     /// This slot is to be open.
     Open(OpenSlot),
     /// The open slot at this place is to be closed.
-    Close {
-        slot_at: usize,
-    },
+    Close { slot_at: usize },
     /// The node at these places has this event.
-    Act {
-        slot_at: usize,
-        node_at: usize,
-        event: FiledEvent,
-    },
+    Act { spot: Spot, event: FiledEvent },
     /// The node at these places is handed this envelope, which no archive has yet.
-    Hand {
-        slot_at: usize,
-        node_at: usize,
-        envelope: Envelope,
-    },
+    Hand { spot: Spot, envelope: Envelope },
 }
 
 /// On what an event draws, by places.
@@ -36,16 +26,9 @@ pub(crate) enum Drawn {
     /// The openings and closings of the network.
     Opens,
     /// The own share of the node at these places.
-    Own {
-        slot_at: usize,
-        node_at: usize,
-    },
+    Own(Spot),
     /// The share of the node at these places in what comes from that name.
-    Pair {
-        slot_at: usize,
-        node_at: usize,
-        from: NodeId,
-    },
+    Pair { spot: Spot, from: NodeId },
 }
 
 /// Where a hosted node stands at an open slot: the places of the slot and of the node.
@@ -62,17 +45,9 @@ pub(crate) struct Charge {
     pub size: u64,
 }
 
-/// The terms of a deed: what it is charged, and how many whole copies of what it gives out are asked for.
-#[derive(Clone, Copy)]
-pub(crate) struct Terms {
-    pub charge: Charge,
-    pub copies: usize,
-}
-
-/// A deed, on what it draws, and the bytes that count as delivered by it.
+/// A deed, and what it is charged.
 #[derive(Drop)]
 pub(crate) struct Plan {
     pub deed: Deed,
-    pub drawn: Drawn,
-    pub size: u64,
+    pub charge: Charge,
 }

@@ -2,7 +2,7 @@
 
 ghost use Rattle.std.specs.Prelude.{◌≡◌, MatchResult, Some, length, nat_lt, not, ℕ};
 ghost use Rattle.protocol.specs.Networks.{is_bad_value};
-ghost use Rattle.protocol.specs.Networks.Step.{Opens, Closes, Proposes, NominationTimerFires, BallotTimerFires, Reslices};
+ghost use Rattle.protocol.specs.Networks.Step.{Opens, Closes, Proposes, Reslices};
 ghost use Rattle.configuration.specs.Configs.{index_of_name};
 ghost use Rattle.network.specs.Decoding.{step_of};
 ghost use Rattle.network.specs.Deeds.{IsOwnRoom, IsPlanned, IsPlannedOwn, IsPlannedSurely, IsSlotThere, IsSpot, IsSpotRefused};
@@ -13,7 +13,7 @@ ghost use Rattle.slot.specs.Filings.{IsFiledEvent};
 use crate::emission::Emission;
 use crate::network::Network;
 use crate::open_slot::OpenSlot;
-use crate::plan::{Deed, Drawn, Plan, Spot};
+use crate::plan::{Charge, Deed, Drawn, Plan, Spot};
 use envstore::Shelf;
 use slot::FiledEvent;
 use types::{Event, MAX_VALUE_LENGTH, Nested, NodeId, Refusal, Value};
@@ -47,13 +47,13 @@ impl<S: Shelf> Network<S> {
                 self.plan_hear(*slot, node, &emission)
             }
             Event::NominationTimer { slot, node, round } => {
-                self.plan_nomination_timer(*slot, node, *round)
+                self.plan_own(*slot, node, FiledEvent::NominationTimer(*round))
             }
             Event::BallotTimer {
                 slot,
                 node,
                 counter,
-            } => self.plan_ballot_timer(*slot, node, *counter),
+            } => self.plan_own(*slot, node, FiledEvent::BallotTimer(*counter)),
             Event::Reslice { slot, node, slices } => self.plan_reslice(*slot, node, slices),
         }
     }
@@ -88,8 +88,7 @@ impl<S: Shelf> Network<S> {
             Err(_) => Err(Refusal::NoMemory),
             Ok(opened) => Ok(Plan {
                 deed: Deed::Open(opened),
-                drawn,
-                size: 0,
+                charge: Charge { drawn, size: 0 },
             }),
         }
     }
@@ -110,8 +109,7 @@ impl<S: Shelf> Network<S> {
         self.has_room(&drawn)?;
         Ok(Plan {
             deed: Deed::Close { slot_at },
-            drawn,
-            size: 0,
+            charge: Charge { drawn, size: 0 },
         })
     }
 
@@ -132,20 +130,6 @@ impl<S: Shelf> Network<S> {
             Err(_) => Err(Refusal::NoMemory),
             Ok(value) => Ok(plan_at(&spot, drawn, FiledEvent::Propose(value))),
         }
-    }
-
-    /// What is to be done if a node's nomination timer fires. It takes no memory.
-    fn plan_nomination_timer(&self, slot: u64, node: &NodeId, round: u32) -> Result<Plan, Refusal>
-        ensures { IsPlannedSurely self.now (NominationTimerFires slot node.now round) result }
-    {
-        self.plan_own(slot, node, FiledEvent::NominationTimer(round))
-    }
-
-    /// What is to be done if a node's ballot timer fires. It takes no memory.
-    fn plan_ballot_timer(&self, slot: u64, node: &NodeId, counter: u32) -> Result<Plan, Refusal>
-        ensures { IsPlannedSurely self.now (BallotTimerFires slot node.now counter) result }
-    {
-        self.plan_own(slot, node, FiledEvent::BallotTimer(counter))
     }
 
     /// What is to be done for an event of a node's own that nothing but its place and its room can refuse. It takes no
@@ -188,7 +172,7 @@ impl<S: Shelf> Network<S> {
         requires node { index_of_name self.now.config.nodes node.now ≡ Some spot.now.node_at }
         ensures { IsOwnRoom self.now spot.now node.now result }
     {
-        let drawn = self.own_events(spot.slot_at, spot.node_at, node);
+        let drawn = self.own_events(spot, node);
         self.has_room(&drawn)?;
         Ok(drawn)
     }
@@ -202,15 +186,10 @@ fn is_bad(value: &[u8]) -> bool
 }
 
 fn plan_at(spot: &Spot, drawn: Drawn, event: FiledEvent) -> Plan
-    ensures { result ≡ record { deed = Act spot.now.slot_at spot.now.node_at event; drawn = drawn; size = 0 } }
+    ensures { result ≡ record { deed = Act spot.now event; charge = record { drawn = drawn; size = 0 } } }
 {
     Plan {
-        deed: Deed::Act {
-            slot_at: spot.slot_at,
-            node_at: spot.node_at,
-            event,
-        },
-        drawn,
-        size: 0,
+        deed: Deed::Act { spot: *spot, event },
+        charge: Charge { drawn, size: 0 },
     }
 }

@@ -4,12 +4,12 @@ ghost use Rattle.std.specs.Prelude.{◌≡◌, ◌≤◌, ◌<◌, ◌+◌, ℕ,
 ghost use Rattle.protocol.specs.Networks.{source};
 ghost use Rattle.protocol.specs.Networks.Step.{Opens, Closes};
 ghost use Rattle.configuration.specs.Configs.{index_of_name};
-ghost use Rattle.network.specs.Deeds.{HasNoRoomForBytes, HasNoRoom, HasRoomForDrawnBytes, HasRoomForEvent, IsDrawn, IsDrawnThere, IsNodeThere, IsOfBudgetsOrPair, index_of_slot, own_source, pair_source};
+ghost use Rattle.network.specs.Deeds.{HasNoRoomForBytes, HasNoRoom, HasRoomForDrawnBytes, HasRoomForEvent, IsDrawn, IsDrawnThere, IsOfBudgetsOrPair, index_of_slot, own_source, pair_source};
 ghost use Rattle.network.specs.FiledSlots.{slot_of};
 ghost use Rattle.network.specs.Standing.{machine_of};
 
 use crate::network::Network;
-use crate::plan::Drawn;
+use crate::plan::{Drawn, Spot};
 use configuration::Shares;
 use envstore::Shelf;
 use types::{NodeId, Refusal};
@@ -27,15 +27,15 @@ impl<S: Shelf> Network<S> {
     }
 
     /// On what a node's own events draw.
-    pub(crate) fn own_events(&self, slot_at: usize, node_at: usize, node: &NodeId) -> Drawn
-        requires node { index_of_name self.now.config.nodes node.now ≡ Some node_at }
-        ensures { (i : ℕ) → index_of_slot (map slot_of (machine_of self.now).slots) i ≡ Some slot_at → IsDrawn (machine_of self.now) result (own_source self.now.config.roster i node.now) }
+    pub(crate) fn own_events(&self, spot: &Spot, node: &NodeId) -> Drawn
+        requires node { index_of_name self.now.config.nodes node.now ≡ Some spot.now.node_at }
+        ensures { (i : ℕ) → index_of_slot (map slot_of (machine_of self.now).slots) i ≡ Some spot.now.slot_at → IsDrawn (machine_of self.now) result (own_source self.now.config.roster i node.now) }
     {
         match self.config.roster() {
             None => Drawn::Budgets,
             Some(roster) => {
                 if roster.has(node) {
-                    Drawn::Own { slot_at, node_at }
+                    Drawn::Own(*spot)
                 } else {
                     Drawn::Budgets
                 }
@@ -44,9 +44,9 @@ impl<S: Shelf> Network<S> {
     }
 
     /// On what an event from a name to a node draws.
-    pub(crate) fn pair(&self, slot_at: usize, node_at: usize, node: &NodeId, from: &NodeId) -> Drawn
-        requires node { index_of_name self.now.config.nodes node.now ≡ Some node_at }
-        ensures drawn { (i : ℕ) → index_of_slot (map slot_of (machine_of self.now).slots) i ≡ Some slot_at → IsDrawn (machine_of self.now) result (pair_source self.now.config.roster i node.now from.now) }
+    pub(crate) fn pair(&self, spot: &Spot, node: &NodeId, from: &NodeId) -> Drawn
+        requires node { index_of_name self.now.config.nodes node.now ≡ Some spot.now.node_at }
+        ensures drawn { (i : ℕ) → index_of_slot (map slot_of (machine_of self.now).slots) i ≡ Some spot.now.slot_at → IsDrawn (machine_of self.now) result (pair_source self.now.config.roster i node.now from.now) }
         ensures paired { IsOfBudgetsOrPair result }
     {
         match self.config.roster() {
@@ -54,8 +54,7 @@ impl<S: Shelf> Network<S> {
             Some(roster) => {
                 if roster.has(node) && roster.has(from) {
                     Drawn::Pair {
-                        slot_at,
-                        node_at,
+                        spot: *spot,
                         from: *from,
                     }
                 } else {
@@ -80,16 +79,12 @@ impl<S: Shelf> Network<S> {
                 )
             }
             Drawn::Opens => keeps_within(self.opens, 1, self.shares().opens(), Refusal::ShareFull),
-            Drawn::Own { slot_at, node_at } => {
-                let used = self.instance(*slot_at, *node_at).own_events();
+            Drawn::Own(spot) => {
+                let used = self.instance(spot.slot_at, spot.node_at).own_events();
                 keeps_within(used, 1, self.shares().own(), Refusal::ShareFull)
             }
-            Drawn::Pair {
-                slot_at,
-                node_at,
-                from,
-            } => {
-                let used = self.instance(*slot_at, *node_at).events_from(from);
+            Drawn::Pair { spot, from } => {
+                let used = self.instance(spot.slot_at, spot.node_at).events_from(from);
                 keeps_within(used, 1, self.shares().pair(), Refusal::ShareFull)
             }
         }
@@ -110,15 +105,11 @@ impl<S: Shelf> Network<S> {
                     Refusal::BytesFull,
                 )
             }
-            Drawn::Pair {
-                slot_at,
-                node_at,
-                from,
-            } => {
-                let used = self.instance(*slot_at, *node_at).bytes_from(from);
+            Drawn::Pair { spot, from } => {
+                let used = self.instance(spot.slot_at, spot.node_at).bytes_from(from);
                 keeps_within(used, size, self.shares().bytes(), Refusal::ShareBytesFull)
             }
-            Drawn::Opens | Drawn::Own { .. } => unreachable!(),
+            Drawn::Opens | Drawn::Own(_) => unreachable!(),
         }
     }
 

@@ -82,7 +82,7 @@ impl Tallies {
         ensures room { OnOk result (HasRoomToTally drawn.now self.new) }
     {
         match drawn {
-            Drawn::Budgets | Drawn::Opens | Drawn::Own { .. } => Ok(()),
+            Drawn::Budgets | Drawn::Opens | Drawn::Own(_) => Ok(()),
             Drawn::Pair { .. } => self.entries.reserve(1),
         }
     }
@@ -128,7 +128,7 @@ pub(crate) fn count(own: &mut u64, heard: &mut Tallies, charge: &Charge)
 {
     match &charge.drawn {
         Drawn::Budgets | Drawn::Opens => {}
-        Drawn::Own { .. } => *own += 1,
+        Drawn::Own(_) => *own += 1,
         Drawn::Pair { from, .. } => heard.count_from(from, charge.size),
     }
 }

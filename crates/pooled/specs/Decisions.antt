@@ -44,7 +44,7 @@ left_after_close None ds = ds
 abbrev pub decided_next : List ExternalizedValue → Entry → List ExternalizedValue
 decided_next ds x = left_after_close (closed_by x.event) ds ++ decisions_in x
 
--- what stands of decisions after one entry more, where there is one
+-- what stands of decisions after one entry more, if there is one
 abbrev pub decided_past : List ExternalizedValue → Option Entry → List ExternalizedValue
 decided_past ds None = ds
 decided_past ds (Some x) = decided_next ds x

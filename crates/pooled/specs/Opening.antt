@@ -27,8 +27,8 @@ pub data HaveAsked (c : CellSight) : List ℕ → SeatSight → SeatSight → Ty
   more : {slot : ℕ} {slots : List ℕ} {s t u : SeatSight} → HasAsked c slot s t → HaveAsked c slots t u
       → HaveAsked c (slot ∷ slots) s u
 
--- a network of this configuration with so many seats, of which none has done anything, save that the first has asked to
--- open these slots
+-- A network of this configuration with this many seats. None of them has done anything, except that the first has asked
+-- to open these slots.
 pub record IsReadyNetwork (given : Config) (many : ℕ) (slots : List ℕ) (n : NetSight) : Type 0 where
   pub config : n.cell.config ≡ given
   pub count : n.cell.seats ≡ many

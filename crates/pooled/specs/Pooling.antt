@@ -59,9 +59,10 @@ pub record IsTextOfNets (nets : List NetSight) (report : Report) (text : Bytes) 
   pub written : AreJournalLines nets decided lengths
   pub parts : text ≡ (decided ++ lengths) ++ report_line report.applied report.refused report.unrun
 
--- The jobs were done, and what follows from them. However jobs are weighed: these, and one for each emission that was
--- gained and each other hosted node of its network, are the events that were gained as receipts and as denials, and
--- those of networks that are not here; and the report has the numbers of these.
+-- The jobs were done, and what follows from them. However jobs are weighed, two sums are the same. One is of these
+-- jobs, and of one for each emission that was gained and each other hosted node of its network. The other is of the
+-- events that were gained as receipts and as denials, and of the jobs of networks that are not here. The report has the
+-- numbers of these.
 pub record AreDone (jobs : List Job) (ready ended : List NetSight) (report : Report) : Type 0 where
   pub grown : AllGrownNets ready ended
   pub done : AreJobsDone ready ended (λ h. weigh h jobs) (λ h. 0) report
@@ -71,8 +72,8 @@ abbrev pub AreSomeDone : List Job → List Job → List NetSight → List NetSig
 AreSomeDone jobs left ready ended report =
     (put : List Job) × ((h : Job → ℕ) → weigh h put + weigh h left ≡ weigh h jobs) × AreDone put ready ended report
 
--- networks of these configurations join, each with so many seats and the slots that are to be opened; all other events
--- are jobs; and what becomes of them is written
+-- Networks of these configurations join, each with this many seats and the slots that are to be opened. All other
+-- events are jobs. What becomes of them is written.
 pub record IsPoolText (configs : List Config) (calls : List (ℕ × Event)) (workers : ℕ) (text : Bytes) : Type 0 where
   pub ready : List NetSight
   pub ended : List NetSight

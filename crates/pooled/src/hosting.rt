@@ -22,7 +22,7 @@ pub struct UnopenedNetwork {
     pub slots: Vec<u64>,
 }
 
-/// A network that is opened and has not joined a host: its cell, and all seats of it.
+/// A network that is opened and has not joined a host: its cell, and all its seats.
 ///
 /// Contracts see it as the network.
 ///

@@ -39,8 +39,8 @@ impl<R: Wait + Copy + Drop> UnopenedNetworks<R> {
     }
 }
 
-/// Opens networks, in their order, each with its seats and first slots. `threads` threads open them: each half of the
-/// networks is opened by half of the threads, as long as there are several, and by this one if no other can be started.
+/// Opens networks, in their order, each with its seats and first slots. `threads` threads open them. As long as there
+/// are several, each half of the networks is opened by half of the threads, or by this one if no other can be started.
 #[cycle(opening)]
 pub fn open_by<R: Threads + Wait + Sync + Send + Copy + Drop>(
     rt: &R,

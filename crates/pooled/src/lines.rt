@@ -13,8 +13,9 @@ use std::alloc::{AllocError, Global};
 use std::fmt::Write;
 use workers::Report;
 
-/// Adds a line for each node that has externalized at an open slot, ascending by slot and then by name: `decided`, the
-/// number of the network, the slot, the name and the value. If it is out of memory, a part may have been added.
+/// Adds a line for each node that has externalized at an open slot, ascending by slot and then by name. A line has
+/// `decided`, the number of the network, the slot, the name and the value. If it is out of memory, a part may have been
+/// added.
 pub fn push_decided<S: Shelf>(
     alloc: Global,
     text: &mut String,

@@ -36,12 +36,12 @@ struct JournalLines {
     lengths: String,
 }
 
-/// Opens the slots that are submitted to be opened, and then runs all other events as jobs of `workers` workers, 1 to 64.
-/// It answers what is printed: what each node has externalized at open slots, ascending by network, slot and name; the
-/// length of each network's journal; and how many jobs were applied, refused and not run. An error says that it is out
-/// of memory.
+/// Opens the slots that are submitted to be opened, and then runs all other events as jobs of `workers` workers, 1 to
+/// 64. It answers what is printed. First comes what each node has externalized at open slots, ascending by network,
+/// slot and name. Then come the length of each network's journal, and how many jobs were applied, refused and not run.
+/// An error says that it is out of memory.
 ///
-/// All networks have one store of envelopes. The queue has a place for each job, from 1,024 places up to 65,536; if
+/// All networks have one store of envelopes. The queue has a place for each job, from 1,024 places up to 65,536. If
 /// there are more jobs, the workers do as many as there are places, and then the next. Which order the jobs take is
 /// open. The memory of the journals that were written of is not given back: this is for a process that ends with the
 /// answer.
@@ -136,7 +136,7 @@ fn run_jobs<R: Threads + Wait + Sync + Send + Drop>(
     requires few { workers ≤ 64 }
     ensures { IfOk result (AreDone jobs.items host.old host.new) }
 {
-    // The first job is the last of the list, which is where jobs are put from.
+    // Jobs are put from the end of the list, so the first job has to be the last one there.
     jobs.reverse();
     let mut report = Report::none();
     for _ in rt.forever() {
@@ -195,8 +195,8 @@ fn write_all<R: Threads + Wait + Sync + Send + Drop>(
     Ok(decided)
 }
 
-/// Closes each network, and writes of it, by `threads` threads: each half of the networks by half of them, as long as
-/// there are several, and by this one if no other can be started.
+/// Closes the networks, and writes of them, by `threads` threads. As long as there are several, each half of the
+/// networks is for half of the threads, or for this one if no other can be started.
 #[cycle(writing)]
 fn write_by<R: Threads + Wait + Sync + Send + Drop>(
     rt: &R,
@@ -212,7 +212,7 @@ fn write_by<R: Threads + Wait + Sync + Send + Drop>(
     let count = host.len() / 2;
     let (low, high) = match host.split_at(count) {
         Ok(parts) => parts,
-        // Memory: this thread does the part alone.
+        // Memory: only this thread does the part.
         Err(host) => return write_alone(rt, alloc, host),
     };
     let fewer = threads / 2;
@@ -242,7 +242,7 @@ fn write_both(first: JournalLines, others: JournalLines) -> Result<JournalLines,
     Ok(JournalLines { decided, lengths })
 }
 
-/// Closes each network, and writes of it, in this thread. The memory of what was written of is not given back.
+/// Closes each network, and writes of each, in this thread. The memory of what was written of is not given back.
 fn write_alone<R: Wait + Drop>(
     rt: &R,
     alloc: Global,
@@ -255,7 +255,7 @@ fn write_alone<R: Wait + Drop>(
     written
 }
 
-/// Closes one network after the other, ascending, and writes of it. The memory of what was written of is not given
+/// Closes one network after the other, ascending, and writes of each. The memory of what was written of is not given
 /// back.
 fn write_each<R: Wait + Drop>(
     rt: &R,

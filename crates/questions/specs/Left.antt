@@ -7,7 +7,7 @@ use Rattle.requests.specs.Outlines.{Outlined}
 use Rattle.scripts.specs.Script.{Bytes}
 use Rattle.questions.specs.declared.left.Left.{Left}
 
--- what is left of budgets: what is configured, less what is used up; no openings and closings, where there is no roster
+-- what is left of budgets: what is configured, less what is used up; no openings and closings, if there is no roster
 abbrev pub left_of : Config → Used → Left
 left_of c used = record {
   events = c.budgets.events - used.events;
@@ -25,13 +25,13 @@ all_left d = record {
   opens = option_map (λ r. r.1.opens) d.roster;
 }
 
--- a number of openings and closings, or `-` (45) where there is none
+-- a number of openings and closings, or `-` (45) if there is none
 abbrev pub text_of_opens : Option ℕ → Bytes
 text_of_opens None = 45 ∷ []
 text_of_opens (Some n) = decimal n
 
--- the line of what is left, with its line feed (10): the number of the line that is answered and that of the network,
--- with a space (32) between, and then each number behind its word
+-- The line of what is left, with its line feed (10). It has the number of the line that is answered and that of the
+-- network, with a space (32) between. Then comes each number behind its word.
 abbrev pub left_line : ℕ → ℕ → Left → Bytes
 left_line n g l =
     decimal n

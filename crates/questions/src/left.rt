@@ -49,8 +49,8 @@ pub fn all_left(outline: &Outline) -> Left
     }
 }
 
-/// Adds the line of what is left of a network: the number of the line that is answered and that of the network, and
-/// then `events`, `bytes`, `slots` and `opens`, a number behind each.
+/// Adds the line of what is left of a network. It has the number of the line that is answered and that of the network.
+/// Then come `events`, `bytes`, `slots` and `opens`, a number behind each.
 pub fn push_left(text: &mut String, line: u64, network: u32, left: Left) -> Result<(), AllocError>
     ensures { OnOk result (string_bytes text.new ≡ string_bytes text.old ++ left_line line network left) }
 {

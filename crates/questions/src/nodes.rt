@@ -25,8 +25,8 @@ pub(crate) struct Place {
     pub slot: u64,
 }
 
-/// Adds the lines of a node at a slot: how far it is, the values that it votes for, accepts and confirms, the rows of
-/// its table, and the names of its slices that have no row.
+/// Adds the lines of a node at a slot. They say how far it is, and which values it votes for, accepts and confirms.
+/// Then come the rows of its table, and the names of its slices that have no row.
 pub fn push_node<S: Shelf>(
     alloc: Global,
     text: &mut String,

@@ -1,7 +1,7 @@
 //! Why a line is bad, in words for whoever wrote it.
 //!
 //! What runs lines says of one only that it is bad. [`reason_of`] looks at that line again, and at those above it if
-//! they were kept, and says at which byte it is bad and why. The rules are those of the readers in `scripts`; which
+//! they were kept, and says at which byte it is bad and why. The rules are those of the readers in `scripts`. Which
 //! words a line has is said by its form, as `open N I`, which is also what the user is shown.
 #![tactic(auto)]
 

@@ -40,7 +40,7 @@ for_all_by (g, request.Settle i) = None
 abbrev pub IsOfScript : (ℕ × Request → Option (ℕ × Ask)) → List Bytes → Option (ℕ × Ask) → Type 0
 IsOfScript by fields asked = (r : Option (ℕ × Request)) × IsRequested fields r × (asked ≡ option_and_then by r)
 
--- what a line asks for without its last word, where that is `served`; any other asks for nothing
+-- what a line asks for without its last word, if that is `served`; any other asks for nothing
 abbrev pub IsServedNet : Bool → List Bytes → Option (ℕ × Ask) → Type 0
 IsServedNet true before asked = IsOfScript asked_by before asked
 IsServedNet false before asked = asked ≡ None

@@ -19,7 +19,7 @@ abbrev pub form_by_star : List Bytes → Form
 form_by_star (word ∷ number ∷ star ∷ fields) = if is_for_all word star then form.ForAll else form.Script
 form_by_star fields = form.Script
 
--- by the first word alone
+-- by only the first word
 abbrev pub form_by_word : Bytes → Option Form
 form_by_word =
     meaning_in

@@ -60,7 +60,7 @@ word_proposal (c ∷ rest) = if c == 35 then digits_bytes rest else word_value (
 
 -- ---- pieces of a line
 
--- three fields, where there are as many
+-- three fields, if there are three
 abbrev pub three : List Bytes → Option (Bytes × Bytes × Bytes)
 three (a ∷ b ∷ c ∷ []) = Some (a, b, c)
 three fields = None
@@ -69,7 +69,7 @@ abbrev pub behind_two : Bytes → Bytes → Option (Bytes × Bytes × Bytes) →
 behind_two a b None = None
 behind_two a b (Some w) = Some (a, b, w.0, w.1, w.2)
 
--- five fields, where there are as many
+-- five fields, if there are five
 abbrev pub five : List Bytes → Option (Bytes × Bytes × Bytes × Bytes × Bytes)
 five (a ∷ b ∷ more) = behind_two a b (three more)
 five fields = None
@@ -160,7 +160,7 @@ AsksSayOf (Some w) e = IsSaid (word_name w.0) w e
 abbrev pub AsksSay : List Bytes → Event → Type 0
 AsksSay fields e = AsksSayOf (five fields) e
 
--- what is read is what was asked for, or nothing where nothing was
+-- what is read is what was asked for, or nothing if nothing was
 abbrev pub IsRead : {X : Type 0} → (X → Type 0) → Option X → Type 0
 IsRead asks (Some x) = asks x
 IsRead {X} asks None = (x : X) → ¬ asks x

@@ -6,8 +6,8 @@ use Rattle.std.specs.BTreeMap.{is_at}
 use Rattle.std.specs.BTreeSet.{insert_key}
 use Rattle.requests.specs.Outlines.{Outlined}
 
--- the numbers that an event or a line that settles has named, those of them whose network was declared by then, and
--- those whose network was declared as served; each ascending
+-- The numbers that an event or a line that settles has named, and those of them whose network was declared by then.
+-- Then the numbers whose network was declared as served. Each list is ascending.
 pub record Named : Type 0 where
   pub numbers : List ℕ
   pub running : List ℕ
@@ -34,13 +34,13 @@ named_with g (Some d) n = record n { numbers = with_number n.numbers g; running 
 abbrev pub served_with : ℕ → Named → Named
 served_with g n = record n { served = with_number n.served g }
 
--- these are the same numbers but for one, and one less where that was among them
+-- these are the same numbers but for one, and one less if that was among them
 pub record IsWithout (g : ℕ) (us vs : List ℕ) : Type 0 where
   pub gone : is_in vs g ≡ false
   pub others : (j : ℕ) → is_at (nat_cmp g) j ≡ false → is_in vs j ≡ is_in us j
   pub count : length vs + (if is_in us g then 1 else 0) ≡ length us
 
--- the network of a number is taken back: no line has named the number, and none has declared a network of it as served
+-- the network of a number is taken back: no line has named the number, and none has declared its network as served
 pub record IsForgotten (g : ℕ) (old new : Named) : Type 0 where
   pub numbers : IsWithout g old.numbers new.numbers
   pub running : IsWithout g old.running new.running

@@ -1,4 +1,4 @@
--- What lines order where some networks are served and others are not.
+-- What lines order if some networks are served and others are not.
 use Rattle.std.specs.Prelude.{◌≡◌, ℕ, List, Option, Some, None, option_and_then}
 use Rattle.scripts.specs.Script.{Bytes}
 use Rattle.requests.specs.declared.request.Request.{Request}
@@ -11,7 +11,8 @@ use Rattle.requests.specs.declared.order.Order.TheVariants as order
 use Rattle.requests.specs.Asking.{IsAskedOf}
 use Rattle.requests.specs.Requests.{IsRequested}
 
--- what a declaration orders: a network is declared as served, and all else of it as of any other
+-- what a declaration of a served network orders: the network is declared as served. Its nodes and its roster are
+-- declared by the lines of any network.
 abbrev pub declared_by : ℕ → Declaration → Option (ℕ × Order)
 declared_by g (Net b) = Some (g, order.Serve b)
 declared_by g (Node u q) = None

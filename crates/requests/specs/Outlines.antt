@@ -38,7 +38,7 @@ with_node d u q = record d { nodes = d.nodes ++ record { name = u; slices = q } 
 abbrev pub with_roster : Outlined → List ℕ → Shares → Outlined
 with_roster d names shares = record d { roster = Some (names, shares) }
 
--- the network of a number, where it waits
+-- the network of a number, if it waits
 abbrev pub waiting_at : Waiting → ℕ → Option Outlined
 waiting_at ws g = lookup (is_at (nat_cmp g)) ws
 
@@ -54,7 +54,7 @@ waiting_set ws g d = set_value (is_at (nat_cmp g)) ws d
 abbrev pub waiting_without : Waiting → ℕ → Waiting
 waiting_without ws g = remove_entry (is_at (nat_cmp g)) ws
 
--- the waiting network of a number is replaced by another outline of it
+-- the outline of the waiting network of a number is replaced by another
 abbrev pub IsRevised : ℕ → (Outlined → Outlined) → Waiting → Waiting → Type 0
 IsRevised g change old new = (d : Outlined) × (waiting_at old g ≡ Some d) × (new ≡ waiting_set old g (change d))
 

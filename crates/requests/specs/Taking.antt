@@ -30,9 +30,9 @@ abbrev pub takes_roster : Option Outlined → List ℕ → Shares → Bool
 takes_roster None names shares = false
 takes_roster (Some d) names shares = not (is_some d.roster) && is_roster names shares
 
--- a declaration of the network of a number is taken. A network is one that is not declared, where fewer than 4,096 are;
--- a node and a roster are those of a network that waits, whose number no event has named, be it before the network was
--- declared.
+-- A declaration of the network of a number is taken. A network is taken if it is not declared, and fewer than 4,096
+-- are. A node or a roster is taken of a network that waits and may have it. No event or line that settles may have
+-- named its number, not even before the network was declared.
 abbrev pub takes : Waiting → Named → ℕ → Declaration → Bool
 takes ws n g (Net b) = not (is_declared ws n g) && nat_lt (declared_count ws n) 4096
 takes ws n g (Node u q) = not (is_in n.numbers g) && takes_node (waiting_at ws g) u

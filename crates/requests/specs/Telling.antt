@@ -1,7 +1,6 @@
 -- What the lines of scripts of networks are.
 use Rattle.std.specs.Prelude.{◌≡◌, ◌||◌, ◌&&◌, not, ℕ, Bool, true, false, ◌==◌, length, List, [], ◌∷◌, Option, Some, None, IfSome}
 use Rattle.scripts.specs.Script.{Bytes}
-use Rattle.scripts.specs.Runs.{Refusing, Telling}
 use Rattle.scripts.specs.Words.{word_counter}
 use Rattle.types.specs.declared.event.Event.{Event}
 use Rattle.types.specs.declared.event.Event.TheVariants.{CloseSlot, Hear}
@@ -49,13 +48,13 @@ pub record Allowed : Type 0 where
   pub settling : Bool
   pub closing : Bool
 
--- it is bad to ask the network of a number: for what is not allowed, always; for what is, where the network has no node
+-- it is bad to ask this of the network of a number: always if it is not allowed, and else if the network has no node
 abbrev pub IsBadToAsk : Bool → Waiting → ℕ → Type 0
 IsBadToAsk false ws g = Unit {0}
 IsBadToAsk true ws g = HasNoNode ws g
 
--- what asks this of the network of a number is bad: a declaration that is not taken; an event, and a slot that is to
--- settle, which is not allowed, or whose network has no node
+-- A request to the network of a number is bad. A declaration is bad if it is not taken. An event, or a slot that is to
+-- settle, is bad if it is not allowed or the network has no node.
 abbrev pub IsBadRequest : Allowed → Waiting → Named → ℕ → Request → Type 0
 IsBadRequest a ws n g (Declare d) = takes ws n g d ≡ false
 IsBadRequest a ws n g (Apply e) = IsBadToAsk (a.closing || not (is_closing e)) ws g
@@ -66,7 +65,7 @@ abbrev pub RefusesAsked : Allowed → Waiting → Named → List Bytes → Type 
 RefusesAsked a ws n fields =
     (asked : Option (ℕ × Request)) × IsRequested fields asked × IfSome asked (λ r. IsBadRequest a ws n r.0 r.1)
 
--- ---- bad lines where some networks are served
+-- ---- bad lines if some networks are served
 
 -- the event is that a node hears another one
 abbrev pub is_hearing : Event → Bool
@@ -81,9 +80,9 @@ may_apply n g e = not (is_in n.served g && is_hearing e)
 abbrev pub is_unserved : Waiting → Named → ℕ → Bool
 is_unserved ws n g = is_declared ws n g && not (is_in n.served g)
 
--- an order is bad: a declaration that is not taken; an event, or a slot that is to settle, that a served network does
--- not have, or whose network has no node; what served networks alone have, of one that is declared and not served, or
--- bytes for all nodes of one that has none
+-- An order to the network of a number is bad. A declaration is bad if it is not taken. A hearing, or a slot that is to
+-- settle, is bad if the network is served. Bytes for all nodes, or a `drop`, are bad if it is declared and not served.
+-- All but a declaration and a `drop` are bad if it has no node.
 abbrev pub IsBadOrder : Waiting → Named → ℕ → Order → Type 0
 IsBadOrder ws n g (order.Request (Declare d)) = takes ws n g d ≡ false
 IsBadOrder ws n g (order.Request (Apply e)) = IsBadToAsk (may_apply n g e) ws g
@@ -96,8 +95,3 @@ IsBadOrder ws n g order.Drop = is_unserved ws n g ≡ true
 abbrev pub RefusesOrder : Waiting → Named → List Bytes → Type 0
 RefusesOrder ws n fields =
     (ordered : Option (ℕ × Order)) × IsLineOrder fields ordered × IfSome ordered (λ r. IsBadOrder ws n r.0 r.1)
-
--- no line is both bad and told
-abbrev pub BadLinesAreUntold : {S : Type 0} → Telling S → Refusing S → Type 0
-BadLinesAreUntold {S} tells refuses =
-    (old new : S) (fields : List Bytes) (printed : Option Bytes) → refuses old fields → ¬ tells old fields printed new

@@ -14,9 +14,9 @@ use types::{Bytes, Event, NodeId};
 /// What a line asks of a live host, of the network that it names.
 #[derive(Drop)]
 pub enum Ask {
-    /// The network, or something of it, is declared.
+    /// The network, one of its nodes or its roster is declared.
     Declare(Declaration),
-    /// An event, and what the other nodes hear of it.
+    /// An event, and that the other nodes hear what it gave out.
     Serve(Event),
     /// These bytes reach each hosted node, one after the other.
     ForAll(Bytes),

@@ -1,9 +1,9 @@
 //! Reads the lines of networks: what each of them declares or asks for, whatever runs it.
 //!
 //! [`request_of`] reads a line's fields as a [`Request`], and [`ask_of`] as what they ask of a live host. [`order_of`]
-//! reads them as what they order in a script, where some networks are served and others are not. [`Waiting`] and
-//! [`Named`] say at which stage each network is, and so which declarations are taken. [`line_of_outs`] and
-//! [`line_of_refusal`] print what an event is answered.
+//! reads them as what they order in a script, if some networks are served and others are not. [`Waiting`] and [`Named`]
+//! say at which stage each network is, and so which declarations are taken. [`line_of_outs`] and [`line_of_refusal`]
+//! print what an event is answered.
 #![tactic(auto)]
 
 mod ask;

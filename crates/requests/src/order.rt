@@ -1,4 +1,4 @@
-//! What a line of a script orders, where some networks are served and others are not.
+//! What a line of a script orders if some networks are served and others are not.
 
 ghost use Rattle.std.specs.Prelude.{◌≡◌, Err, IfOk, None, Some, map};
 ghost use Rattle.requests.specs.Ordering.{IsLineOrder, declared_by, order_by};

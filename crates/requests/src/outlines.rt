@@ -87,8 +87,8 @@ impl Outline {
         }
     }
 
-    /// Adds a roster. The line is bad if there is one already, or if the configuration refuses it: a name stands twice
-    /// on it, it has more than 1,024 names, or a share is above 2^40.
+    /// Adds a roster. The line is bad if there is one already, or if the configuration refuses it. It does so if a name
+    /// stands twice on it, it has more than 1,024 names, or a share is above 2^40.
     pub fn reserve(&mut self, roster: Reservation) -> Result<(), LineError>
         ensures reserved { OnOk result (self.new ≡ with_roster self.old roster.names.items roster.shares) }
         ensures taken { OnOk result (takes_roster (Some self.old) roster.names.items roster.shares ≡ true) }

@@ -14,7 +14,7 @@ use types::{Event, Nested, NodeId};
 /// What a line asks for, of the network that it names.
 #[derive(Drop)]
 pub enum Request {
-    /// The network, or something of it, is declared.
+    /// The network, one of its nodes or its roster is declared.
     Declare(Declaration),
     /// An event of the network.
     Apply(Event),

@@ -15,10 +15,10 @@ use Rattle.protocol.specs.Networks.{Step, emissions, is_open}
 use Rattle.protocol.specs.Runs.{refusal_of, state_of}
 use Rattle.protocol.specs.Rosters.{Shares}
 use Rattle.configuration.specs.Configs.{names_of}
+use Rattle.network.specs.declared.applied.Given.{Given}
 use Rattle.network.specs.Decoding.{step_of}
 use Rattle.network.specs.Marks.{named}
 use Rattle.network.specs.declared.emission.Emission.{Emission}
-use Rattle.hoststep.specs.declared.given.Given.{Given}
 use Rattle.hoststep.specs.Logs.{IsRefused, Log, with_entry}
 use Rattle.world.specs.Worlds.{IsAnswered, IsAnsweredAt, items_of, log_at, logs_set, logs_without, marks_at}
 use Rattle.requests.specs.Naming.{IsForgotten, IsWithout, Named, is_in, named_with, served_with, with_number}
@@ -44,7 +44,7 @@ use Rattle.runs.specs.Settling.AreHandedOn.{cut_short, none_waits, one_waits}
 use Rattle.runs.specs.Settling.IsHeardBy.{by_all, by_one, refused}
 use Rattle.runs.specs.Unheard.{WaitsAfter, Unheard, WaitThere, WaitsBehind, slot_closed_by, named_emissions, first_emitted, unheard_at}
 use Rattle.runs.specs.Unprinted.{HadMemory}
-use Rattle.runs.proofs.BadLines.{IsOfWords, two-orders}
+use Rattle.runs.specs.BadLines.{IsOfWords, two-orders}
 use Rattle.runs.proofs.Configured.{one-config}
 use Rattle.runs.proofs.NumberedRows.{has-inserted, is-at}
 

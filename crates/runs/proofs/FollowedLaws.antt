@@ -10,10 +10,10 @@ use Rattle.protocol.specs.Networks.{Budgets, Step, emissions, is_open}
 use Rattle.protocol.specs.Hosts.{Config}
 use Rattle.protocol.specs.Runs.{state_of}
 use Rattle.configuration.specs.Configs.{names_of}
+use Rattle.network.specs.declared.applied.Given.{Given}
 use Rattle.network.specs.declared.emission.Emission.{Emission}
 use Rattle.network.specs.Decoding.{step_of}
 use Rattle.network.specs.Marks.{named, slot_and_node_of}
-use Rattle.hoststep.specs.declared.given.Given.{Given}
 use Rattle.hoststep.specs.Logs.{Log, with_entry}
 use Rattle.std.specs.BTreeMap.{is_at}
 use Rattle.std.specs.Map.{remove_entry}

@@ -16,8 +16,8 @@ use Rattle.types.specs.Statements.{Sent}
 use Rattle.types.specs.declared.event.Out.{Out}
 use Rattle.types.specs.declared.event.Refusal.{Refusal}
 use Rattle.types.specs.declared.event.Refusal.TheVariants.{NoMemory}
+use Rattle.network.specs.declared.applied.Given.{Given}
 use Rattle.network.specs.declared.emission.Emission.{Emission}
-use Rattle.hoststep.specs.declared.given.Given.{Given}
 use Rattle.hoststep.specs.Logs.{Log}
 use Rattle.world.specs.Worlds.{IsAnswered, marks_at}
 use Rattle.runs.specs.Hosting.{Hosting}

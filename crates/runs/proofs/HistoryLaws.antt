@@ -10,8 +10,8 @@ use Rattle.protocol.specs.Networks.{is_open}
 use Rattle.protocol.specs.Runs.{state_of}
 use Rattle.configuration.specs.Configs.{names_of}
 use Rattle.requests.specs.Naming.{is_in}
+use Rattle.network.specs.declared.applied.Given.{Given}
 use Rattle.network.specs.Decoding.{step_of}
-use Rattle.hoststep.specs.declared.given.Given.{Given}
 use Rattle.hoststep.specs.Logs.{Log}
 use Rattle.world.specs.Worlds.{IsAnswered, IsAnsweredAt, and_then, history_without, log_at, logs_with, with_new_network}
 use Rattle.world.proofs.Histories.{history-answered, history-joined}

@@ -14,8 +14,8 @@ use Rattle.types.specs.declared.event.Event.TheVariants as event
 use Rattle.types.specs.declared.event.Out.{Out}
 use Rattle.types.specs.declared.event.Refusal.{Refusal}
 use Rattle.protocol.specs.Networks.{Budgets}
+use Rattle.network.specs.declared.applied.Given.{Given}
 use Rattle.network.specs.declared.emission.Emission.{Emission}
-use Rattle.hoststep.specs.declared.given.Given.{Given}
 use Rattle.hoststep.specs.Logs.{Log}
 use Rattle.world.specs.Worlds.{IsAnswered, items_of, log_at}
 use Rattle.requests.specs.Naming.{Named, is_in, named_with, served_with}

@@ -1,4 +1,3 @@
-pub mod BadLines
 mod Keeping
 mod JoiningLaws
 mod Origins

@@ -38,8 +38,8 @@ MarksNameEmissions =
     (l : Log) (e : Step) (os : List Out) → IsEntered l e os → (n : ℕ) (x : Sent) (k : ℕ) → slice_get (emissions os) n ≡ Some x
     → slice_get (marks_of l.config l.entries e) n ≡ Some k → IsMarked (state_of l.config (with_entry l e os).entries) x k
 
--- An emission that is found at a slot by its number is found later too, and is the same one, after each event that is
--- applied and does not close the slot.
+-- An emission that is found at a slot by its number is found later too, and is the same one. This is so after each
+-- event that is applied and does not close the slot.
 abbrev pub EmissionsStay : Type 0
 EmissionsStay =
     (l : Log) (e : Event) (os : List Out) (i : ℕ) (m : Emission) (x : Sent) → IsEntered l (step_of e) os
@@ -52,7 +52,7 @@ EmissionsStay =
 abbrev pub EmissionsAreFound : Net → ℕ → List Emission → Type 0
 EmissionsAreFound net i es = AllByRecursion (λ e. is_some (emission_found net i e) ≡ true) es
 
--- by the journal of the network: where there is none, nothing waits
+-- by the journal of the network: if there is none, nothing waits
 abbrev pub EmissionsAreFoundIn : Option Log → ℕ → List Emission → Type 0
 EmissionsAreFoundIn None i es = es ≡ []
 EmissionsAreFoundIn (Some l) i es = EmissionsAreFound (state_of l.config l.entries) i es
@@ -75,8 +75,8 @@ pub record CanAllJoin (ws : Waiting) (n : Named) (logs : List Log) : Type 0 wher
   pub once : StandOnce ws
   pub few : length ws + length n.running ≤ 4096
 
--- the networks of a script, in a state in which each emission that waits is found in its network, so that a node that
--- hears it gets it; and nothing waits in one that is served
+-- The networks of a script, in a state in which each emission that waits is found in its network. So a node that hears
+-- it gets it. No emission waits in a network that is served, and all networks that wait can join.
 pub record FollowsJournals (h : Hosting) : Type 0 where
   pub room : CanAllJoin h.waiting h.named h.logs
   pub found : (g i : ℕ) → EmissionsAreFoundIn (log_at h.logs g) i (unheard_at h.unheard g i)

@@ -11,8 +11,8 @@ use Rattle.runs.specs.Unprinted.{IsFinishedUnprinted, TellsUnprinted, Unprinted}
 abbrev pub HaveHistory : List Log → Type 0
 HaveHistory logs = (h : History) × AreJournalsOf h logs
 
--- the journals of a script that prints nothing are those of a history of a host: before the first line, after each line
--- that is run, and after the last one
+-- The journals of a script that prints nothing are those of a history of a host. This is so before the first line,
+-- after each line that is run, and after the last one.
 pub record ScriptsHaveHistories : Type 0 where
   pub first : HaveHistory new_hosting.logs
   pub next : (old new : Unprinted) (fields : List Bytes) (printed : Option Bytes) → HaveHistory old.hosting.logs

@@ -7,8 +7,8 @@ use Rattle.runs.specs.Unheard.{Unheard}
 use Rattle.runs.specs.Joining.{HaveJoined, NetworkIsNamed, Joins}
 use Rattle.requests.specs.Naming.{Named, named_with, new_named}
 
--- the networks that wait for an event that names them, which numbers are named, run and served, what waits to be handed
--- on by lines that settle, and the journals of the networks that joined
+-- The networks that wait for an event that names them, and which numbers are named, run and served. Then what waits to
+-- be handed on by lines that settle, and the journals of the networks that joined.
 pub record Hosting : Type 0 where
   pub waiting : Waiting
   pub named : Named
@@ -40,6 +40,6 @@ IsNetworkBegun g old new =
 abbrev pub IsFinished : Hosting → Hosting → Type 0
 IsFinished old new = HaveJoined logs_joined old.waiting old.logs new.logs
 
--- what is declared stays, and which numbers are named, as where nothing but an event happens
+-- the networks that wait stay, and so do the numbers that are named: nothing is declared
 abbrev pub DeclaresNothing : Hosting → Hosting → Type 0
 DeclaresNothing old new = (new.waiting ≡ old.waiting) × (new.named ≡ old.named)

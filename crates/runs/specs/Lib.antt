@@ -11,3 +11,4 @@ pub mod Unprinted
 pub mod Histories
 pub mod Determined
 pub mod Submitting
+pub mod BadLines

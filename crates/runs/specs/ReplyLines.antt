@@ -5,7 +5,7 @@ use Rattle.crowds.specs.declared.reply.Reply.{Reply}
 use Rattle.crowds.specs.declared.reply.Reply.TheVariants as reply
 use Rattle.types.specs.declared.event.Out.{Out}
 use Rattle.types.specs.declared.event.Refusal.{Refusal}
-use Rattle.hoststep.specs.declared.given.Given.{Given}
+use Rattle.network.specs.declared.applied.Given.{Given}
 use Rattle.scripts.specs.Script.{Bytes}
 use Rattle.world.specs.Worlds.{items_of}
 use Rattle.requests.specs.Replies.{reply_text}

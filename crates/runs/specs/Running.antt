@@ -1,7 +1,7 @@
 -- What the lines of a script tell its networks to become, and what they print.
 use Rattle.std.specs.Prelude.{◌≡◌, ℕ, true, false, List, Option, Some, None, Result}
 use Rattle.scripts.specs.Script.{Bytes}
-use Rattle.hoststep.specs.declared.given.Given.{Given}
+use Rattle.network.specs.declared.applied.Given.{Given}
 use Rattle.hoststep.specs.Logs.{Log}
 use Rattle.types.specs.declared.event.Refusal.{Refusal}
 use Rattle.requests.specs.declared.request.Declaration.{Declaration}
@@ -14,7 +14,7 @@ use Rattle.requests.specs.Ordering.{Orders}
 use Rattle.requests.specs.Preparing.{Prepares}
 use Rattle.requests.specs.Replies.{reply_text}
 use Rattle.requests.specs.Taking.{is_declared, takes}
-use Rattle.requests.specs.Telling.{BadLinesAreUntold, RefusesOrder, is_unserved, may_apply}
+use Rattle.requests.specs.Telling.{RefusesOrder, is_unserved, may_apply}
 use Rattle.world.specs.Worlds.{items_of, log_at}
 use Rattle.runs.specs.declared.outcome.Outcome.{Outcome}
 use Rattle.runs.specs.declared.outcome.Outcome.TheVariants.{Declared, Answer, Answers, Settled}
@@ -73,7 +73,3 @@ Tells old fields printed new =
 -- a line is bad in a script of networks: it has none of the forms, or what it orders is not taken
 abbrev pub RefusesLine : Hosting → List Bytes → Type 0
 RefusesLine old fields = RefusesOrder old.waiting old.named fields
-
--- no line is both bad and run: if memory is enough, the bad lines are exactly those that are called so
-abbrev pub BadLinesTellNothing : Type 0
-BadLinesTellNothing = BadLinesAreUntold Tells RefusesLine

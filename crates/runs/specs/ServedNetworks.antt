@@ -8,8 +8,8 @@ use Rattle.types.specs.declared.event.Out.{Out}
 use Rattle.types.specs.declared.event.Refusal.{Refusal}
 use Rattle.types.specs.declared.event.Refusal.TheVariants.{NoMemory, NoSuchNetwork}
 use Rattle.configuration.specs.Configs.{names_of}
+use Rattle.network.specs.declared.applied.Given.{Given}
 use Rattle.network.specs.declared.emission.Emission.{Emission}
-use Rattle.hoststep.specs.declared.given.Given.{Given}
 use Rattle.hoststep.specs.Logs.{Log}
 use Rattle.world.specs.Worlds.{IsAnswered, log_at, logs_without, marks_at}
 use Rattle.requests.specs.Naming.{IsForgotten, is_in}
@@ -50,8 +50,8 @@ abbrev pub IsHeardAt : ℕ → Option Sent → Given → List Log → List Log �
 IsHeardAt g None r old new = new ≡ old
 IsHeardAt g (Some e) r old new = IsHeardByOthers g e.slot (hosted_names_in (log_at old g)) old (named_emissions r) new
 
--- What an event gave out waits to be handed on by a line. If the network is served, the others hear it now, and nothing
--- of it waits.
+-- What an event gave out waits to be handed on by a line. If the network is served, the others hear it now, and it does
+-- not wait.
 abbrev pub IsHeardOf : Bool → ℕ → Event → Given → List Log → Hosting → Hosting → Type 0
 IsHeardOf false g e r now old new = (new.logs ≡ now) × WaitsAfter (slot_closed_by e) g r old.unheard new.unheard
 IsHeardOf true g e r now old new = IsHeardAt g (first_emitted r.outs.items) r now new.logs × (new.unheard ≡ old.unheard)
@@ -93,8 +93,8 @@ AreAllDelivered g bytes old rs new = AreDeliveredTo g bytes (hosted_names_in (lo
 
 -- ---- networks that are taken back
 
--- the network of a number is not there any more, with all that it held, and as if no line had named the number; in a
--- served network nothing waits that could be left
+-- The network of a number is not there any more, with all that it held. The number is one that no line has named. In a
+-- served network nothing waits that could be left.
 pub record IsTakenBack (g : ℕ) (old new : Hosting) : Type 0 where
   pub waiting : new.waiting ≡ waiting_without old.waiting g
   pub named : IsForgotten g old.named new.named

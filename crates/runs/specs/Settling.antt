@@ -8,8 +8,8 @@ use Rattle.types.specs.declared.event.Refusal.TheVariants.{NoSuchNetwork, SlotNo
 use Rattle.protocol.specs.Networks.{is_open}
 use Rattle.protocol.specs.Runs.{state_of}
 use Rattle.configuration.specs.Configs.{names_of}
+use Rattle.network.specs.declared.applied.Given.{Given}
 use Rattle.network.specs.declared.emission.Emission.{Emission}
-use Rattle.hoststep.specs.declared.given.Given.{Given}
 use Rattle.hoststep.specs.Logs.{Log}
 use Rattle.world.specs.Worlds.{IsAnswered, log_at, marks_at}
 use Rattle.requests.specs.Replies.{refusal_text}
@@ -80,7 +80,7 @@ HasSettledIn None g slot old ended new = (new ≡ old) × (ended ≡ Some NoSuch
 HasSettledIn (Some l) g slot old ended new =
     HasSettledAt (is_open (state_of l.config l.entries) slot) g slot (names_of l.config.nodes) old ended new
 
--- what becomes of the networks where a slot settles, with what ended it
+-- what becomes of the networks when a slot settles, with what ended it
 abbrev pub HasSettled : ℕ → ℕ → Hosting → Option Refusal → Hosting → Type 0
 HasSettled g slot old ended new = HasSettledIn (log_at old.logs g) g slot old ended new
 

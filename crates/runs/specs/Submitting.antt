@@ -10,7 +10,7 @@ use Rattle.requests.specs.Outlines.{Waiting, waiting_at}
 use Rattle.runs.specs.Joining.{HaveJoined, NetworkIsNamed, Joins}
 use Rattle.requests.specs.Naming.{Named, named_with, new_named}
 use Rattle.requests.specs.Preparing.{IsPrepared}
-use Rattle.requests.specs.Telling.{Allowed, AsksOf, BadLinesAreUntold, RefusesAsked, is_closing}
+use Rattle.requests.specs.Telling.{Allowed, AsksOf, RefusesAsked, is_closing}
 
 -- whether lines may close slots, the networks that wait for an event that names them, which numbers are named, run and
 -- served, and what has been submitted
@@ -52,17 +52,13 @@ pub data Submits : Submitting → List Bytes → Option Bytes → Submitting →
   submits : {old new : Submitting} {fields : List Bytes} (g : ℕ) (e : Event) → AsksOf fields g e
       → may_submit old e ≡ true → IsSubmitted g e old new → Submits old fields None new
 
--- what lines may ask for: no slot settles, and one is closed only if they may close slots
-abbrev pub no_settling : Bool → Allowed
-no_settling closing = record { settling = false; closing = closing }
+-- what lines of a script that is submitted may ask for: no slot settles, and one is closed only if they may close slots
+abbrev pub allowed_to_submit : Bool → Allowed
+allowed_to_submit closing = record { settling = false; closing = closing }
 
--- a line is bad in a script that is submitted, in which no slot settles and maybe none is closed
+-- a line is bad in a script that is submitted, in which no slot settles, and none is closed if lines may not close slots
 abbrev pub RefusesToSubmit : Submitting → List Bytes → Type 0
-RefusesToSubmit old fields = RefusesAsked (no_settling old.closing) old.waiting old.named fields
-
--- no line is both bad and submitted
-abbrev pub BadLinesSubmitNothing : Type 0
-BadLinesSubmitNothing = BadLinesAreUntold Submits RefusesToSubmit
+RefusesToSubmit old fields = RefusesAsked (allowed_to_submit old.closing) old.waiting old.named fields
 
 -- after the last line all networks that wait and have nodes have been declared
 abbrev pub IsComplete : Submitting → Submitting → Type 0

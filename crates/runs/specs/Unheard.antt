@@ -11,9 +11,9 @@ use Rattle.types.specs.declared.event.Event.TheVariants as event
 use Rattle.types.specs.declared.event.Out.{Out}
 use Rattle.types.specs.declared.event.Out.TheVariants.{ArmNomination, ArmBallot, Emit, Externalized}
 use Rattle.protocol.specs.Networks.{emissions}
+use Rattle.network.specs.declared.applied.Given.{Given}
 use Rattle.network.specs.Marks.{named}
 use Rattle.network.specs.declared.emission.Emission.{Emission}
-use Rattle.hoststep.specs.declared.given.Given.{Given}
 
 -- ---- what waits
 

@@ -20,8 +20,8 @@ pub record Unprinted : Type 0 where
   pub hosting : Hosting
   pub trace : Option Trace
 
--- no event of a line was refused for want of memory, by what came of it: none that it asks for, and no hearing if it
--- settles a slot. (Those that follow an event of a served network never were.)
+-- By what came of a line, none of its events was refused because it was out of memory. These are the events that it
+-- asks for, and the hearings if it settles a slot. (Those that follow an event of a served network never were.)
 abbrev pub HadMemory : Outcome → Type 0
 HadMemory Declared = Unit {0}
 HadMemory (Answer r) = r ≢ Err NoMemory
@@ -39,7 +39,7 @@ trace_after g logs None = None
 trace_after g logs (Some t) = Some (t ++ (g, entry_count (log_at logs g)) ∷ [])
 
 -- What a line tells if nothing is printed: what it orders is done as in a script whose answers are printed. No event of
--- it was refused for want of memory, and the trace has the line.
+-- the line was refused because it was out of memory, and the trace has the line.
 abbrev pub TellsUnprinted : Unprinted → List Bytes → Option Bytes → Unprinted → Type 0
 TellsUnprinted old fields printed new =
     (g : ℕ) × (outcome : Outcome) × IsLineCarriedOut g fields old.hosting outcome new.hosting × (printed ≡ None)
@@ -57,9 +57,9 @@ has_more g n line = (line.0 == g) && nat_lt n line.1
 abbrev pub has_no_more : ℕ → ℕ → ℕ × ℕ → Bool
 has_no_more g n line = (line.0 == g) && not (nat_lt n line.1)
 
--- The line that an entry of a network comes from, by the lines from a number on. It is the first one after which, as
--- after each later one that names the network, it has more entries than come before that one. (After one that takes the
--- network back it has none.)
+-- The line that an entry of a network comes from, by the lines from a number on. After it, and after each later line
+-- that names the network, there are more entries than come before this one. It is the first line of the network of
+-- which this holds. (After a line that takes the network back there are none.)
 abbrev pub origin_from : ℕ → Trace → ℕ → ℕ → Option ℕ
 origin_from k [] g n = None
 origin_from k (line ∷ t) g n =

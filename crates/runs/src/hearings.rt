@@ -1,4 +1,4 @@
-//! Nodes of a network that hear what others of it emit, each by an event in its journal.
+//! Nodes that hear what others of their network emit, each by an event in the network's journal.
 
 ghost use Rattle.std.specs.Prelude.{◌≡◌, ◌≤◌, ◌++◌, ◌∷◌, [], IfOk, List, OnOk, drop, length};
 ghost use Rattle.configuration.specs.Configs.{names_of};
@@ -16,7 +16,8 @@ use world::World;
 
 /// Hands on what waits at a slot, and behind it what nodes emit meanwhile, until none waits or a hearing is refused.
 /// Answers how many emissions have been handed on, and the refusal. Those that were handed on stay in front of those
-/// that wait on.
+/// that wait on. An error says that it is out of memory; then some were handed on, and what nodes emitted meanwhile may
+/// not wait.
 pub(crate) fn hand_on_all(
     world: &mut World<BoxShelf>,
     number: u32,
@@ -83,7 +84,8 @@ fn hear(
     }
 }
 
-/// Has all others hear what waits, and behind it what nodes emit meanwhile, until none waits.
+/// Has all others hear what waits, and behind it what nodes emit meanwhile, until none waits. An error says that it is
+/// out of memory, in a hearing or beside one; then some have heard, and what else waited is lost.
 pub(crate) fn let_all_hear(
     world: &mut World<BoxShelf>,
     number: u32,
@@ -102,8 +104,9 @@ pub(crate) fn let_all_hear(
     Ok(())
 }
 
-/// Has each other node hear an emission, in the order of the names, whether others refused it or not. A refusal for want
-/// of memory is an error: of a hearing nothing is printed, so nobody would be told that what later lines show lacks it.
+/// Has each other node hear an emission, in the order of the names, whether others refused it or not. A refusal because
+/// it is out of memory is an error. Of a hearing nothing is printed, so nobody would be told that it is missing in what
+/// later lines show.
 fn tell_others(
     world: &mut World<BoxShelf>,
     number: u32,

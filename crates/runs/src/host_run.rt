@@ -6,7 +6,7 @@ ghost use Rattle.runs.specs.ByJournals.{EmissionsStay, LinesFollowJournals, Mark
 ghost use Rattle.runs.specs.Hosting.{IsFinished, IsNetworkBegun, new_hosting};
 ghost use Rattle.runs.specs.ServedNetworks.{IsTakenBack};
 ghost use Rattle.runs.specs.SettledLines.{settled_text};
-ghost use Rattle.runs.specs.Running.{BadLinesTellNothing, Does, IsLineCarriedOut, RefusesLine, printed_of};
+ghost use Rattle.runs.specs.Running.{Does, IsLineCarriedOut, RefusesLine, printed_of};
 ghost use Rattle.runs.specs.Settling.{HasSettled};
 ghost use Rattle.requests.specs.Telling.{HasNoNode, IsBadOrder, may_apply};
 ghost use Rattle.requests.specs.declared.order.Order.TheVariants as order;
@@ -19,7 +19,7 @@ use crate::replies::{replies, reply};
 use crate::settled_lines::push_deciders;
 use crate::unheard::Unheard;
 use envstore::BoxShelf;
-use hoststep::Given;
+use network::Given;
 use requests::{Order, Request, line_of_refusal, order_of};
 use scripts::{LineError, LineRunner};
 use std::alloc::{AllocError, Global};
@@ -270,11 +270,14 @@ impl HostRun {
 }
 
 impl LineRunner for HostRun {
+    ghost use Rattle.runs.specs.BadLines.{bad_lines_tell_nothing};
     ghost use Rattle.runs.specs.Running.{RefusesLine, Tells};
 
     ghost tells = { Tells };
 
     ghost refuses = { RefusesLine };
+
+    ghost untold = { bad_lines_tell_nothing };
 
     fn line(&mut self, alloc: Global, fields: &[&[u8]]) -> Result<Option<String>, LineError> {
         let (number, outcome) = self.carry_out(alloc, fields)?;
@@ -283,11 +286,6 @@ impl LineRunner for HostRun {
         Ok(printed?)
     }
 }
-
-/// A law: no line is both bad and run. So a line is called bad exactly if it is, but for want of memory.
-pub fn bad_lines_tell_nothing()
-    ensures { BadLinesTellNothing }
-{}
 
 /// A law: the marks of an event that is applied name its emissions, then and as long as their slot is not closed. So a
 /// node that hears one by its mark gets it.

@@ -3,8 +3,8 @@
 //!
 //! A [`HostRun`] runs the lines of one script over the journals of the networks that it declares, each with an archive
 //! of its own. It prints what each line is answered, and of a declaration nothing. An [`UnprintedRun`] does that in
-//! silence, and ends if an event is refused for want of memory. A [`SubmissionRun`] takes what lines submit. All three are
-//! [`scripts::LineRunner`]s, to be run by `scripts::run_script` and its kin.
+//! silence, and ends if an event is refused because it is out of memory. A [`SubmissionRun`] takes what lines submit.
+//! All three are [`scripts::LineRunner`]s, to be run by `scripts::run_script` and its kin.
 #![tactic(auto)]
 
 mod hearings;
@@ -19,9 +19,7 @@ mod trace;
 mod unheard;
 mod unprinted_run;
 
-pub use host_run::{
-    HostRun, bad_lines_tell_nothing, marks_name_emissions, waiting_emissions_are_found,
-};
+pub use host_run::{HostRun, marks_name_emissions, waiting_emissions_are_found};
 pub use replies::line_of_reply;
-pub use submission_run::{SubmissionRun, bad_lines_submit_nothing};
+pub use submission_run::SubmissionRun;
 pub use unprinted_run::{UnprintedRun, lines_do_one_thing, scripts_have_histories};

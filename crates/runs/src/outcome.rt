@@ -4,7 +4,7 @@ ghost use Rattle.std.specs.Prelude.{◌≢◌, All, Err, OnOk, Some};
 ghost use Rattle.types.specs.declared.event.Refusal.TheVariants.{NoMemory};
 ghost use Rattle.runs.specs.Unprinted.{HadMemory};
 
-use hoststep::Given;
+use network::Given;
 use std::alloc::AllocError;
 use types::Refusal;
 
@@ -22,7 +22,7 @@ pub(crate) enum Outcome {
 }
 
 impl Outcome {
-    /// Lets all pass but that an event was refused for want of memory, which is an error.
+    /// Lets all pass but that an event was refused because it was out of memory, which is an error.
     pub fn had_memory(&self) -> Result<(), AllocError>
         ensures { OnOk result (HadMemory self.now) }
     {
@@ -35,7 +35,7 @@ impl Outcome {
     }
 }
 
-/// Lets no refusal and any refusal pass, but for want of memory, which is an error.
+/// Lets no refusal and any refusal pass, but the one that it is out of memory, which is an error.
 pub(crate) fn but_for_memory(refusal: Option<Refusal>) -> Result<(), AllocError>
     ensures { OnOk result (refusal ≢ Some NoMemory) }
 {
@@ -46,7 +46,7 @@ pub(crate) fn but_for_memory(refusal: Option<Refusal>) -> Result<(), AllocError>
     }
 }
 
-/// Lets all answers pass but a refusal for want of memory, which is an error.
+/// Lets all answers pass but the refusal that it is out of memory, which is an error.
 fn had_memory(answers: &[Result<Given, Refusal>]) -> Result<(), AllocError>
     ensures { OnOk result (All (λ r. r ≢ Err NoMemory) answers.now) }
 {

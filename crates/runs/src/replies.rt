@@ -7,7 +7,7 @@ ghost use Rattle.requests.specs.Replies.{IsReply};
 ghost use Rattle.runs.specs.ReplyLines.{answer_of, line_behind, reply_lines};
 
 use crowds::Reply;
-use hoststep::Given;
+use network::Given;
 use requests::{line_of_outs, line_of_refusal};
 use std::alloc::{AllocError, Global};
 use types::Refusal;

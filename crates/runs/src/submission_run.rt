@@ -1,7 +1,7 @@
 //! What runs the lines of a script of networks for what they submit.
 
 ghost use Rattle.std.specs.Prelude.{◌≡◌, Err, OnOk, true};
-ghost use Rattle.runs.specs.Submitting.{BadLinesSubmitNothing, IsComplete, IsSubmitted, may_submit, new_submitting};
+ghost use Rattle.runs.specs.Submitting.{IsComplete, IsSubmitted, may_submit, new_submitting};
 ghost use Rattle.requests.specs.Telling.{IsBadToAsk};
 
 use crate::nets::Nets;
@@ -88,11 +88,14 @@ impl SubmissionRun {
 }
 
 impl LineRunner for SubmissionRun {
+    ghost use Rattle.runs.specs.BadLines.{bad_lines_submit_nothing};
     ghost use Rattle.runs.specs.Submitting.{RefusesToSubmit, Submits};
 
     ghost tells = { Submits };
 
     ghost refuses = { RefusesToSubmit };
+
+    ghost untold = { bad_lines_submit_nothing };
 
     fn line(&mut self, alloc: Global, fields: &[&[u8]]) -> Result<Option<String>, LineError> {
         let (number, request) = request_of(alloc, fields)?;
@@ -109,9 +112,3 @@ impl LineRunner for SubmissionRun {
         }
     }
 }
-
-/// A law: no line is both bad and submitted. So a line is called bad exactly if it is, but for want of memory.
-#[tactic(auto, using(crate::proofs::BadLines::bad_lines_submit_nothing))]
-pub fn bad_lines_submit_nothing()
-    ensures { BadLinesSubmitNothing }
-{}

@@ -3,8 +3,7 @@
 ghost use Rattle.std.specs.Prelude.{◌≡◌, ◌++◌, [], OnOk, option_map};
 ghost use Rattle.runs.specs.Unheard.{WaitsAfter, WaitThere, named_emissions, first_emitted, unheard_at};
 
-use hoststep::Given;
-use network::{Emission, push_named};
+use network::{Emission, Given, push_named};
 use std::alloc::{AllocError, Global};
 use std::collections::BTreeMap;
 use std::marker::Model;
@@ -51,7 +50,8 @@ impl Unheard {
         }
     }
 
-    /// Has these emissions wait at a slot of a network, in the place of what waits there.
+    /// Has these emissions wait at a slot of a network, in the place of what waits there. An error says that it is out
+    /// of memory; then these emissions are lost.
     pub fn put(
         &mut self,
         number: u32,
@@ -68,7 +68,7 @@ impl Unheard {
     }
 
     /// An event of the network of a number was applied and gave this out; `closed` is the slot that it closed, if it
-    /// closed one.
+    /// closed one. An error says that it is out of memory; then what the event emitted is lost, and what waited there.
     pub fn note(
         &mut self,
         number: u32,

@@ -14,8 +14,8 @@ use std::alloc::{AllocError, Global};
 use std::marker::Model;
 use world::World;
 
-/// The networks of one script, whose lines are run as a [`HostRun`] runs them and print nothing. If one of their
-/// events is refused for want of memory, that is no answer of a line: the run ends, out of memory.
+/// The networks of one script, whose lines are run as a [`HostRun`] runs them and print nothing. If one of their events
+/// is refused because it is out of memory, that is no answer of a line: the run ends, out of memory.
 #[derive(Drop)]
 pub struct UnprintedRun {
     run: HostRun,
@@ -100,11 +100,14 @@ impl UnprintedRun {
 }
 
 impl LineRunner for UnprintedRun {
+    ghost use Rattle.runs.specs.BadLines.{bad_lines_tell_nothing_unprinted};
     ghost use Rattle.runs.specs.Unprinted.{RefusesUnprinted, TellsUnprinted};
 
     ghost tells = { TellsUnprinted };
 
     ghost refuses = { RefusesUnprinted };
+
+    ghost untold = { bad_lines_tell_nothing_unprinted };
 
     fn line(&mut self, alloc: Global, fields: &[&[u8]]) -> Result<Option<String>, LineError> {
         let (number, outcome) = self.run.carry_out(alloc, fields)?;

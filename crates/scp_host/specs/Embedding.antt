@@ -1,4 +1,4 @@
--- A live host in a program of another language: what is kept of it between two calls, and what a call makes of that.
+-- A live host in a program of another language: what is kept between two calls, and what a call makes of that.
 use Rattle.std.specs.Prelude.{◌≡◌, ◌+◌, ◌^◌, ◌++◌, ℕ, Bool, true, false, [], length, drop, nat_le, Option, Some, None, if◌then◌else◌}
 use Rattle.scripts.specs.Script.{Bytes}
 use Rattle.feed.specs.WholeLines.{given}

@@ -58,7 +58,7 @@ impl Embedded {
                 self.block = block;
                 if kept { Status::Kept } else { Status::Done }
             }
-            // Memory: the line has no answer, and some of it may have happened.
+            // Memory: the line has no answer, and a part may have happened.
             Err(_) => Status::NoMemory,
         }
     }

@@ -13,8 +13,8 @@ use std::marker::Model;
 use std::mem::replace;
 use std::ptr::null_mut;
 
-/// A host, or none: then the pointer is null. What lies behind it is seen as the ghost field; the pointer's own type
-/// says nothing of it, since C may not see a type whose values are shared.
+/// A host, or none: then the pointer is null. What lies behind it is seen as the ghost field. The pointer's own type
+/// does not say it, since C may not see a type whose values are shared.
 #[repr(C)]
 pub struct ScpHost {
     at: *mut u8,

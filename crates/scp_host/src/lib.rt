@@ -31,9 +31,9 @@ pub extern "C" fn scp_host_new(alloc: Global, host: &mut ScpHost, bytes: bool) -
 
 /// Has the host answer a line, given without its line feed. Lines are numbered from 1, empty ones and comments too.
 ///
-/// The status is 0 if the line is answered; 1 if it is answered, and a journal keeps it; 2 if it is out of memory, and
-/// then the host is let go; 3 if the handle holds no host; 4 if no number is left for the line, and then nothing
-/// changes.
+/// The status is 0 if the line is answered, and 1 if it is answered, and a journal keeps it. It is 2 if it is out of
+/// memory, and then the host is let go. It is 3 if the handle holds no host. It is 4 if no number is left for the line,
+/// and then nothing changes.
 #[unsafe(no_mangle)]
 pub extern "C" fn scp_host_line(alloc: Global, host: &mut ScpHost, line: &[u8]) -> u32
     ensures { (status : Status) × (result ≡ code_of status) × HasLine status line.now host.old.kept host.new.kept }

@@ -12,16 +12,16 @@ use Rattle.command_line.specs.declared.call.Usage.TheVariants.{NoMemory}
 use Rattle.scphost.specs.Printing.{HasAnsweredUsage, IsPerformed, IsPerformedAsItComes}
 use Rattle.scphost.specs.Stops.{End, status_of_end}
 
--- a call is carried out: it is performed on some contents of its readers, or on those of a standard input as they
--- come; or one of its files cannot be opened, or there is no memory to read it, which is told, and nothing is written
+-- A call is carried out: it is performed on some contents of its readers, or on those of a standard input as they come.
+-- Or one of its files cannot be opened, or there is no memory to read it, which is told, and nothing is written.
 abbrev pub IsCarriedOut : Call → Option Bytes → Option Bytes → End → Type 0
 IsCarriedOut call old new end =
     ((first second : Option Bytes) × IsPerformed call first second old new end)
     ⊎ (((input : Option Bytes) × IsPerformedAsItComes call input old new end)
     ⊎ (((end ≡ Err stop.CannotRead) ⊎ (end ≡ Err stop.NoMemory)) × Keeps old new))
 
--- why words are not taken as a call: they are none, or it is out of memory; they get help where they ask for it, and else
--- what is wrong with them
+-- Why words are not taken as a call: they are none, or it is out of memory. They get help if they ask for it, and else
+-- what is wrong with them.
 pub record IsUsageOf (words : List Text) (usage : Usage) : Type 0 where
   pub none : (call : Call) → IsCall words call → usage ≡ NoMemory
   pub fits : IsUsage words usage

@@ -16,27 +16,27 @@ use Rattle.command_line.specs.declared.replay.ReplayFrom.TheVariants.{Line, Open
 use Rattle.scripts.specs.declared.run.Stop.{Stop}
 use Rattle.scphost.specs.Stops.{End, IsEndOfCompacting, IsEndOfHost, IsEndOfJournal}
 
--- from a state on, a live host served what it was sent line by line as it came, the first line with this number, and what
--- it answered is written; it is told how that ended
+-- From a state on, a live host served what it was sent line by line as it came, the first line with this number. What
+-- it answered is written, and it is told how that ended.
 abbrev pub HasServedFrom : Serving Live → Live → ℕ → Option Bytes → Option Bytes → Option Bytes → End → Type 0
 HasServedFrom serves start n input old new end =
     (ran : Result (Unit {0}) Fault) × (left : Option Bytes) × (last : Live) × IsEndOfHost ran end
     × HasHostedStream serves LONGEST_LINE start n input left (HasDone None None old new) ran last
 
--- from which line of a journal on answers are told: from none, from this one, or from the first that opened a slot which
--- is still open; or why that cannot be said
+-- From which line of a journal on answers are told: from none, from this one, or from the first that opened a slot
+-- which is still open. Or it is said why that cannot be told.
 abbrev pub IsFrom : Bool → Option ReplayFrom → Result (Option ℕ) JournalFault → Type 0
 IsFrom bytes None from = from ≡ Ok None
 IsFrom bytes (Some (Line n)) from = from ≡ Ok (Some n)
 IsFrom bytes (Some Open) from = HasFirst Remembers LONGEST_LINE (new_live bytes) from
 
--- a host went on from its journal, which has so many lines; or why not
+-- a host went on from its journal, which has this many lines
 abbrev pub HasGoneOn : Bool → Option ReplayFrom → Option Bytes → Option Bytes → ℕ → Live → Type 0
 HasGoneOn bytes from old new n t =
     (first : Option ℕ) × IsFrom bytes from (Ok first) × HasResumed Remembers LONGEST_LINE first (new_live bytes) old new (Ok n) t
 
--- why a host did not go on from its journal: where a line is named, it is none of a journal, behind lines that are; of other
--- reasons nothing is said
+-- Why a host did not go on from its journal. If a line is named, it is none of a journal, behind lines that are. Of
+-- other reasons nothing is said.
 abbrev pub IsNotGoneOn : Bool → JournalFault → Type 0
 IsNotGoneOn bytes (journal.BadLine n) =
     ((first : Option ℕ) × (t : Live) × HasBadLine Remembers LONGEST_LINE first (new_live bytes) n t)
@@ -53,9 +53,9 @@ abbrev pub HasStarted : {F : Type 0} → Bool → Option ReplayFrom → Option B
 HasStarted bytes from old new (Ok started) t = HasGoneOn bytes from old new started.1 t
 HasStarted bytes from old new (Err why) t = IsNotGoneOn bytes why
 
--- a host that has no networks at first, and prints envelopes as bytes if that is asked for, served what it was sent; with
--- a journal, from where that ends, and no block says that memory was wanting. Or it did not start, for a reason that is
--- told.
+-- A host that has no networks at first, and prints envelopes as bytes if that is asked for, served what it was sent.
+-- With a journal it goes on from the end of that, and no block says that it was out of memory. Or it did not start, for
+-- a reason that is told.
 abbrev pub HasServed : Bool → Option Bytes → Option ReplayFrom → Option Bytes → Option Bytes → Option Bytes → End → Type 0
 HasServed bytes None from input old new end = HasServedFrom Serves (new_live bytes) 1 input old new end
 HasServed bytes (Some name) from input old new end =

@@ -57,7 +57,7 @@ abbrev pub IsCrowdAnswer : Subject → Option Bytes → Option Bytes → Answer 
 IsCrowdAnswer subject one other a = (first second : Submitting) × IsSubmittedBy true one first × IsSubmittedBy true other second
     × TellsCrowd first.history second.history subject a
 
--- the answer tells what became of the networks of a script whose events were jobs of so many workers
+-- the answer tells what became of the networks of a script whose events were jobs of this many workers
 abbrev pub IsPooled : ℕ → Option Bytes → Answer → Type 0
 IsPooled workers script a =
     (run : Submitting) × IsSubmittedBy false script run × (a.differs ≡ false)
@@ -78,13 +78,13 @@ names_files (Encode asked) = false
 names_files (Decode digits) = false
 names_files _ = true
 
--- what `run` does with a script: its lines are run in order, or they are jobs of so many workers
+-- what `run` does with a script: its lines are run in order, or they are jobs of this many workers
 abbrev pub IsRunOn : Option ℕ → Option Bytes → Option Bytes → Option Bytes → End → Type 0
 IsRunOn None script old new end = HasRunLines Running.Tells Running.RefusesLine new_hosting script old new end
 IsRunOn (Some workers) script old new end = HasAnswered (IsPooled workers script) (StopsSubmission false script) old new end
 
--- what a call does with its files: it runs the lines of one, prints the answer, or makes one shorter; what is about one
--- envelope has none, and `serve` is not performed so
+-- What a call does with its files: it runs the lines of one, prints the answer, or makes one shorter. What is about one
+-- envelope has none, and `serve` is not performed so.
 abbrev pub IsPerformed : Call → Option Bytes → Option Bytes → Option Bytes → Option Bytes → End → Type 0
 IsPerformed (Table asked) first second old new end =
     HasRunLines TableLines.TellsListener TableLines.RefusesTableLine None first old new end
@@ -108,12 +108,12 @@ HasRunAsTheyCome {S = S} tells refuses start input old new end =
     (ran : Result (Unit {0}) Stop) × (last : S) × IsEndOf ran end
     × HasRunStream longest_script tells refuses start input old new ran last
 
--- what `run` does with the standard input: its lines are run as they come, or all of them are jobs of so many workers
+-- what `run` does with the standard input: its lines are run as they come, or all of them are jobs of this many workers
 abbrev pub IsRunAsItComes : Option ℕ → Option Bytes → Option Bytes → Option Bytes → End → Type 0
 IsRunAsItComes None input old new end = HasRunAsTheyCome Running.Tells Running.RefusesLine new_hosting input old new end
 IsRunAsItComes (Some workers) input old new end = IsRunOn (Some workers) input old new end
 
--- what a call does with the standard input: it runs or serves its lines as they come, or is performed on all of it
+-- what a call does with the standard input: it runs or serves its lines as they come, or is performed on the whole
 abbrev pub IsPerformedAsItComes : Call → Option Bytes → Option Bytes → Option Bytes → End → Type 0
 IsPerformedAsItComes (Table asked) input old new end =
     HasRunAsTheyCome TableLines.TellsListener TableLines.RefusesTableLine None input old new end
@@ -127,8 +127,8 @@ IsPerformedAsItComes (Compact file) input old new end = IsPerformed (Compact fil
 IsPerformedAsItComes (Encode asked) input old new end = IsPerformed (Encode asked) input (Some []) old new end
 IsPerformedAsItComes (Decode digits) input old new end = IsPerformed (Decode digits) input (Some []) old new end
 
--- what answers words that are no call: help is printed whole, or a write failed (4); else nothing is printed, and the
--- words are at fault (2), or there was no memory (3)
+-- What answers words that are no call. Help is printed whole (0), or a write failed (4). Else nothing is printed, and
+-- the words are at fault (2), or there was no memory (3).
 abbrev pub HasAnsweredUsage : Usage → Option Bytes → Option Bytes → ℕ → Type 0
 HasAnsweredUsage (Help text) old new status = ((status ≡ 0) × Appends old new (string_bytes text)) ⊎ (status ≡ 4)
 HasAnsweredUsage (Bad text) old new status = (status ≡ 2) × Keeps old new

@@ -1,9 +1,9 @@
--- Answers that say of no want of memory.
+-- Answers that do not say that it was out of memory.
 use Rattle.std.specs.Prelude.{List}
 use Rattle.std.specs.List.{All}
 use Rattle.feed.specs.Served.{LineReply}
 use Rattle.serving.specs.Blocks.{TellsOfNoWant}
 
--- none of these answers says that memory was wanting
+-- none of these answers says that it was out of memory
 abbrev pub AllTellOfNoWant : List LineReply → Type 0
 AllTellOfNoWant answers = All (λ a. TellsOfNoWant a.text) answers

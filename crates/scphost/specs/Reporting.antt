@@ -12,8 +12,8 @@ use Rattle.command_line.specs.declared.subject.Format.{Format}
 use Rattle.command_line.specs.declared.subject.Format.TheVariants as format
 use Rattle.types.specs.declared.subject.Subject.{Subject}
 
--- the closure of a node at a slot of a network, and who blocks whom in it; where there is no such network, that is the
--- node alone
+-- The closure of a node at a slot of a network, and who blocks whom in it. If there is no such network, that is only
+-- the node.
 pub record IsReportOf (log : Option Log) (slot node : ℕ) (r : Shown) : Type 0 where
   pub members : IsClosureList (nodes_in log) slot node (entries_in log) r.members
   pub hosted : AreHosted (slices_then (nodes_in log) slot (entries_in log)) (among (member_names r.members)) r.hosted

@@ -8,7 +8,7 @@ use Rattle.journal.specs.Faults.{fault_of_stop}
 use Rattle.journal.specs.declared.fault.JournalFault.{JournalFault}
 use Rattle.journal.specs.declared.fault.JournalFault.TheVariants as journal
 
--- the exit status: 2 for a script or words at fault, 3 for want of memory, 4 for a write that failed
+-- the exit status: 2 for a script or words at fault, 3 if it is out of memory, 4 for a write that failed
 abbrev pub status_of : Stop → ℕ
 status_of stop.CannotRead = 2
 status_of stop.TooLong = 2

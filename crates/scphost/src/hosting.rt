@@ -39,8 +39,8 @@ struct JournalUse<'a> {
 /// asked for. Why lines are bad goes to `outputs.err`, if that is asked for, and so does one line on what ended it
 /// early.
 ///
-/// The networks are shared out among the workers. With a journal each line is on the disk before anything is told of
-/// it; the lines that are there are run first.
+/// The networks are shared out among the workers. With a journal each line is on the disk before its answer is told.
+/// The lines that are there are run first.
 pub fn serve<
     A: AllocGlobal + Threads + Wait + Sync + Files<File = File>,
     R: BufRead,
@@ -108,8 +108,8 @@ fn serve_by<A: AllocGlobal + Threads + Wait + Sync, R: BufRead, W: Write, E: Wri
     print_end_of_host(ran, "", &mut outputs.err)
 }
 
-/// Serves with a journal, which has each line, on the disk, before anything is told of it. Its lines are run first, up
-/// to its end. What some of them were answered is written again if that is asked for, and then `resumed L`, where L is
+/// Serves with a journal, which has each line, on the disk, before its answer is told. Its lines are run first, up to
+/// its end. What some of them were answered is written again if that is asked for. Then comes `resumed L`, with L for
 /// how many there are.
 fn serve_with_journal<
     A: AllocGlobal + Threads + Wait + Sync + Files<File = File>,

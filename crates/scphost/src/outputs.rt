@@ -7,7 +7,7 @@ use std::alloc::Global;
 use std::fs::File;
 use std::io::Write;
 
-/// Both output streams of a program, and what a live host has beside them.
+/// Both output streams of a program, and what a live host has besides.
 #[derive(Drop)]
 pub struct Outputs<W, E> {
     /// The standard output: what a call prints.

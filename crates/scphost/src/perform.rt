@@ -42,7 +42,7 @@ pub const NO_WRITE: u8 = 4;
 /// that ended: whether what it compared differs, or what stopped it. A call that names none is for [`perform_stream`].
 ///
 /// What the call prints goes to `outputs.out`, and one line on what ended it early to `outputs.err`. Of `table` and
-/// `run` what lines before a bad one printed is written by then; `closure`, `compare`, `crowd` and `compact` print
+/// `run` what lines before a bad one printed is written by then. `closure`, `compare`, `crowd` and `compact` print
 /// nothing before all files have been run to their ends, the first one before the second is read. `run` with workers
 /// runs no event before all lines have been read. A write to `err` that fails changes nothing.
 pub fn perform<
@@ -226,7 +226,7 @@ fn perform_crowd<R: Read, T: Read, W: Write, E: Write>(
 
 /// Carries out a call on the standard input, which is its file or, of `serve`, what is sent: each line is answered
 /// before the next one is waited for. How it ends, and messages, are those of [`perform`], but for a read that fails
-/// and for input that is too long: the lines before have been run, and what they printed is written. `closure`,
+/// and for input that is too long. Then the lines before have been run, and what they printed is written. `closure`,
 /// `compare`, `crowd` and `run` with workers read it whole, and `compact` up to the journal's end, before they print.
 /// `serve` goes on after a bad line.
 pub fn perform_stream<
@@ -316,9 +316,9 @@ pub fn print_stop<E: Write>(stop: Stop, file: &str, err: &mut E) -> Result<bool,
     Err(stop)
 }
 
-/// The exit status of a call that ended so: 2 for words or a file that cannot be read, and for a file that is too long
-/// or has a bad line. It is 3 if it was out of memory, and 4 if a write failed. It is 1 for a comparison that finds a
-/// difference, and for bytes that are no envelope; else 0.
+/// The exit status of a call that ended so. It is 2 for words or a file that cannot be read, and for a file that is too
+/// long or has a bad line. It is 3 if it was out of memory, and 4 if a write failed. It is 1 for a comparison that
+/// finds a difference, and for bytes that are no envelope; else 0.
 pub fn exit_status(end: Result<bool, Stop>) -> u8
     ensures { result ≡ status_of_end end }
 {

@@ -78,8 +78,8 @@ fn bytes_of(word: &Word) -> &[u8]
     word.as_str().as_bytes()
 }
 
-/// Which of four words that spell no envelope is wrong, with the name of its operand: the first that does not have its
-/// form, else the statement, which breaks a rule.
+/// Which of four words that spell no envelope is wrong, with the name of its operand. It is the first that does not
+/// have its form, else the statement, which breaks a rule.
 fn wrong_word<'a>(alloc: Global, words: &'a EncodeCall) -> (&'static str, &'a str) {
     if name_of(bytes_of(&words.from)).is_none() {
         return ("<FROM>", words.from.as_str());

@@ -43,17 +43,17 @@ member_with inner name [] = node_and_rest name []
 member_with inner name (b ∷ rest) =
     if b == 91 then option_map (λ r. (Set r.0, r.1)) inner else node_and_rest name (b ∷ rest)
 
--- a member: a set where an opening bracket follows the letters and digits, else a name
+-- a member: a set if an opening bracket follows the letters and digits, else a name
 abbrev pub member_front : SetReader → Bytes → Option (Member × Bytes)
 member_front inner text = member_with (inner text) (word_name (plain_part text)) (behind_plain text)
 
--- further members behind a comma (44), or none where the closing bracket (93) follows
+-- further members behind a comma (44), or none if the closing bracket (93) follows
 abbrev pub with_more : Member → Bytes → (Bytes → Option (List Member × Bytes)) → Option (List Member × Bytes)
 with_more m [] more = None
 with_more m (b ∷ rest) more =
     if b == 44 then option_map (λ r. (m ∷ r.0, r.1)) (more rest) else if b == 93 then Some (m ∷ [], rest) else None
 
--- at most so many members, up to the closing bracket
+-- at most this many members, up to the closing bracket
 abbrev pub members_front : SetReader → ℕ → Bytes → Option (List Member × Bytes)
 members_front inner zero text = None
 members_front inner (suc room) text =
@@ -71,7 +71,7 @@ abbrev pub set_front : SetReader → SetReader
 set_front inner text =
     option_and_then (λ t. option_map (λ r. (set_of t.0 r.0, r.1)) (members_in inner t.1)) (threshold_front text)
 
--- a set at the front of a word, where so many levels of sets may be, none for 0
+-- a set at the front of a word, of at most this many levels of sets; for 0 there is none
 abbrev pub inner_front : ℕ → SetReader
 inner_front zero text = None
 inner_front (suc levels) text = set_front (inner_front levels) text

@@ -34,7 +34,7 @@ short (b ∷ more) = if (length (short more) == 0) && (b == 0) then [] else b �
 abbrev pub is_short_name : Bytes → Bool
 is_short_name front = nat_lt 0 (length front) && is_plain front
 
--- the bytes of a name in words: letters and digits where there are such, else hexadecimal digits
+-- the bytes of a name in words: letters and digits if there are such, else hexadecimal digits
 abbrev pub text_of_bytes : Bytes → Bytes
 text_of_bytes bytes = if is_short_name (short bytes) then short bytes else encode_lower bytes
 
@@ -57,7 +57,7 @@ bytes_of_result (Err e) = None
 abbrev pub digits_bytes : Bytes → Option Bytes
 digits_bytes digits = if is_lower_hex digits then bytes_of_result (decode_of digits) else None
 
--- the bytes that a word spells: `-` (45) alone for none, else digits
+-- the bytes that a word spells: only `-` (45) for none, else digits
 abbrev pub octets_in : Bytes → Option Bytes
 octets_in word =
     if length word == 0 then None

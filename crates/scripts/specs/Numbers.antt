@@ -19,7 +19,7 @@ IsDigit byte = (48 ≤ byte) × (byte ≤ 57)
 abbrev pub is_digit : ℕ → Bool
 is_digit byte = nat_le 48 byte && nat_le byte 57
 
--- one digit or more, of which the first is no 0 where there are several
+-- one digit or more, of which the first is no 0 if there are several
 pub record IsDecimal (word : List ℕ) : Type 0 where
   pub some : 0 < length word
   pub digits : AllByRecursion IsDigit word

@@ -48,7 +48,7 @@ abbrev pub text_of_values : List Bytes → Bytes
 text_of_values [] = []
 text_of_values (v ∷ more) = text_of_value v ++ flat_map behind_plus more
 
--- a ballot, or `-` (45) where there is none
+-- a ballot, or `-` (45) if there is none
 abbrev pub text_of_optional : Option Ballot → Bytes
 text_of_optional None = 45 ∷ []
 text_of_optional (Some b) = text_of_ballot b

@@ -14,6 +14,11 @@ Telling S = S → List Bytes → Option Bytes → S → Type 0
 abbrev pub Refusing : Type 0 → Type 1
 Refusing S = S → List Bytes → Type 0
 
+-- a law of what runs lines: no line is both bad and told
+abbrev pub BadLinesAreUntold : {S : Type 0} → Telling S → Refusing S → Type 0
+BadLinesAreUntold {S} tells refuses =
+    (old new : S) (fields : List Bytes) (printed : Option Bytes) → refuses old fields → ¬ tells old fields printed new
+
 -- what is printed, with a line feed (10) after it
 abbrev pub on_a_line : Option Bytes → Bytes
 on_a_line None = []
@@ -34,7 +39,8 @@ pub data LineFails {S : Type 0} (refuses : Refusing S) : S → Bytes → Type 0 
       → LineFails refuses s line
 
 -- a run of numbered lines: what it writes, how it ends and the state that it leaves. It goes on to the first bad line,
--- and names it. Want of memory may end it before any line, and then nothing is said of the state.
+-- and names it. It may be out of memory at any line, or behind the last, and ends there. After a bad line, and out of
+-- memory, nothing is said of the state.
 pub data Runs {S : Type 0} (tells : Telling S) (refuses : Refusing S) : S → List (ℕ × Bytes) → Bytes → Result
     (Unit {0}) Stop → S → Type 0 where
   ends : {s : S} → Runs tells refuses s [] [] (Ok tt) s
@@ -65,7 +71,7 @@ HasRunLine tells refuses s n line old new (Err stop.CannotWrite) t = Unit {0}
 HasRunLine tells refuses s n line old new (Err stop.CannotRead) t = ⊥
 HasRunLine tells refuses s n line old new (Err stop.TooLong) t = ⊥
 
--- a text was run so; where a write failed, nothing is said of what was written
+-- a text was run so; if a write failed, nothing is said
 abbrev pub HasRunText : {S : Type 0} → Telling S → Refusing S → S → Bytes → Option Bytes → Option Bytes
     → Result (Unit {0}) Stop → S → Type 0
 HasRunText tells refuses s text old new (Ok r) t = HasRun tells refuses s text old new (Ok r) t
@@ -77,8 +83,8 @@ HasRunText tells refuses s text old new (Err stop.CannotWrite) t = Unit {0}
 HasRunText tells refuses s text old new (Err stop.CannotRead) t = ⊥
 HasRunText tells refuses s text old new (Err stop.TooLong) t = ⊥
 
--- a script of so many bytes at most was run so, which is this text where it is known; one that could not be read, or
--- that is longer, ran no line
+-- a script was run so, and it is this text if that is known. One that could not be read, or that has more bytes than
+-- the limit, ran no line.
 abbrev pub HasRunScript : {S : Type 0} → ℕ → Telling S → Refusing S → S → Option Bytes → Option Bytes → Option Bytes
     → Result (Unit {0}) Stop → S → Type 0
 HasRunScript limit tells refuses s script old new (Err stop.CannotRead) t = Keeps old new × (t ≡ s)

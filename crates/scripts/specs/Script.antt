@@ -15,7 +15,7 @@ abbrev pub lines_with_feeds : List Bytes → Bytes
 lines_with_feeds [] = []
 lines_with_feeds (line ∷ more) = line ++ 10 ∷ lines_with_feeds more
 
--- the text, with a line feed after its last line where it lacks one
+-- the text, with a line feed after its last line if it lacks one
 abbrev pub text_with_last_feed : Bytes → Bytes
 text_with_last_feed [] = []
 text_with_last_feed (b ∷ []) = if b == 10 then b ∷ [] else b ∷ 10 ∷ []

@@ -25,7 +25,7 @@ pub record SpellsSlices (q : Slices) (word : Bytes) : Type 0 where
   pub threshold : word_threshold digits ≡ Some q.threshold
   pub members : SpellsMembers q.members (44 ∷ inside)
 
--- what a word is read as: slices that it spells and that keep the rules, or nothing where there are none such
+-- what a word is read as: slices that it spells and that keep the rules, or nothing if there are none such
 abbrev pub AreSlices : Bytes → Option Slices → Type 0
 AreSlices word (Some q) = SpellsSlices q word × IsNested q
 AreSlices word None = (q : Slices) → SpellsSlices q word → ¬ (IsNested q)

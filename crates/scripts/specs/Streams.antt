@@ -18,7 +18,7 @@ pub record IsNext (old new : Option Bytes) (bytes : Bytes) : Type 0 where
 abbrev pub IsWhole : Bytes → Type 0
 IsWhole text = text_with_last_feed text ≡ text
 
--- the text is a front of a script: whole lines, or all of it
+-- the text is a front of a script: whole lines, or the whole script
 pub record IsFrontOf (text script : Bytes) : Type 0 where
   pub rest : Bytes
   pub parts : script ≡ text ++ rest
@@ -38,8 +38,8 @@ HasRunRead limit tells refuses s script old new why t =
     (text : Bytes) × IfSome script (λ left. IsFrontOf text left) × (length text ≤ limit)
     × HasRun tells refuses s text old new (Err why) t
 
--- a script of so many bytes at most was run line by line as it was read. Where a read failed, or the script is longer,
--- the lines before were run; where a write failed, nothing is said.
+-- a script of at most this many bytes was run line by line as it was read. If a read failed, or the script is longer,
+-- the lines before were run. If a write failed, nothing is said.
 abbrev pub HasRunStream : {S : Type 0} → ℕ → Telling S → Refusing S → S → Option Bytes → Option Bytes → Option Bytes
     → Result (Unit {0}) Stop → S → Type 0
 HasRunStream limit tells refuses s script old new (Ok r) t =

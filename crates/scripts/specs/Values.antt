@@ -6,7 +6,7 @@ use Rattle.std.specs.Char.{is_ascii_alphanumeric}
 use Rattle.hex.specs.Hex.{IsBytes, decode_of, encode_lower}
 use Rattle.hex.specs.declared.error.FromHexError.{FromHexError}
 
--- letters and digits alone
+-- only letters and digits
 abbrev pub is_plain : List ℕ → Bool
 is_plain = list_all is_ascii_alphanumeric
 
@@ -14,11 +14,11 @@ is_plain = list_all is_ascii_alphanumeric
 abbrev pub is_lower_digit : ℕ → Bool
 is_lower_digit c = is_in_range 48 57 c || is_in_range 97 102 c
 
--- lower-case hexadecimal digits alone
+-- only lower-case hexadecimal digits
 abbrev pub is_lower_hex : List ℕ → Bool
 is_lower_hex = list_all is_lower_digit
 
--- these bytes as a value, where they are one to 256
+-- these bytes as a value, if they are one to 256
 abbrev pub value_in : List ℕ → Option (List ℕ)
 value_in bytes = if length bytes == 0 then None else if nat_lt 256 (length bytes) then None else Some bytes
 

@@ -2,7 +2,7 @@
 use Rattle.std.specs.Prelude.{List, [], ◌∷◌, Option, Some, option_map, option_and_then}
 use Rattle.scripts.specs.Script.{Bytes}
 
--- what the words spell, where each spells something
+-- what the words spell, if each spells something
 abbrev pub each_word : {A : Type 0} → (Bytes → Option A) → List Bytes → Option (List A)
 each_word spelled [] = Some []
 each_word spelled (word ∷ more) =

@@ -17,20 +17,20 @@ space_between one other = one ++ 32 ∷ other
 
 -- ---- numbers and ballots
 
--- decimal digits, of which the first is no 0 where there are several
+-- decimal digits, of which the first is no 0 if there are several
 abbrev pub is_decimal : Bytes → Bool
 is_decimal word =
     (nat_lt 0 (length word) && list_all is_digit word) && (nat_le (length word) 1 || not (slice_index word 0 == 48))
 
--- the number that a word spells, where it is below a bound
+-- the number that a word spells, if it spells one below a bound
 abbrev pub word_number : ℕ → Bytes → Option ℕ
 word_number bound word = if is_decimal word && nat_lt (number word) bound then Some (number word) else None
 
--- the number that a word spells, where it is below 2^32
+-- the number that a word spells, if it spells one below 2^32
 abbrev pub word_counter : Bytes → Option ℕ
 word_counter = word_number (2 ^ 32)
 
--- the number that a word spells, where it is below 2^8
+-- the number that a word spells, if it spells one below 2^8
 abbrev pub word_threshold : Bytes → Option ℕ
 word_threshold = word_number (2 ^ 8)
 

@@ -9,8 +9,8 @@ use crate::splitting::is_plain;
 use std::alloc::AllocError;
 use types::NodeId;
 
-/// The name that a word spells: one to 32 ASCII letters or digits stand for those bytes with zero
-/// bytes after them, and 64 lower-case hexadecimal digits for any 32 bytes. `None` for any other word.
+/// The name that a word spells. One to 32 ASCII letters or digits stand for those bytes with zero bytes after them, and
+/// 64 lower-case hexadecimal digits for any 32 bytes. `None` for any other word.
 pub fn name_of(word: &[u8]) -> Option<NodeId>
     ensures { result ≡ word_name word.now }
 {

@@ -15,7 +15,7 @@ use std::io::{Read, Write};
 /// `tells` says what a line prints and which state it leaves, and `refuses` which lines are bad. Only running out of
 /// memory is neither.
 pub trait LineRunner {
-    ghost use Rattle.scripts.specs.Runs.{Telling, Refusing};
+    ghost use Rattle.scripts.specs.Runs.{BadLinesAreUntold, Telling, Refusing};
 
     ghost tells: { Telling Self };
 
@@ -27,6 +27,9 @@ pub trait LineRunner {
         ensures told { IfOk result (λ printed.
             tells self.old (map (λ field. field.now) fields.now) (option_map string_bytes printed) self.new) }
         ensures bad { result ≡ Err LineError.Bad → refuses self.old (map (λ field. field.now) fields.now) };
+
+    /// No line is both bad and told. So a line that is called bad is never told, and one that is run is not bad.
+    ghost untold: { BadLinesAreUntold tells refuses };
 }
 
 /// Why a run ended before the end of its script.
@@ -60,8 +63,8 @@ impl From<ReadError> for Stop {
 }
 
 /// Reads a script whole and runs its lines in order, up to the first that is bad. What they print is written as it
-/// comes, and handed on (`out` is flushed) at the end: a caller with many short lines hands in a writer that keeps them
-/// together. If the script was not read, or a write failed, nothing is flushed.
+/// comes, and `out` is flushed at the end. So a caller with many short lines gives a writer that keeps them together.
+/// If the script was not read, or a write failed, nothing is flushed.
 pub fn run_script<S: LineRunner, R: Read, W: Write>(
     alloc: Global,
     runner: &mut S,
@@ -84,7 +87,7 @@ pub fn run_script<S: LineRunner, R: Read, W: Write>(
     }
 }
 
-/// Hands on what a run printed, and says how it ended. After a write that failed nothing is written.
+/// Flushes what a run printed, and says how it ended. After a write that failed nothing is flushed.
 fn hand_on<W: Write>(ran: Result<(), Stop>, out: &mut W) -> Result<(), Stop>
     ensures { (result ≡ Err Stop.CannotWrite) ⊎ ((result ≡ ran) × Keeps (W.contents out.old) (W.contents out.new)) }
 {
@@ -94,7 +97,7 @@ fn hand_on<W: Write>(ran: Result<(), Stop>, out: &mut W) -> Result<(), Stop>
     ran
 }
 
-/// Hands on what was written.
+/// Flushes what was written.
 pub(crate) fn flush<W: Write>(out: &mut W) -> Result<(), Stop>
     ensures kept { OnOk result (Keeps (W.contents out.old) (W.contents out.new)) }
     ensures failed { IsOkUnless result Stop.CannotWrite }

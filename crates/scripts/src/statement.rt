@@ -13,9 +13,9 @@ use types::{Ballot, Statement, Value, Values};
 
 /// The statement that a word spells. `None` for any other word.
 ///
-/// The forms are `nom(VOTED|ACCEPTED)`, each a list of values joined by `+` or nothing;
-/// `prep(BALLOT,PREPARED,a,h,c)`, where PREPARED is a ballot or `-`; `comm(BALLOT,prepared,h,c)`; and
-/// `ext(COMMIT,h)`. Whether the statement keeps the rules of its kind is not looked at here.
+/// The forms are `nom(VOTED|ACCEPTED)`, each a list of values joined by `+` or nothing; `prep(BALLOT,PREPARED,a,h,c)`,
+/// with a ballot or `-` as PREPARED; `comm(BALLOT,prepared,h,c)`; and `ext(COMMIT,h)`. Whether the statement keeps the
+/// rules of its kind is not looked at here.
 pub fn statement_of(alloc: Global, word: &[u8]) -> Result<Option<Statement>, AllocError>
     ensures { IfOk result (λ o. o ≡ word_statement word.now) }
 {

@@ -15,9 +15,10 @@ use std::io::{BufRead, ErrorKind, Read, Write};
 /// that is bad. What a line prints is written, and `out` flushed, before the next line is waited for.
 ///
 /// Lines, their numbers and the limit are those of [`crate::run_script`], which reads its script whole first. Here the
-/// lines before a fault have been run, whatever the fault: a read that fails ([`Stop::CannotRead`]), a line with which
-/// there are more than `LONGEST_SCRIPT` bytes ([`Stop::TooLong`]), or running out of memory for a line. What they
-/// printed stays printed. A last line without a line feed is run at the end of the input, and nothing is read after it.
+/// lines before a fault have been run, whatever the fault. It may be a read that fails ([`Stop::CannotRead`]), a line
+/// with which there are more than `LONGEST_SCRIPT` bytes ([`Stop::TooLong`]), or running out of memory for a line. What
+/// the lines before printed stays printed. A last line without a line feed is run at the end of the input, and nothing
+/// is read after it.
 pub fn run_stream<S: LineRunner, R: BufRead, W: Write>(
     alloc: Global,
     runner: &mut S,
@@ -93,7 +94,7 @@ fn without_feed(bytes: &[u8]) -> (&[u8], bool)
     }
 }
 
-/// Runs one line and hands on what it prints.
+/// Runs one line and flushes what it prints.
 fn answer_line<S: LineRunner, W: Write>(
     alloc: Global,
     runner: &mut S,

@@ -10,9 +10,8 @@ use crate::splitting::{is_plain, split_once};
 use std::alloc::{AllocError, Global};
 use types::{Ballot, MAX_VALUE_LENGTH, Value};
 
-/// The value that a word spells: 1 to 256 ASCII letters or digits stand for themselves, and `#` with
-/// twice as many lower-case hexadecimal digits for any 1 to 256 bytes. `None` for any other word, for
-/// which no memory is asked.
+/// The value that a word spells. One to 256 ASCII letters or digits stand for themselves, and `#` with two lower-case
+/// hexadecimal digits a byte for any one to 256 bytes. `None` for any other word, for which no memory is asked.
 pub fn value_of(alloc: Global, word: &[u8]) -> Result<Option<Value>, AllocError>
     ensures value { IfOk result (λ o. o ≡ word_value word.now) }
     // No memory is asked for what is no value.

@@ -12,7 +12,7 @@ use Rattle.requests.specs.declared.ask.Ask.TheVariants as ask
 use Rattle.requests.specs.declared.request.Declaration.TheVariants as declaration
 
 -- ---- one network of a host
--- an entry of this number alone, if there is one
+-- only the entry of this number, if there is one
 abbrev pub only : {X : Type 0} → ℕ → Option X → List (ℕ × X)
 only g None = []
 only g (Some x) = (g, x) ∷ []
@@ -54,8 +54,8 @@ abbrev pub IdleLinesChangeNothing : Type 0
 IdleLinesChangeNothing =
     (l t : Live) (n : ℕ) (line : Option Bytes) (a : LineReply) → Serves l n line a t → a.done ≡ None → t ≡ l
 
--- What a line is answered that did something to a network, it is answered by the host that has this network alone, and so
--- it leaves it; and it leaves all others as they were.
+-- A line did something to a network. The host that has only this network may answer it in the same way, and then has
+-- the network as it is now. All other networks are as they were.
 abbrev pub LinesAreLocal : Type 0
 LinesAreLocal =
     (l t : Live) (n : ℕ) (line : Option Bytes) (a : LineReply) (d : Done) → IsOrdered l → Serves l n line a t
@@ -66,8 +66,8 @@ LinesAreLocal =
 abbrev pub HasRoomForNetwork : Live → Type 0
 HasRoomForNetwork l = length l.waiting + length l.running < 4096
 
--- What a line is answered, and what it does, where there is one network alone, it is answered and does next to others, where
--- there is room for the network that it may declare.
+-- What a line is answered by the host that has only its network, it may be answered next to others, and it does the
+-- same. The others stay. There has to be room for the network that the line may declare.
 abbrev pub LinesAreAnsweredNextToOthers : Type 0
 LinesAreAnsweredNextToOthers =
     (l own : Live) (n : ℕ) (line : Option Bytes) (a : LineReply) (d : Done) → IsOrdered l → HasRoomForNetwork l
@@ -86,15 +86,16 @@ AnswersAreLocal =
     (l t : Live) (n g : ℕ) (asked : Ask) (a : LineReply) → IsOrdered l → HasRoomToAnswer asked l → IsAskAnswered n g asked l a t
     → IsAskAnswered n g asked (alone g l) a (alone g t) × OthersStay g l t
 
--- what it is answered where there is no other network, it may be answered next to others
+-- what it is answered if there is no other network, it may be answered next to others
 abbrev pub AnswersAreGivenNextToOthers : Type 0
 AnswersAreGivenNextToOthers =
     (l own : Live) (n g : ℕ) (asked : Ask) (a : LineReply) → IsOrdered l → HasRoomToAnswer asked l
     → IsAskAnswered n g asked (alone g l) a own
     → (t : Live) × IsAskAnswered n g asked l a t × (alone g t ≡ own) × OthersStay g l t
 
--- Of two hosts in which a network is alike, whatever their others are, what the one answers to a line that did something to
--- it the other answers, but for the number of the line, and it is alike after it.
+-- Two hosts have a network that is alike, whatever their others are, and the other host has room for one network more.
+-- What the one answers to a line that did something to the network, the other may answer too, but for the number of the
+-- line. The network is alike afterwards, and the others stay.
 abbrev pub AlikeNetworksAreAnsweredAlike : Type 0
 AlikeNetworksAreAnsweredAlike =
     (l other t : Live) (n : ℕ) (line : Option Bytes) (a : LineReply) (d : Done) → IsOrdered l → IsOrdered other
@@ -146,9 +147,9 @@ AreAllSameButForNumbers [] (p ∷ ps) = ⊥
 AreAllSameButForNumbers (o ∷ os) [] = ⊥
 AreAllSameButForNumbers (o ∷ os) (p ∷ ps) = AreSameButForNumbers o p × AreAllSameButForNumbers os ps
 
--- What becomes of a network among others becomes of it by its own lines alone, all of which are kept; and they do the same
--- and are answered alike but for their numbers. It is so from any host on in which each network stands for one of the
--- definitions.
+-- What becomes of a network among others becomes of it by only its own lines, all of which are kept. They do the same
+-- and are answered alike but for their numbers. It is so from any host on, if its networks are in order and each stands
+-- for one of the definitions.
 abbrev pub NetworksGoOnByTheirOwnLines : Type 0
 NetworksGoOnByTheirOwnLines =
     (longest : ℕ) (l : Live) (n : ℕ) (lines journal : List Bytes) (text : Bytes) (t : Live)
@@ -159,7 +160,7 @@ NetworksGoOnByTheirOwnLines =
     (behind_numbers k blocks) (alone g t))
     × AreAllSameButForNumbers (lines_of_network g run) (lines_of_network g again))
 
--- what becomes of a network among others, from a host without networks on, becomes of it by its own lines alone
+-- what becomes of a network among others, from a host without networks on, becomes of it by only its own lines
 abbrev pub NetworksFollowTheirOwnLines : Type 0
 NetworksFollowTheirOwnLines =
     (longest : ℕ) (bytes : Bool) (n : ℕ) (lines journal : List Bytes) (text : Bytes) (t : Live)
@@ -171,7 +172,7 @@ NetworksFollowTheirOwnLines =
     × AreAllSameButForNumbers (lines_of_network g run) (lines_of_network g again))
 
 -- ---- many networks
--- the host has room for one network, and for one more beside
+-- the host has room for two more networks
 abbrev pub HasRoomToSpare : Live → Type 0
 HasRoomToSpare l = length l.waiting + length l.running + 1 < 4096
 
@@ -181,9 +182,10 @@ abbrev pub KeepsRoom : {longest n : ℕ} {s t : Live} {lines journal : List Byte
 KeepsRoom none = Unit {0}
 KeepsRoom (next {s} a serves others) = HasRoomToSpare s × KeepsRoom others
 
--- Two hosts had the same lines of a network, and any others. What became of it in the one may become of it in the other:
--- its journal may be served with that network as it was in the one, answered as it was there but for the numbers, and with
--- all others, and the answers to their lines, as they were in the other.
+-- Two hosts had the same lines of a network, and any others, and the other host had room for two more networks before
+-- each line. Then its journal may be served with that network as it became in the one. The lines of the network are
+-- answered as there but for the numbers. All other networks, and the answers to their lines, are as they were in the
+-- other.
 abbrev pub NetworksAreApart : Type 0
 NetworksAreApart =
     (longest : ℕ) (bytes : Bool) (g n : ℕ) (lines journal : List Bytes) (text : Bytes) (t : Live)
@@ -200,9 +202,9 @@ abbrev pub IsNoneOf : ℕ → List ℕ → Type 0
 IsNoneOf h [] = Unit {0}
 IsNoneOf h (g ∷ gs) = (h ≢ g) × IsNoneOf h gs
 
--- Of two hosts that had the same lines of each network, in whatever order those of different networks came, the journal of
--- the one may lead to what the other is, with the same answers but for the numbers; if they had lines of fewer networks than
--- may be declared at once.
+-- Two hosts had the same lines of each network, in whatever order those of different networks came. They had lines of
+-- fewer networks than may be declared at once. Then the journal of the one may lead to what the other is, with the same
+-- answers but for the numbers.
 abbrev pub OrderAmongNetworksDoesNotCount : Type 0
 OrderAmongNetworksDoesNotCount =
     (longest : ℕ) (bytes : Bool) (n : ℕ) (lines journal : List Bytes) (text : Bytes) (t : Live)
@@ -215,11 +217,11 @@ OrderAmongNetworksDoesNotCount =
     × ((g : ℕ) → AreAllSameButForNumbers (lines_of_network g run) (lines_of_network g again))
 
 -- ---- hosts by their networks
--- hosts are alike whose networks are alike, each one alone
+-- hosts whose networks are in order are alike, if each network by itself is alike
 abbrev pub HostsAreAlikeByNetworks : Type 0
 HostsAreAlikeByNetworks =
     (l other : Live) → IsOrdered l → IsOrdered other → ((g : ℕ) → AreAlike (alone g l) (alone g other)) → AreAlike l other
 
--- of alike hosts each network alone is alike
+-- of alike hosts each network by itself is alike
 abbrev pub NetworksOfAlikeHostsAreAlike : Type 0
 NetworksOfAlikeHostsAreAlike = (l other : Live) (g : ℕ) → AreAlike l other → AreAlike (alone g l) (alone g other)

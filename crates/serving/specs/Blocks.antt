@@ -66,11 +66,11 @@ closing_of (IsDone stale) = closing_of_done stale
 abbrev pub block_of : Bool → ℕ → ℕ → ℕ → List ToldReply → Ending → Bytes
 block_of bytes n g i told ending = flat_map (line_of_telling bytes n g i) told ++ closing_line n (closing_of ending)
 
--- ---- want of memory
--- how a line ends that says that memory was wanting: ` refused 13 NoMemory`, and a line feed (10)
+-- ---- out of memory
+-- how a line ends that says that it was out of memory: ` refused 13 NoMemory`, and a line feed (10)
 abbrev pub want_of_memory : Bytes
 want_of_memory = (32 ∷ refusal_text NoMemory) ++ 10 ∷ []
 
--- nothing in a block says that memory was wanting
+-- nothing in a block says that it was out of memory
 abbrev pub TellsOfNoWant : Bytes → Type 0
 TellsOfNoWant text = (front rest : Bytes) → text ≢ front ++ (want_of_memory ++ rest)

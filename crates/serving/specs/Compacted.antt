@@ -34,9 +34,9 @@ use Rattle.serving.specs.Merging.{AreBothAlike, RunsAlone}
 use Rattle.serving.specs.declared.all.NodeAnswer.{NodeAnswer}
 
 -- ---- the law
--- The shorter journal of a host that lines led to, where no block said that memory was wanting, is whole lines, each of which
--- is kept, and they may lead to a host that is alike. So that its own lines are not too long, the longest may not be too
--- short: `close N 0` has at most 18 bytes.
+-- The shorter journal of a host that lines led to, if no block said that it was out of memory. It is whole lines, each
+-- of which is kept, and they may lead to a host that is alike. So that its own lines are not too long, the longest may
+-- not be too short: `close N 0` has at most 18 bytes.
 abbrev pub ShorterJournalsLeadToAlikeHosts : Type 0
 ShorterJournalsLeadToAlikeHosts =
     (longest : ℕ) → 32 ≤ longest → (bytes : Bool) (lines journal : List Bytes) (text : Bytes) (w : Watched Live)
@@ -290,7 +290,7 @@ pub record AreLinesKnown (longest : ℕ) (bytes : Bool) (n : ℕ) (l : Live) (li
       (of_network g applied) (alone g l)
 
 -- ---- laws of one network
--- what its lines that last make of a network, behind one more line of it
+-- what its lines that last make of a network, behind one more of its lines
 abbrev pub NetworksAreMade : Type 0
 NetworksAreMade =
     (longest : ℕ) (bytes : Bool) (g n : ℕ) (line text : Bytes) (d : Deed) (net : Option NetworkLines)
@@ -300,8 +300,8 @@ NetworksAreMade =
     → IsMade longest bytes g (network_behind n d net) (declarations_behind n line g d ds) (applied_behind n line g d es) new
 
 -- ---- laws of lines
--- Where the lines of open slots led to a network and a slot is closed, the lines of all others lead to one that is alike,
--- if it began with budgets that are less by what the lines of the slot drew, and its closing.
+-- The lines of open slots led to a network, and a slot is closed. Then the lines of all others lead to one that is
+-- alike, if it begins with less in its budgets. It is less by what the lines of the slot drew, and its closing.
 abbrev pub SlotsMayBeErased : Type 0
 SlotsMayBeErased =
     (longest : ℕ) (bytes : Bool) (g n i : ℕ) (line text : Bytes) (d : Drawn) (c : Config) (es : List AppliedLine)
@@ -311,8 +311,8 @@ SlotsMayBeErased =
     → (rest : Config) × (left : Machine) × (c ≡ moved_config (all_drawn (lines_at_slot i es) d) rest)
     × AreApplied longest g (begun rest) (but_at_slot i es) left × IsAlike after left
 
--- An event that is refused changes nothing that matters: where the lines of open slots led to a network that is alike, they
--- may lead to one that is alike afterwards.
+-- An event that is refused changes nothing that matters. If the lines of open slots led to a network that is alike,
+-- they may lead to one that is alike afterwards.
 abbrev pub RefusedLinesStayAlike : Type 0
 RefusedLinesStayAlike =
     (longest : ℕ) (bytes : Bool) (g n : ℕ) (line text : Bytes) (c : Config) (es : List AppliedLine)
@@ -332,7 +332,7 @@ DeclarationsMayBeLowered =
 abbrev pub naming_line : ℕ → Bytes
 naming_line g = codes "close " ++ (decimal g ++ 32 ∷ 48 ∷ [])
 
--- The line that names a network begins it, where lines declared it, and changes nothing more.
+-- The line that names a network begins it, if lines declared it, and changes nothing more.
 abbrev pub NamingLinesBegin : Type 0
 NamingLinesBegin =
     (longest : ℕ) → 32 ≤ longest → (bytes : Bool) (g : ℕ) (texts : List Bytes) (o : Outlined) (c : Config)

@@ -1,5 +1,5 @@
--- A slot of a network is erased, and what was drawn by all that happened at it is taken off the budgets: all that happens
--- at other slots comes to the same.
+-- A slot of a network is erased, and what was drawn by all that happened at it is taken off the budgets. All that
+-- happens at other slots comes to the same.
 use Rattle.std.specs.List.{AllByRecursion}
 use Rattle.std.specs.Prelude.{◌⊎◌, ◌≡◌, ◌+◌, ◌-◌, ◌≤◌, ◌==◌, not, ℕ, Bool, true, false, List, [], ◌∷◌, filter, Option, Some, None, option_map, map, if◌then◌else◌}
 use Rattle.types.specs.declared.event.Out.{Out}
@@ -57,9 +57,9 @@ slots_but i slots = filter (λ s. not (s.number == i)) slots
 abbrev pub draws_but : ℕ → List Draw → List Draw
 draws_but i draws = filter (λ d. not (d.slot == i)) draws
 
--- The slot of a number is erased, at which so much was drawn, and so much is still to be drawn: what is left has the other slots,
--- and what was drawn on their shares. It counts less by what was drawn at the slot, and its budgets are less by what is
--- drawn there in all.
+-- The slot of a number is erased, at which so much was drawn (`lost`), and so much is still to be drawn (`rest`). What
+-- is left has the other slots, and what was drawn on their shares. It counts less by what was drawn at the slot, and
+-- its budgets are less by what is drawn there in all.
 pub record IsErased (i : ℕ) (rest lost : Drawn) (net left : Net) : Type 0 where
   pub number : left.number ≡ net.number
   pub nodes : left.nodes ≡ net.nodes
@@ -92,16 +92,16 @@ abbrev pub opens_slot : Step → Bool
 opens_slot (Opens i) = true
 opens_slot _ = false
 
--- A step at another slot that is done is done where one slot is left out too, if there is room afterwards for all that
--- is still to be drawn.
+-- A step at another slot that is done is also done if one slot is left out. There has to be room afterwards for all
+-- that is still to be drawn.
 abbrev pub ErasedNetsStepAlike : Type 0
 ErasedNetsStepAlike =
     (i : ℕ) (rest lost : Drawn) (net left : Net) (e : Step) (os : List Out) → IsErased i rest lost net left
     → is_step_at i e ≡ false → (net_step net e).1 ≡ Done os → HasRoomForMore rest (net_step net e).0
     → ((net_step left e).1 ≡ Done os) × IsErased i rest lost (net_step net e).0 (net_step left e).0
 
--- a step that is refused is refused where one slot is left out too, if not always for the same reason; but for an
--- opening, since there may be too many slots with this one
+-- A step at another slot that is refused is also refused if one slot is left out. The reason may be another. It is so
+-- but for an opening, since there may be too many slots with this one.
 abbrev pub ErasedNetsRefuseAlike : Type 0
 ErasedNetsRefuseAlike =
     (i : ℕ) (rest lost : Drawn) (net left : Net) (e : Step) (r : Refusal) → IsErased i rest lost net left
@@ -116,15 +116,15 @@ StepsThereAreErased =
     → IsErased i rest (both_amounts lost (drawn_in net (net_step net e).0)) (net_step net e).0 left
 
 -- ---- events that are served
--- the same is told; but where memory was wanting, a step may be refused for another reason
+-- the same is told; but what was refused because it was out of memory may be refused for another reason
 pub data AreToldAs : List ToldReply → List ToldReply → Type 0 where
   none_told : AreToldAs [] []
   told_so : {ts ss : List ToldReply} (t : ToldReply) → AreToldAs ts ss → AreToldAs (t ∷ ts) (t ∷ ss)
   wanting_so : {ts ss : List ToldReply} (u : ℕ) (r : Refusal) → AreToldAs ts ss
       → AreToldAs (record { node = u; reply = Refused NoMemory } ∷ ts) (record { node = u; reply = Refused r } ∷ ss)
 
--- An event at another slot that is done, with all that the others hear of it, is done where one slot is left out too,
--- if there is room afterwards for all that is still to be drawn.
+-- An event at another slot that is done, with all that the others hear, is also done if one slot is left out. There has
+-- to be room afterwards for all that is still to be drawn.
 abbrev pub ErasedNetsServeAlike : Type 0
 ErasedNetsServeAlike =
     (i : ℕ) (rest lost : Drawn) (net left : Net) (e : Step) (stale : Bool) (told : List ToldReply) (after : Net)
@@ -133,8 +133,8 @@ ErasedNetsServeAlike =
     → (told_too : List ToldReply) × (after_too : Net) × AreToldAs told told_too × IsServed left e (IsDone stale) told_too after_too
     × IsErased i rest lost after after_too
 
--- an event that is refused is refused where one slot is left out too, if not always for the same reason; but for an
--- opening
+-- An event at another slot that is refused is also refused if one slot is left out. The reason may be another. It is so
+-- but for an opening.
 abbrev pub ErasedNetsRefuseEventsAlike : Type 0
 ErasedNetsRefuseEventsAlike =
     (i : ℕ) (rest lost : Drawn) (net left : Net) (e : Step) (r : Refusal) (told : List ToldReply) (after : Net)
@@ -174,7 +174,7 @@ pub record IsErasedBy (i : ℕ) (rest lost : Drawn) (m left : Machine) : Type 0 
 abbrev pub StandsAsWell : Machine → Machine → Type 0
 StandsAsWell m n = (net : Net) → StandsFor m net → StandsFor n net
 
--- nothing was refused for want of memory
+-- it was not refused because it was out of memory
 abbrev pub IsEnough : ToldReply → Type 0
 IsEnough t = t.reply ≡ Refused NoMemory → ⊥
 
@@ -187,15 +187,15 @@ abbrev pub IsNoRefusedOpening : Step → Served → Type 0
 IsNoRefusedOpening (Opens i) s = s.refused ≡ None
 IsNoRefusedOpening _ s = Unit {0}
 
--- the same came of it, or it was refused for another reason, and not for want of memory
+-- the same came of it, or it was refused for another reason, and not because it was out of memory
 abbrev pub CameAs : Served → Served → Type 0
 CameAs s t =
     (t ≡ s)
     ⊎ ((r : Refusal) × (other : Refusal) × (s.refused ≡ Some r) × (other ≡ NoMemory → ⊥)
     × (t ≡ record s { refused = Some other }))
 
--- An event at another slot comes to the same where one slot is left out, if memory sufficed, and there is room
--- afterwards for all that is still to be drawn.
+-- An event at another slot comes to the same if one slot is left out. This is so if memory sufficed, and the event is
+-- no opening that was refused. There has to be room afterwards for all that is still to be drawn.
 abbrev pub ErasedMachinesServeAlike : Type 0
 ErasedMachinesServeAlike =
     (i : ℕ) (rest lost : Drawn) (m left : Machine) (e : Step) (after : Machine) (s : Served)
@@ -220,7 +220,8 @@ pub data CameAllAs : List NodeAnswer → List NodeAnswer → Type 0 where
   next_came : {a b : NodeAnswer} {answers others : List NodeAnswer}
       → b.node ≡ a.node → CameAs a.served b.served → CameAllAs answers others → CameAllAs (a ∷ answers) (b ∷ others)
 
--- bytes of another slot that come to nodes come to the same where one slot is left out
+-- bytes of another slot that come to nodes come to the same if one slot is left out, memory sufficed and there is room
+-- afterwards
 abbrev pub ErasedMachinesServeAllAlike : Type 0
 ErasedMachinesServeAllAlike =
     (i : ℕ) (rest lost : Drawn) (m left : Machine) (bytes : Bytes) (us : List ℕ) (answers : List NodeAnswer)
@@ -294,9 +295,10 @@ pub data AreOthers (i : ℕ) : List Line → List Line → Type 0 where
   one_other : {l k : Line} {lines others : List Line}
       → is_line_at i l ≡ false → IsSameLine l k → AreOthers i lines others → AreOthers i (l ∷ lines) (k ∷ others)
 
--- The lines of a network lead from its beginning to where the slot is not open. Then all its lines but those of the slot
--- lead from the beginning of one of which less was declared, by all that the lines of the slot drew, to the same machine
--- with so much less declared and used up.
+-- The lines of a network lead from its beginning to a state in which the slot is not open. Take one of which less was
+-- declared, by all that the lines of the slot drew. Then all lines but those of the slot lead from its beginning to the
+-- same machine with so much less declared and used up. This is so if memory sufficed for these lines, and none is an
+-- opening that was refused.
 abbrev pub ClosedSlotsAreErased : Type 0
 ClosedSlotsAreErased =
     (i : ℕ) (c : Config) (lines : List Line) (m : Machine) → AreServedInTurn (begun c) lines m

@@ -24,8 +24,8 @@ moved_shares d s = record s { opens = s.opens + d.opens }
 abbrev pub moved_roster : Drawn → Roster → Roster
 moved_roster d r = record r { shares = moved_shares d r.shares }
 
--- a network with so many more events and bytes in its budgets, and so many more openings and closings in its roster, if it
--- has one; of which as many more are used up
+-- A network with this many more events and bytes in its budgets, and as many more that are used up. Openings and
+-- closings are more too: those that are used up, and those of its roster, if it has one.
 abbrev pub moved_net : Drawn → Net → Net
 moved_net d net = record net {
   budgets = moved_budgets d net.budgets;
@@ -55,7 +55,7 @@ MovedNetsStepAlike =
     (d : Drawn) (net : Net) (e : Step)
     → net_step (moved_net d net) e ≡ (moved_net d (net_step net e).0, (net_step net e).1)
 
--- An event comes to the same, with all that the others hear of it, if so much more is declared and used up.
+-- An event comes to the same, with all that the others hear, if so much more is declared and used up.
 abbrev pub MovedMachinesServeAlike : Type 0
 MovedMachinesServeAlike =
     (d : Drawn) (old new : Machine) (e : Step) (s : Served)

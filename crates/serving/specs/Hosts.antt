@@ -52,7 +52,7 @@ pub record Live : Type 0 where
 abbrev pub new_live : Bool → Live
 new_live bytes = record { bytes = bytes; waiting = []; running = [] }
 
--- the network of a number, where it runs
+-- the network of a number, if it runs
 abbrev pub live_at : Live → ℕ → Option Machine
 live_at l g = lookup (is_at (nat_cmp g)) l.running
 
@@ -101,8 +101,8 @@ abbrev pub deed_of : Event → Served → Drawn → Deed
 deed_of e s d = deed_by s.refused e s.slot d
 
 -- ---- declarations
--- A declaration is taken. A network is one that is not declared, where fewer than 4,096 are; a node and a roster are those
--- of a network that waits.
+-- A declaration is taken. A network is taken if it is not declared, and fewer than 4,096 are. A node or a roster is
+-- taken of a network that waits and may have it.
 abbrev pub takes_declaration : Live → ℕ → Declaration → Bool
 takes_declaration l g (declaration.Net b) =
     not (is_some (waiting_at l.waiting g)) && (not (is_some (live_at l g)) && nat_lt (length l.waiting + length l.running) 4096)
@@ -297,7 +297,7 @@ abbrev pub IsAnsweredOnceBegun : ℕ → ℕ → (Live → LineReply → Live �
 IsAnsweredOnceBegun n g answers old a new =
     (is : Bool) × (now : Live) × IsBegun g old is now × IsAnsweredThen is n answers now a new
 
--- The answer to what a line asks of the network of a number. A declaration or a `drop` is kept where it is taken; a
+-- The answer to what a line asks of the network of a number. A declaration or a `drop` is kept if it is taken. A
 -- question is not kept, and changes nothing.
 abbrev pub IsAskAnswered : ℕ → ℕ → Ask → Live → LineReply → Live → Type 0
 IsAskAnswered n g (ask.Declare d) old a new =
@@ -324,13 +324,13 @@ IsLineAnswered n line old a new =
     (IsBad line × IsBadLine n old a new)
     ⊎ ((fields : List Bytes) × AreFields line fields × AreFieldsAnswered n fields old a new)
 
--- What a line is answered: its block, which is none where the line is skipped, and what it did, where it is kept. A line
--- that is too long is bad.
+-- What a line is answered: its block, which is none if the line is skipped, and what it did, if it is kept. A line that
+-- is too long is bad.
 abbrev pub Serves : Serving Live
 Serves old n None a new = IsBadLine n old a new
 Serves old n (Some line) a new =
     (IsSkipped line × (a ≡ unanswered) × (new ≡ old)) ⊎ ((IsSkipped line → ⊥) × IsLineAnswered n line old a new)
 
--- likewise where a journal is kept, which tells what a line did only if memory sufficed: no block says that it was wanting
+-- likewise with a journal, which tells what a line did only if memory sufficed: no block says that it was out of memory
 abbrev pub Remembers : Serving Live
 Remembers old n line a new = Serves old n line a new × TellsOfNoWant a.text

@@ -42,7 +42,7 @@ inserted-is-found {X} (e ∷ es) g x = step (nat_cmp g e.0) refl (inserted-is-fo
     step Equal is others = ap (λ o. cond (is_eq o) (Some x) (lookup (is_at (nat_cmp g)) es)) is
     step Greater is others = ap (λ o. cond (is_eq o) (Some e.1) (lookup (is_at (nat_cmp g)) (insert_entry nat_cmp es g x))) is ∙ others
 
--- where a network has begun and does not run, it did not wait, so nothing was started
+-- if a network has begun and does not run, it did not wait, so nothing was started
 not-started : (waits : Option Outlined) (g : ℕ) (old now : Live) → IsStarted waits g old now → live_at now g ≡ None → now ≡ old
 not-started None g old now same none = same
 not-started (Some d) g old now (c, of, waiting, running, bytes) none =
@@ -142,8 +142,8 @@ live_kept_lines_are_whole old new n line a (inr (runs, inl bad)) kept = not-both
 live_kept_lines_are_whole old new n line a (inr (runs, inr (fields, are, answer))) kept =
     subst (λ bytes. has_no_hole bytes ≡ true) are.0 (fields-are-whole fields are.1)
 
--- ---- where a journal is kept
--- where nothing is told, nothing says that memory was wanting
+-- ---- if a journal is kept
+-- if nothing is told, nothing says that it was out of memory
 pub none_told : TellsOfNoWant []
 none_told [] rest is = cc
 none_told (b ∷ front) rest is = cc

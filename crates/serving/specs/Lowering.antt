@@ -1,5 +1,5 @@
--- Networks that are declared with less: the lines that declare one, lowered by what was drawn on its budgets, declare as
--- much less of it.
+-- Networks that are declared with less: the lines that declare one are lowered by what was drawn on its budgets, and
+-- declare as much less.
 use Rattle.std.specs.Prelude.{◌≡◌, ◌+◌, ◌-◌, ◌≤◌, ◌++◌, ◌∷◌, [], true, Bool, ℕ, List, length, map, IfSome, Option, Some, option_map}
 use Rattle.protocol.specs.Hosts.{Config}
 use Rattle.protocol.specs.Networks.{Budgets}
@@ -121,11 +121,11 @@ LoweredDeclarationsDeclareLess =
     (d : Drawn) (longest g n k : ℕ) (l t : Live) (lines : List Bytes) → AreDeclared longest g l n lines t
     → AreDeclared longest g (less_live d l) k (map (lowered d) lines) (less_live d t)
 
--- a host where the network of a number waits, and no other
+-- a host that has only the network of a number, which waits
 abbrev pub waits_alone : Bool → ℕ → Outlined → Live
 waits_alone b g o = record { bytes = b; waiting = (g, o) ∷ []; running = [] }
 
--- lines that declare something of one network leave that network, where there was none
+-- lines that declare something of one network leave that network, if there was none
 abbrev pub DeclarationsLeaveOne : Type 0
 DeclarationsLeaveOne =
     (longest g n : ℕ) (b : Bool) (t : Live) (line : Bytes) (lines : List Bytes)
@@ -147,7 +147,7 @@ pub record Covers (c : Config) (d : Drawn) : Type 0 where
 abbrev pub LessIsMovedBack : Type 0
 LessIsMovedBack = (d : Drawn) (c : Config) → Covers c d → moved_config d (less_config d c) ≡ c
 
--- this is used up of a network where no slot is open
+-- this is used up of a network without open slots
 abbrev pub used_up : Config → Drawn → Machine
 used_up c d = record { config = c; slots = []; events = d.events; bytes = d.bytes; opens = d.opens }
 
@@ -155,7 +155,7 @@ used_up c d = record { config = c; slots = []; events = d.events; bytes = d.byte
 abbrev pub BegunWithLess : Type 0
 BegunWithLess = (d : Drawn) (c : Config) → Covers c d → moved d (begun (less_config d c)) ≡ used_up c d
 
--- a host where this network runs, and there is no other
+-- a host that has only this network, which runs
 abbrev pub runs_alone : Bool → ℕ → Machine → Live
 runs_alone b g m = record { bytes = b; waiting = []; running = (g, m) ∷ [] }
 

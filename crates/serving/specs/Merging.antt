@@ -1,4 +1,4 @@
--- Hosts that are put together from their networks: where each network is given with its own lines, there is one host that
+-- Hosts that are put together from their networks: if each network is given with its own lines, there is one host that
 -- has them all.
 use Rattle.std.specs.Prelude.{◌≡◌, ◌≤◌, ◌==◌, ◌++◌, ℕ, Bool, IsTrue, List, [], ◌∷◌, map, length, Option, Some, None, if◌then◌else◌}
 use Rattle.protocol.specs.Sets.{among}
@@ -17,8 +17,8 @@ use Rattle.serving.specs.Hosts.{Live, Serves, live_at, new_live}
 abbrev pub HasRoomToDeclare : ℕ → Live → Type 0
 HasRoomToDeclare g l = waiting_at l.waiting g ≡ None → live_at l g ≡ None → HasRoomForNetwork l
 
--- What a line is answered where there is its network alone, it is answered next to others, where this network is declared,
--- or there is room for it.
+-- What a line is answered if there is only its network, it may be answered next to others, if this network is declared
+-- there, or there is room for it.
 abbrev pub LinesAreAnsweredWhereRoomIs : Type 0
 LinesAreAnsweredWhereRoomIs =
     (l own : Live) (n : ℕ) (line : Option Bytes) (a : LineReply) (d : Done) → IsOrdered l → HasRoomToDeclare d.network l
@@ -34,19 +34,19 @@ pub data RunsAlone (longest g : ℕ) : Live → List Bytes → Live → Type 0 w
       → Serves l n (given longest line) a now → a.done ≡ Some d → d.network ≡ g → RunsAlone longest g now lines new
       → RunsAlone longest g l (line ∷ lines) new
 
--- lines that a network is served alone may be served from any number on, and a journal has them all
+-- lines that each do something to one network may be served from any number on, and a journal has them all
 abbrev pub LinesAloneAreServed : Type 0
 LinesAloneAreServed =
     (longest g : ℕ) (l new : Live) (lines : List Bytes) → AreAlike l l → RunsAlone longest g l lines new
     → (n : ℕ) → (text : Bytes) × ServesAll Serves longest l n lines lines text new
 
--- lines that a network is served alone, and then others, may be served as one sequence of lines
+-- lines that each do something to one network, and then others that do so, may be served as one sequence of lines
 abbrev pub LinesAloneInTurn : Type 0
 LinesAloneInTurn =
     (longest g : ℕ) (l now new : Live) (lines more : List Bytes) → RunsAlone longest g l lines now
     → RunsAlone longest g now more new → RunsAlone longest g l (lines ++ more) new
 
--- the lines of a network in a run are lines that it is served alone
+-- the lines of a network in a run may be served without the others, and each does something to it
 abbrev pub OwnLinesRunAlone : Type 0
 OwnLinesRunAlone =
     (longest : ℕ) (bytes : Bool) (n : ℕ) (lines journal : List Bytes) (text : Bytes) (t : Live)
@@ -67,8 +67,8 @@ abbrev pub AreLinesOf : List ℕ → List (ℕ × Bytes) → Type 0
 AreLinesOf numbers [] = Unit {0}
 AreLinesOf numbers (e ∷ es) = IsTrue (among numbers e.0) × AreLinesOf numbers es
 
--- Lines that each network is served alone may be served in any order in which those of each network stay in theirs: what
--- becomes of each network is the same.
+-- Each of at most 4,096 networks may be served its own lines, with no other network there. Then all lines may be served
+-- in any order in which those of each network stay in theirs. What becomes of each network is the same.
 abbrev pub LinesMayBeMerged : Type 0
 LinesMayBeMerged =
     (longest : ℕ) (bytes : Bool) (n : ℕ) (lines : List (ℕ × Bytes)) (numbers : List ℕ) (own : ℕ → Live)

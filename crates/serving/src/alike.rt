@@ -9,15 +9,15 @@ pub fn moved_nets_step_alike()
     ensures { MovedNetsStepAlike }
 {}
 
-/// A law: what an event comes to, with all that the others hear of it, is the same if more is declared and as much more
-/// is used up.
+/// A law: what an event comes to, with all that the others hear, is the same if more is declared and as much more is
+/// used up.
 pub fn moved_machines_serve_alike()
     ensures more { MovedMachinesServeAlike }
     ensures no_more { MovedMachinesServeNoMore }
 {}
 
 /// A law: two hosts whose networks have the same open slots, and as much left of their budgets, answer each line alike,
-/// and so all that follow: what is told of them and what a journal keeps of them is the same.
+/// and so all that follow. What is told of them and what a journal keeps of them is the same.
 pub fn alike_hosts_answer_alike()
     ensures line { AlikeHostsAnswerAlike }
     ensures lines { FuturesAreAlike }

@@ -14,8 +14,8 @@ pub fn steps_there_are_erased()
     ensures { StepsThereAreErased }
 {}
 
-/// A law: an event at another slot comes to the same as such a step, with all that the others hear of it; and one at
-/// the slot changes nothing of what is left.
+/// A law: an event at another slot comes to the same as such a step, with all that the others hear. One at the slot
+/// changes nothing of what is left.
 pub fn erased_nets_serve_alike()
     ensures done { ErasedNetsServeAlike }
     ensures refused { ErasedNetsRefuseEventsAlike }
@@ -23,7 +23,7 @@ pub fn erased_nets_serve_alike()
 {}
 
 /// A law: of networks as the host keeps them, an event at another slot comes to the same, if memory sufficed and there
-/// is room afterwards; and one at the slot changes nothing of what is left.
+/// is room afterwards. One at the slot changes nothing of what is left.
 pub fn erased_machines_serve_alike()
     ensures elsewhere { ErasedMachinesServeAlike }
     ensures there { MachineEventsThereAreErased }

@@ -407,7 +407,7 @@ impl LineServer for LiveHost {
     ghost whole = { live_kept_lines_are_whole };
 
     /// The answer to a line, or `None` if it is empty or a comment. An error says that it is out of memory; then the
-    /// line has no answer, and some of it may have happened.
+    /// line has no answer, and a part may have happened.
     fn serve(
         &mut self,
         alloc: Global,

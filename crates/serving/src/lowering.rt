@@ -2,15 +2,15 @@
 
 ghost use Rattle.serving.specs.Lowering.{BegunWithLess, DeclarationsAreServed, DeclarationsLeaveOne, LessBegins, LessIsConfigured, LessIsMovedBack, LoweredDeclarationsDeclareLess, LoweredLinesAreNoLonger, LoweredLinesDeclareLess, NodeLinesStay, RunsDeclare};
 
-/// A law: a line that declares something of a network declares as much less of it once it is lowered, and is no longer
-/// than it was.
+/// A law: a line that declares something of a network declares as much less once it is lowered, and is no longer than
+/// it was.
 pub fn lowered_lines_declare_less()
     ensures less { LoweredLinesDeclareLess }
     ensures nodes { NodeLinesStay }
     ensures no_longer { LoweredLinesAreNoLonger }
 {}
 
-/// A law: lines that are taken and declare a network are taken once they are lowered, and declare as much less of it.
+/// A law: lines that are taken and declare a network are taken once they are lowered, and declare as much less.
 pub fn lowered_declarations_declare_less()
     ensures runs { RunsDeclare }
     ensures served { DeclarationsAreServed }

@@ -8,8 +8,8 @@ pub fn lines_are_answered_where_room_is()
     ensures { LinesAreAnsweredWhereRoomIs }
 {}
 
-/// A law: lines that each do something to one network are served in turn, with any numbers, and all of them are kept;
-/// and the lines of a network in a run, without the others, are such lines.
+/// A law: lines that each do something to one network are served in turn, with any numbers, and all of them are kept.
+/// The lines of a network in a run, without the others, are such lines.
 pub fn lines_run_alone()
     ensures served { LinesAloneAreServed }
     ensures in_turn { LinesAloneInTurn }

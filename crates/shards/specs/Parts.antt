@@ -11,7 +11,7 @@ use Rattle.serving.specs.Apart.{HasRoomToAnswer, IsOrdered}
 use Rattle.serving.specs.Hosts.{Live, Serves, live_at, new_live}
 
 -- ---- parts
--- the entries of both, ascending by number where both ascend
+-- the entries of both, ascending by number if both ascend
 abbrev pub both_of : {X : Type 0} → List (ℕ × X) → List (ℕ × X) → List (ℕ × X)
 both_of [] es = es
 both_of (d ∷ ds) es = insert_entry nat_cmp (both_of ds es) d.0 d.1
@@ -82,8 +82,8 @@ PartsAnswerForTheWhole =
     → Serves (joined parts) n line a (joined (slice_set parts k new)) × AreParts bytes (slice_set parts k new)
 
 -- ---- many lines
--- of lines, the first with this number, the host at a place answered those of this place one after the other, until one was
--- not answered; and what is left of it
+-- Of lines, the first with this number, the host at a place answered those of this place one after the other, until one
+-- was not answered. If all were, this is what the host is then; else nothing is said of that.
 pub data AreOwnAnswered (k : ℕ) : Live → ℕ → List (Option Bytes) → List ℕ → List LineReply → Live → Type 0 where
   at_end : {s : Live} {n : ℕ} → AreOwnAnswered k s n [] [] [] s
   own : {s u t : Live} {n : ℕ} {line : Option Bytes} {lines : List (Option Bytes)} {places : List ℕ} {answers : List LineReply}
@@ -111,8 +111,8 @@ ArePlaced count (line ∷ lines) [] = ⊥
 ArePlaced count (line ∷ lines) (p ∷ places) =
     (p < count) × IsOfPlace count p line × ((l : Live) → HasRoomForLine line l) × ArePlaced count lines places
 
--- If each part answers the lines of its place, none of which declares a network, the gathered answers are those of the
--- whole host to the lines one after the other. If none is wanting, the host is what the parts are then.
+-- Let each part answer the lines of its place, none of which declares a network. Then the gathered answers may be those
+-- of the whole host to the lines one after the other. If none is missing, the host is what the parts are then.
 abbrev pub PartsAnswerLinesForTheWhole : Type 0
 PartsAnswerLinesForTheWhole =
     (bytes : Bool) (parts now : List Live) (n : ℕ) (lines : List (Option Bytes)) (places : List ℕ) (all : List (List LineReply))

@@ -41,7 +41,7 @@ pub record AreErrands (batch : Batch) (shards : List Shard) (errands : List Erra
 abbrev pub AllLess : ℕ → List ℕ → Type 0
 AllLess n ks = All (λ k. k < n) ks
 
--- lines were answered by shards as by one host, until one was not; and if all were, the shards are the parts of it
+-- lines were answered by shards as by one host, until one was not; and if all were, the shards are its parts
 abbrev pub AreBatchAnswered : List Shard → ℕ → List (Option Bytes) → List LineReply → List Shard → Type 0
 AreBatchAnswered old n lines answers new =
     (t : Live) × AreAnswered Serves (joined (hosts_of old)) n lines answers t

@@ -62,7 +62,7 @@ fn field_at(line: &[u8], place: usize) -> Option<&[u8]>
 }
 
 /// The answer to a line that begins with `net` if as many networks are declared as may be: it is bad, whatever it asks
-/// for. What it asks for is read only because the contract speaks of it. Each bad line is answered as one that is too
+/// for. What it asks for is read only because the contract speaks of that. Each bad line is answered as one that is too
 /// long, by whatever host. An error says that it is out of memory.
 pub(crate) fn answer_in_vain(
     alloc: Global,

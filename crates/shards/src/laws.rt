@@ -12,9 +12,9 @@ pub fn lines_name_their_networks()
     ensures nothing_else { NetsDeclareNetworks }
 {}
 
-/// A law: if networks are shared out by their numbers among the parts of a host, what a part answers to a line of its
-/// networks the whole host may answer. Both must have room for the network that the line may declare. So it is of many
-/// lines that declare none, whichever part is first. A host has as many networks as its parts together.
+/// A law: let networks be shared out by their numbers among the parts of a host. Then what a part answers to a line of
+/// its networks the whole host may answer. Both must have room for the network that the line may declare. So it is of
+/// many lines that declare none, whichever part is first. A host has as many networks as its parts together.
 pub fn parts_answer_for_the_whole()
     ensures line { PartsAnswerForTheWhole }
     ensures lines { PartsAnswerLinesForTheWhole }

@@ -34,8 +34,8 @@ const SHARDS_A_THREAD: usize = 16;
 const MOST_SHARES: usize = 4;
 
 /// A live host whose networks are shared out among shards, which threads answer for. Contracts see it as one live host,
-/// with the networks of all shards. If a line that was dealt has no answer for want of memory, shards may have
-/// answered lines behind it; so no further line is answered.
+/// with the networks of all shards. If a line that was dealt has no answer because it is out of memory, shards may have
+/// answered lines behind it. So no further line is answered.
 #[derive(Drop)]
 pub struct ShardedHost {
     shards: Vec<Shard>,
@@ -60,7 +60,7 @@ impl Model for ShardedHost {
 }
 
 impl ShardedHost {
-    /// A host without networks, for so many threads, which prints envelopes as bytes if `bytes` is set. An error says
+    /// A host without networks, for this many threads, which prints envelopes as bytes if `bytes` is set. An error says
     /// that it is out of memory.
     pub fn new(alloc: Global, bytes: bool, threads: usize) -> Result<ShardedHost, AllocError>
         requires { 0 < threads }
@@ -235,7 +235,7 @@ fn bring_back(shards: &mut [Shard], mut errands: Vec<Errand<'_>>)
     drop(errands);
 }
 
-/// The answers of all shards in the order of these places, until one is wanting.
+/// The answers of all shards in the order of these places, until one is missing.
 fn gather(alloc: Global, shards: &mut [Shard], places: &[usize]) -> VecDeque<Option<Answer>>
     requires { AllLess (length shards.old) places.now }
     ensures gathered { AreGathered places.now (waiting_answers shards.old) (map reply_of result.items) }
@@ -263,7 +263,7 @@ fn rest(shards: &mut [Shard])
     }
 }
 
-/// The answers to lines, by their shards, until one is wanting. `None` says that there is no memory to share them out;
+/// The answers to lines, by their shards, until one is missing. `None` says that there is no memory to share them out;
 /// then nothing has changed.
 fn serve_dealt<R: Threads + Sync>(
     rt: &R,

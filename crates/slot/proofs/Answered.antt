@@ -33,7 +33,6 @@ use Rattle.listening.proofs.Offers.{put-takes}
 use Rattle.listening.specs.Listening.{ListenerState}
 use Rattle.slot.specs.Listening.{FiledNode, node_of}
 use Rattle.slot.specs.declared.filed.GivenOut.{GivenOut}
-use Rattle.slot.specs.Filings.{whole_outs}
 use Rattle.slot.specs.declared.changes.Changed.{Changed}
 use Rattle.slot.specs.NodeParts.{ChangesTo, IsBeforePasses, SendWellFormed, inputs_in_round, node_from_parts, with_changed}
 
@@ -184,12 +183,12 @@ outs-after k inputs votes d h a v w os settled is given =
 
 -- ---- quiet
 -- an envelope from outside of a set that holds the node's reach, and not from a leader
-pub quiet-after : {E : Type 0} (n new : Node) (event : NodeEvent) (r : Result GivenOut E) → ComesOfEvents n → OnOk r (new ≡ (step n event).0) → IfOk r (λ v. whole_outs v.outs.items ≡ (step n event).1)
-    → (R : Names) (x : Sent) → event ≡ Take x → HoldsReach n.name n.slices n.table R → IsFalse (R x.sender) → IsFalse (among n.inputs.leaders x.sender) → IfOk r (λ v. IsQuiet R n new (whole_outs v.outs.items))
+pub quiet-after : {E : Type 0} (n new : Node) (event : NodeEvent) (r : Result GivenOut E) → ComesOfEvents n → OnOk r (new ≡ (step n event).0) → IfOk r (λ v. v.outs.items ≡ (step n event).1)
+    → (R : Names) (x : Sent) → event ≡ Take x → HoldsReach n.name n.slices n.table R → IsFalse (R x.sender) → IsFalse (among n.inputs.leaders x.sender) → IfOk r (λ v. IsQuiet R n new v.outs.items)
 quiet-after n new event (Ok v) h node outs R x is held out no_leader =
     let q = outsiders_are_quiet R n x h held out no_leader in
     let same : new ≡ (step n (Take x)).0 = node ∙ ap (λ (e : NodeEvent). (step n e).0) is in
-    let items : whole_outs v.outs.items ≡ (step n (Take x)).1 = outs ∙ ap (λ (e : NodeEvent). (step n e).1) is in
+    let items : v.outs.items ≡ (step n (Take x)).1 = outs ∙ ap (λ (e : NodeEvent). (step n e).1) is in
     record {
       outs = items ∙ q.outs;
       inputs = ap (λ (m : Node). m.inputs) same ∙ q.inputs;

@@ -6,4 +6,3 @@ pub mod Sendings
 pub mod Answered
 pub mod AddedRows
 pub mod Idle
-mod Copying

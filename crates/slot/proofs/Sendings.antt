@@ -122,9 +122,9 @@ unfolding IsWhole
 all-whole archive os h e c = All-contains IsWhole (whole_outs os) (Emit e) (All-map IsWhole out_of os (λ k d lt. filed-whole archive _ (h k d lt))) c
 
 -- what the answer to an event emits is the node's own
-pub emitted-own : {E : Type 0} (n new : Node) (archive : Archived) (event : NodeEvent) (r : Result GivenOut E) → OnOk r (new ≡ (step n event).0) → IfOk r (λ v. whole_outs v.outs.items ≡ (step n event).1)
-    → IfOk r (λ v. AreFiledOuts archive v.outs.items) → IfOk r (λ v. (e : Sent) → Contains (whole_outs v.outs.items) (Emit e) → IsSentBy new e)
-emitted-own n new archive event (Ok v) node is filed = λ e c.
+pub emitted-own : {E : Type 0} (n new : Node) (archive : Archived) (event : NodeEvent) (r : Result GivenOut E) → OnOk r (new ≡ (step n event).0) → IfOk r (λ v. v.outs.items ≡ (step n event).1)
+    → IfOk r (λ v. whole_outs v.filed.items ≡ v.outs.items) → IfOk r (λ v. AreFiledOuts archive v.filed.items) → IfOk r (λ v. (e : Sent) → Contains v.outs.items (Emit e) → IsSentBy new e)
+emitted-own n new archive event (Ok v) node is whole filed = λ e c.
     let own : Carries new e = subst (λ (m : Node). Carries m e) (sym node) ((step-own n event).all e (subst (λ os. Contains os (Emit e)) is c)) in
-    record { sender = own.sender; slot = own.slot; slices = own.slices; envelope = all-whole archive v.outs.items filed e c }
-emitted-own n new archive event (Err x) node is filed = tt
+    record { sender = own.sender; slot = own.slot; slices = own.slices; envelope = all-whole archive v.filed.items filed e (subst (λ os. Contains os (Emit e)) (sym whole) c) }
+emitted-own n new archive event (Err x) node is whole filed = tt

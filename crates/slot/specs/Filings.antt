@@ -1,5 +1,5 @@
 -- Events and outs whose envelopes lie in an archive, and what they stand for.
-use Rattle.std.specs.Prelude.{◌≡◌, ℕ, List, [], ◌∷◌, map, replicate, ⊤}
+use Rattle.std.specs.Prelude.{List, map, ⊤}
 use Rattle.std.specs.List.{All}
 use Rattle.types.specs.Statements.{IsEnvelope}
 use Rattle.types.specs.declared.event.NodeEvent.{NodeEvent}
@@ -8,7 +8,6 @@ use Rattle.envstore.specs.Archives.{Archived, IsFiled, sent_of}
 use Rattle.slot.specs.declared.filed.FiledEvent.{FiledEvent}
 use Rattle.slot.specs.declared.filed.FiledEvent.TheVariants.{Propose, Take, NominationTimer, BallotTimer, Reslice}
 use Rattle.slot.specs.declared.filed.FiledOut.{FiledOut}
-use Rattle.slot.specs.declared.filed.GivenOut.{GivenOut}
 use Rattle.slot.specs.declared.filed.FiledOut.TheVariants.{ArmNomination, ArmBallot, Emit, Externalized}
 
 -- an event of a node, with the whole envelope
@@ -48,12 +47,3 @@ IsFiledOut archive (Externalized x) = ⊤
 -- the archive has the envelopes of all that is given out, whose widths and rules are kept
 abbrev pub AreFiledOuts : Archived → List FiledOut → Type 0
 AreFiledOuts archive os = All (IsFiledOut archive) os
-
--- so many whole copies of outs; of nothing none is made
-abbrev pub copies_of : ℕ → List Out → List (List Out)
-copies_of count [] = []
-copies_of count (o ∷ os) = replicate count (o ∷ os)
-
--- what is given out comes with so many whole copies, and with none if it is nothing
-abbrev pub HasCopies : ℕ → GivenOut → Type 0
-HasCopies count g = map (λ v. v.items) g.copies.items ≡ copies_of count (whole_outs g.outs.items)

@@ -20,7 +20,7 @@ pub record FiledNode : Type 0 where
 abbrev pub node_of : ListenerState → Inputs → Votes → Node
 node_of h inputs votes = node_from_parts h.configured inputs votes (sents_of h.table)
 
--- an envelope of this sender is no more than a row: where it is newer than that which stands it takes its place, and
--- nothing else happens
+-- an envelope of this sender is no more than a row: the table takes it if it is newer than what is there, and nothing
+-- else happens
 abbrev pub AddsRowAlone : Node → ℕ → Type 0
 AddsRowAlone n u = (e : Sent) → e.sender ≡ u → step n (Take e) ≡ (record n { table = table_with_offer n.table e }, [])

@@ -29,7 +29,7 @@ inputs_in_round c inputs round =
 abbrev pub sent_by : Configured → Statement → Sent
 sent_by c statement = record { sender = c.name; slot = c.slot; slices = c.slices; body = statement }
 
--- what the node emits where one statement would have been sent before and another is now
+-- what the node emits: the statement that is sent now, if there is one and another or none would have been sent before
 abbrev pub emitted_by : Configured → Option Statement → Option Statement → List Out
 emitted_by c old None = []
 emitted_by c old (Some s) = if same_sent old (Some s) then [] else Emit (sent_by c s) ∷ []
@@ -42,7 +42,7 @@ SendWellFormed w = IfSome (sent_nomination w) IsWellFormed × IfSome (sent_vote 
 abbrev pub with_changed : Node → Changed → Node
 with_changed n d = record n { inputs = d.inputs; votes = d.votes }
 
--- the event's own change sets these inputs and votes; none where it changes nothing
+-- the event's own change sets these inputs and votes; none if it changes nothing
 abbrev pub ChangesTo : Node → NodeEvent → Option Changed → Type 0
 ChangesTo n event o = change n event ≡ option_map (with_changed n) o
 

@@ -15,7 +15,7 @@ use Rattle.slot.specs.NodeParts.{SendWellFormed}
 use Rattle.slot.specs.declared.stirring.Stirred.{Stirred}
 use Rattle.slot.specs.declared.stirring.Stirred.TheVariants.{All, Ballots, Nominations}
 
--- what a row of a kind stirs where the nodes that are reached stay
+-- what a row of a kind stirs if the nodes that are reached stay
 abbrev pub stirred_by : Kind → Stirred
 stirred_by Kind.Ballot = Ballots
 stirred_by Nomination = Nominations
@@ -32,7 +32,7 @@ settled_by All own seen g w = settle_all own seen g w
 settled_by Ballots own seen g w = settle_ballots seen g w
 settled_by Nominations own seen g w = settle_nominations own seen g w
 
--- passes that begin with some rules lead where whole ones lead, since the other rules have nothing to do
+-- passes that begin with some rules lead to what whole ones lead to, since the other rules have nothing to do
 abbrev pub Stirs : Stirred → ℕ → Seen → Inputs → Votes → Type 0
 Stirs stirred own seen g w = settled_by stirred own seen g w ≡ settle most_passes (pass own seen g) w
 

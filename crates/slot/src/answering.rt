@@ -17,7 +17,7 @@ use listening::Configured;
 use std::alloc::{AllocError, Global};
 use types::{Inputs, Votes};
 
-/// What a node has at one moment beside its rows.
+/// What a node has at one moment besides its rows.
 #[derive(Clone, Copy)]
 pub(crate) struct State<'a> {
     /// What only events set.
@@ -37,8 +37,7 @@ pub(crate) struct Start<'a> {
     pub stirred: Stirred,
 }
 
-/// What an event made of a node: the votes, if they changed, and what the node gives out, with whole copies. Each
-/// emitted envelope is filed.
+/// What an event made of a node: the votes, if they changed, and what the node gives out.
 #[derive(Drop)]
 pub(crate) struct Answer {
     pub votes: Option<Votes>,

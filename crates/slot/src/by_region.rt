@@ -4,7 +4,7 @@ ghost use Rattle.std.specs.Prelude.{◌≡◌, IfOk, IsTrue, List, OnOk, Some, b
 ghost use Rattle.envstore.specs.Archives.{AreFiled, Keeps};
 ghost use Rattle.listening.specs.Listening.{IsKnownOf};
 ghost use Rattle.protocol.specs.Nodes.{most_passes, outs, after_pass, settle};
-ghost use Rattle.slot.specs.Filings.{AreFiledOuts, HasCopies, whole_outs};
+ghost use Rattle.slot.specs.Filings.{AreFiledOuts, whole_outs};
 ghost use Rattle.slot.specs.Listening.{node_of};
 ghost use Rattle.slot.specs.Stirrings.{IsStart, is_listed};
 ghost use Rattle.slot.specs.NodeParts.{node_from_parts};
@@ -21,24 +21,22 @@ use std::alloc::{AllocError, Global};
 use types::{Phase, Votes};
 use view::{KnownReach, Own, View};
 
-/// What passes make of a node with these rows from this start on, and what it gives out since the old state. `copies`
-/// whole copies are made of that. What contracts see of the listener stays as it was. An error says that it is out of
-/// memory.
+/// What passes make of a node with these rows from this start on, and what it gives out since the old state. What
+/// contracts see of the listener stays as it was. An error says that it is out of memory.
 pub(crate) fn answer<S: Shelf>(
     alloc: Global,
     archive: &mut Archive<S>,
     listener: &mut Listener,
     old: &State<'_>,
     start: &Start<'_>,
-    copies: usize,
 ) -> Result<Answer, AllocError>
     requires rows { AreFiled archive.old listener.old.table }
     requires start { IsStart start.now.stirred (node_of listener.old start.now.inputs.now start.now.votes.now) }
     ensures votes { IfOk result (λ a. settle most_passes (after_pass (node_of listener.old start.now.inputs.now start.now.votes.now)) start.now.votes.now ≡ Some (unwrap_or a.votes start.now.votes.now)) }
-    ensures outs { IfOk result (λ a. (before after : List Sent) → whole_outs a.given_out.outs.items ≡ outs (node_from_parts listener.old.configured old.now.inputs.now old.now.votes.now before) (node_from_parts listener.old.configured start.now.inputs.now (unwrap_or a.votes start.now.votes.now) after)) }
+    ensures outs { IfOk result (λ a. (before after : List Sent) → a.given_out.outs.items ≡ outs (node_from_parts listener.old.configured old.now.inputs.now old.now.votes.now before) (node_from_parts listener.old.configured start.now.inputs.now (unwrap_or a.votes start.now.votes.now) after)) }
     ensures same { listener.new ≡ listener.old }
-    ensures filed { IfOk result (λ a. AreFiledOuts archive.new a.given_out.outs.items) }
-    ensures copies { IfOk result (λ a. HasCopies copies a.given_out) }
+    ensures whole { IfOk result (λ a. whole_outs a.given_out.filed.items ≡ a.given_out.outs.items) }
+    ensures filed { IfOk result (λ a. AreFiledOuts archive.new a.given_out.filed.items) }
     ensures kept { Keeps archive.old archive.new }
 {
     let votes = votes_after(alloc, archive, listener, start)?;
@@ -46,7 +44,7 @@ pub(crate) fn answer<S: Shelf>(
         inputs: start.inputs,
         votes: votes_or(&votes, start.votes),
     };
-    match give_out(alloc, archive, listener.configuration(), old, &new, copies) {
+    match give_out(alloc, archive, listener.configuration(), old, &new) {
         Ok(given_out) => Ok(Answer { votes, given_out }),
         Err(error) => {
             drop(votes);
@@ -62,15 +60,14 @@ pub(crate) fn answer_anew<S: Shelf>(
     archive: &mut Archive<S>,
     listener: &mut Listener,
     start: &Start<'_>,
-    copies: usize,
 ) -> Result<Answer, AllocError>
     requires rows { AreFiled archive.old listener.old.table }
     requires start { IsStart start.now.stirred (node_of listener.old start.now.inputs.now start.now.votes.now) }
     ensures votes { IfOk result (λ a. settle most_passes (after_pass (node_of listener.old start.now.inputs.now start.now.votes.now)) start.now.votes.now ≡ Some (unwrap_or a.votes start.now.votes.now)) }
-    ensures outs { IfOk result (λ a. (before after : List Sent) → whole_outs a.given_out.outs.items ≡ outs (node_from_parts listener.old.configured start.now.inputs.now start.now.votes.now before) (node_from_parts listener.old.configured start.now.inputs.now (unwrap_or a.votes start.now.votes.now) after)) }
+    ensures outs { IfOk result (λ a. (before after : List Sent) → a.given_out.outs.items ≡ outs (node_from_parts listener.old.configured start.now.inputs.now start.now.votes.now before) (node_from_parts listener.old.configured start.now.inputs.now (unwrap_or a.votes start.now.votes.now) after)) }
     ensures same { listener.new ≡ listener.old }
-    ensures filed { IfOk result (λ a. AreFiledOuts archive.new a.given_out.outs.items) }
-    ensures copies { IfOk result (λ a. HasCopies copies a.given_out) }
+    ensures whole { IfOk result (λ a. whole_outs a.given_out.filed.items ≡ a.given_out.outs.items) }
+    ensures filed { IfOk result (λ a. AreFiledOuts archive.new a.given_out.filed.items) }
     ensures kept { Keeps archive.old archive.new }
 {
     let Some(votes) = votes_after(alloc, archive, listener, start)? else {
@@ -87,7 +84,7 @@ pub(crate) fn answer_anew<S: Shelf>(
         inputs: start.inputs,
         votes: &votes,
     };
-    match give_out(alloc, archive, listener.configuration(), &old, &new, copies) {
+    match give_out(alloc, archive, listener.configuration(), &old, &new) {
         Ok(given_out) => Ok(Answer {
             votes: Some(votes),
             given_out,

@@ -31,11 +31,11 @@ pub enum FiledOut {
     Externalized(Value),
 }
 
-/// What one event of one node gave out, and as many whole copies of it as were asked for.
+/// What one event of one node gave out.
 #[derive(Drop)]
 pub struct GivenOut {
-    /// What is given out, in order; there are at most five.
-    pub outs: Vec<FiledOut>,
-    /// The copies, each of all of it, with whole envelopes.
-    pub copies: Vec<Vec<Out>>,
+    /// What is given out, in order, filed; there are at most five.
+    pub filed: Vec<FiledOut>,
+    /// The same, whole.
+    pub outs: Vec<Out>,
 }

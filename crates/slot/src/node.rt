@@ -8,7 +8,7 @@ ghost use Rattle.protocol.specs.Reach.{HoldsReach};
 ghost use Rattle.protocol.specs.Limits.{ComesOfEvents};
 ghost use Rattle.protocol.specs.Sets.{Names, among};
 ghost use Rattle.envstore.specs.Archives.{AreFiled, IsFiled, Keeps, sent_of, sents_of};
-ghost use Rattle.slot.specs.Filings.{AreFiledOuts, HasCopies, IsFiledEvent, event_of, whole_outs};
+ghost use Rattle.slot.specs.Filings.{AreFiledOuts, IsFiledEvent, event_of, whole_outs};
 ghost use Rattle.slot.specs.Listening.{AddsRowAlone};
 ghost use Rattle.slot.specs.NodeParts.{ChangesTo, IsSentBy};
 ghost use Rattle.types.specs.Statements.{Sent};
@@ -20,7 +20,7 @@ use crate::by_region::{answer, answer_anew};
 use crate::changes::{
     Changed, in_next_round, is_counter_live, is_round_live, with_proposal, with_timeout,
 };
-use crate::filed::{FiledEvent, FiledOut, GivenOut};
+use crate::filed::{FiledEvent, GivenOut};
 use crate::filing::nothing;
 use crate::outs::is_externalized;
 use crate::stirring::{Stirred, put_row};
@@ -31,7 +31,7 @@ use nomination::leads;
 use std::alloc::{AllocError, Global};
 use std::marker::Model;
 use std::mem;
-use types::{Inputs, Nested, NodeId, Value, Votes};
+use types::{Inputs, Nested, NodeId, Out, Value, Votes};
 
 /// One node at one slot, and all that it knows there.
 ///
@@ -185,7 +185,7 @@ impl Node {
     }
 
     /// Does one event: its own change, then passes until one changes nothing, then what is given out, in order (the
-    /// Stellar Consensus Protocol draft; the order of events and outs is this host's profile). A stale envelope and a
+    /// Stellar Consensus Protocol draft). The order of events and outs is this host's profile. A stale envelope and a
     /// timer that is not live change nothing, give nothing out and take no memory, so such an event never fails. The
     /// slot of an envelope is not looked at: the caller hands a node those of its own.
     ///
@@ -199,8 +199,8 @@ impl Node {
     /// The rows of the node, and the envelope that it takes, lie in the archive that is lent. The envelopes that it
     /// gives out are filed there.
     ///
-    /// `copies` whole copies of what is given out are made, before anything changes. So a caller that has made room
-    /// beforehand for the outs, at most five, needs no memory afterwards. Of nothing no copies are made.
+    /// What is given out is filed, and is also answered whole: this copy is made before anything changes. So a caller
+    /// that has made room beforehand for the outs, at most five, needs no memory afterwards.
     ///
     /// An error says that it is out of memory, and the node is as it was; some of what it would have given out may be
     /// filed.
@@ -209,30 +209,29 @@ impl Node {
         alloc: Global,
         archive: &mut Archive<S>,
         event: FiledEvent,
-        copies: usize,
     ) -> Result<GivenOut, AllocError>
         requires rows { AreFiled archive.old self.old.rows }
         requires event { IsFiledEvent archive.old event }
         ensures node { OnOk result (self.new.node ≡ (step self.old.node (event_of event)).0) }
-        ensures outs { IfOk result (λ v. whole_outs v.outs.items ≡ (step self.old.node (event_of event)).1) }
+        ensures outs { IfOk result (λ v. v.outs.items ≡ (step self.old.node (event_of event)).1) }
         ensures err { OnErr result (self.new ≡ self.old) }
         ensures idle { change self.old.node (event_of event) ≡ None → IsTrue (is_ok result) }
-        ensures quiet { (R : Names) (e : Sent) → event_of event ≡ NodeEvent.Take e → HoldsReach self.old.node.name self.old.node.slices self.old.node.table R → IsFalse (R e.sender) → IsFalse (among self.old.node.inputs.leaders e.sender) → IfOk result (λ v. IsQuiet R self.old.node self.new.node (whole_outs v.outs.items)) }
-        ensures emitted { IfOk result (λ v. (e : Sent) → Contains (whole_outs v.outs.items) (Emit e) → IsSentBy self.new.node e) }
+        ensures quiet { (R : Names) (e : Sent) → event_of event ≡ NodeEvent.Take e → HoldsReach self.old.node.name self.old.node.slices self.old.node.table R → IsFalse (R e.sender) → IsFalse (among self.old.node.inputs.leaders e.sender) → IfOk result (λ v. IsQuiet R self.old.node self.new.node v.outs.items) }
+        ensures emitted { IfOk result (λ v. (e : Sent) → Contains v.outs.items (Emit e) → IsSentBy self.new.node e) }
         ensures rows { AreFiled archive.new self.new.rows }
-        ensures filed { IfOk result (λ v. AreFiledOuts archive.new v.outs.items) }
-        ensures copies { IfOk result (HasCopies copies) }
+        ensures whole { IfOk result (λ v. whole_outs v.filed.items ≡ v.outs.items) }
+        ensures filed { IfOk result (λ v. AreFiledOuts archive.new v.filed.items) }
         ensures kept { Keeps archive.old archive.new }
     {
         self.comes_of_events();
         let changed = match event {
-            FiledEvent::Take(envelope) => return self.take(alloc, archive, envelope, copies),
-            FiledEvent::Reslice(slices) => return self.reslice(alloc, archive, slices, copies),
+            FiledEvent::Take(envelope) => return self.take(alloc, archive, envelope),
+            FiledEvent::Reslice(slices) => return self.reslice(alloc, archive, slices),
             FiledEvent::Propose(value) => Some(self.changed_by_proposal(alloc, value)?),
             FiledEvent::NominationTimer(round) => self.changed_by_nomination_timer(alloc, round)?,
             FiledEvent::BallotTimer(counter) => self.changed_by_ballot_timer(alloc, counter)?,
         };
-        self.settle(alloc, archive, changed, copies)
+        self.settle(alloc, archive, changed)
     }
 
     /// The node after one event, as by [`Node::advance`], and what it gives out; this node stays as it is. An error
@@ -242,18 +241,17 @@ impl Node {
         alloc: Global,
         archive: &mut Archive<S>,
         event: FiledEvent,
-    ) -> Result<(Node, Vec<FiledOut>), AllocError>
+    ) -> Result<(Node, Vec<Out>), AllocError>
         requires rows { AreFiled archive.old self.now.rows }
         requires event { IsFiledEvent archive.old event }
-        ensures step { IfOk result (λ r. (r.0.node, whole_outs r.1.items) ≡ step self.now.node (event_of event)) }
-        ensures emitted { IfOk result (λ r. (e : Sent) → Contains (whole_outs r.1.items) (Emit e) → IsSentBy r.0.node e) }
+        ensures step { IfOk result (λ r. (r.0.node, r.1.items) ≡ step self.now.node (event_of event)) }
+        ensures emitted { IfOk result (λ r. (e : Sent) → Contains r.1.items (Emit e) → IsSentBy r.0.node e) }
         ensures rows { IfOk result (λ r. AreFiled archive.new r.0.rows) }
-        ensures filed { IfOk result (λ r. AreFiledOuts archive.new r.1.items) }
         ensures kept { Keeps archive.old archive.new }
     {
         let mut node = self.try_copy(alloc, archive)?;
-        match node.advance(alloc, archive, event, 0) {
-            Ok(GivenOut { outs, copies: _ }) => Ok((node, outs)),
+        match node.advance(alloc, archive, event) {
+            Ok(given_out) => Ok((node, given_out.outs)),
             Err(error) => {
                 drop(node);
                 Err(error)
@@ -326,15 +324,14 @@ impl Node {
         alloc: Global,
         archive: &mut Archive<S>,
         slices: Nested,
-        copies: usize,
     ) -> Result<GivenOut, AllocError>
         requires rows { AreFiled archive.old self.old.rows }
         ensures node { OnOk result (self.new.node ≡ (step self.old.node (NodeEvent.Reslice slices)).0) }
-        ensures outs { IfOk result (λ v. whole_outs v.outs.items ≡ (step self.old.node (NodeEvent.Reslice slices)).1) }
+        ensures outs { IfOk result (λ v. v.outs.items ≡ (step self.old.node (NodeEvent.Reslice slices)).1) }
         ensures err { OnErr result (self.new ≡ self.old) }
         ensures rows { AreFiled archive.new self.new.rows }
-        ensures filed { IfOk result (λ v. AreFiledOuts archive.new v.outs.items) }
-        ensures copies { IfOk result (HasCopies copies) }
+        ensures whole { IfOk result (λ v. whole_outs v.filed.items ≡ v.outs.items) }
+        ensures filed { IfOk result (λ v. AreFiledOuts archive.new v.filed.items) }
         ensures kept { Keeps archive.old archive.new }
     {
         let old_slices = self.listener.exchange_slices(slices);
@@ -343,7 +340,7 @@ impl Node {
             votes: &self.votes,
             stirred: Stirred::All,
         };
-        match answer_anew(alloc, archive, &mut self.listener, &start, copies) {
+        match answer_anew(alloc, archive, &mut self.listener, &start) {
             Ok(Answer { votes, given_out }) => {
                 set_settled(&mut self.votes, votes);
                 Ok(given_out)
@@ -373,17 +370,16 @@ impl Node {
         alloc: Global,
         archive: &mut Archive<S>,
         envelope: Filed,
-        copies: usize,
     ) -> Result<GivenOut, AllocError>
         requires rows { AreFiled archive.old self.old.rows }
         requires envelope { IsFiled archive.old envelope }
         ensures node { OnOk result (self.new.node ≡ (step self.old.node (NodeEvent.Take (sent_of envelope))).0) }
-        ensures outs { IfOk result (λ v. whole_outs v.outs.items ≡ (step self.old.node (NodeEvent.Take (sent_of envelope))).1) }
+        ensures outs { IfOk result (λ v. v.outs.items ≡ (step self.old.node (NodeEvent.Take (sent_of envelope))).1) }
         ensures err { OnErr result (self.new ≡ self.old) }
         ensures idle { change self.old.node (NodeEvent.Take (sent_of envelope)) ≡ None → IsTrue (is_ok result) }
         ensures rows { AreFiled archive.new self.new.rows }
-        ensures filed { IfOk result (λ v. AreFiledOuts archive.new v.outs.items) }
-        ensures copies { IfOk result (HasCopies copies) }
+        ensures whole { IfOk result (λ v. whole_outs v.filed.items ≡ v.outs.items) }
+        ensures filed { IfOk result (λ v. AreFiledOuts archive.new v.filed.items) }
         ensures kept { Keeps archive.old archive.new }
     {
         let sender = archive.read(&envelope).sender();
@@ -401,7 +397,7 @@ impl Node {
                     votes: &self.votes,
                     stirred,
                 };
-                match answer_anew(alloc, archive, &mut self.listener, &start, copies) {
+                match answer_anew(alloc, archive, &mut self.listener, &start) {
                     Ok(Answer { votes, given_out }) => {
                         // The row stays, so the put need not be undone.
                         drop(put);
@@ -424,17 +420,16 @@ impl Node {
         alloc: Global,
         archive: &mut Archive<S>,
         changed: Option<Changed>,
-        copies: usize,
     ) -> Result<GivenOut, AllocError>
         requires rows { AreFiled archive.old self.old.rows }
         requires change { (event : NodeEvent) × ChangesTo self.old.node event changed }
         ensures node { (event : NodeEvent) → ChangesTo self.old.node event changed → OnOk result (self.new.node ≡ (step self.old.node event).0) }
-        ensures outs { (event : NodeEvent) → ChangesTo self.old.node event changed → IfOk result (λ v. whole_outs v.outs.items ≡ (step self.old.node event).1) }
+        ensures outs { (event : NodeEvent) → ChangesTo self.old.node event changed → IfOk result (λ v. v.outs.items ≡ (step self.old.node event).1) }
         ensures err { OnErr result (self.new ≡ self.old) }
         ensures idle { (event : NodeEvent) → ChangesTo self.old.node event changed → change self.old.node event ≡ None → IsTrue (is_ok result) }
         ensures rows { AreFiled archive.new self.new.rows }
-        ensures filed { IfOk result (λ v. AreFiledOuts archive.new v.outs.items) }
-        ensures copies { IfOk result (HasCopies copies) }
+        ensures whole { IfOk result (λ v. whole_outs v.filed.items ≡ v.outs.items) }
+        ensures filed { IfOk result (λ v. AreFiledOuts archive.new v.filed.items) }
         ensures kept { Keeps archive.old archive.new }
     {
         let Some(changed) = changed else {
@@ -449,7 +444,7 @@ impl Node {
             votes: &changed.votes,
             stirred: Stirred::All,
         };
-        match answer(alloc, archive, &mut self.listener, &old, &start, copies) {
+        match answer(alloc, archive, &mut self.listener, &old, &start) {
             Ok(Answer { votes, given_out }) => {
                 let Changed {
                     inputs,

@@ -16,9 +16,9 @@ use listening::Configured;
 use std::alloc::{AllocError, Global};
 use types::{Out, Phase, Statement, Votes, statement_of};
 
-/// What is given out if an event led from one state to another, in this order (this host's profile): the timer of a new
-/// round; the ballot timer that was armed; the nomination and the ballot statement, each if it is not what would have
-/// been sent before; and the value that is externalized now.
+/// What is given out if an event led from one state to another, in this order (this host's profile). First come the
+/// timer of a new round and the ballot timer that was armed. Then come the nomination and the ballot statement, each if
+/// it is not what would have been sent before. Last comes the value that is externalized now.
 #[tactic(auto, unfolding(protocol::specs::Nodes::outs))]
 pub(crate) fn outs(
     alloc: Global,

@@ -15,7 +15,7 @@ use nomination::nominate;
 use std::alloc::{AllocError, Global};
 use types::{Inputs, NodeId, Phase};
 
-/// What the rules of a pass read beside the votes.
+/// What the rules of a pass read besides the votes.
 #[derive(Drop)]
 pub(crate) struct PassContext<'a, S> {
     /// The node's own name.

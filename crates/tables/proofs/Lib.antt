@@ -1,4 +1,3 @@
 mod Backed
-pub mod BadLines
 pub mod RunLaws
 pub mod TellsOnce

@@ -93,7 +93,7 @@ pub data Decodes (h : HeardRows) (bytes : Bytes) : Option Bytes → HeardRows �
       → Decodes h bytes printed k
   fault : (f : Fault) → IsFault bytes f → Decodes h bytes (Some (fault_text f)) h
 
--- the text up to its next piece: with this between, where there is some text before
+-- the text up to its next piece: with this behind it, unless it is empty
 abbrev pub up_to_next : Bytes → Bytes → Bytes
 up_to_next between [] = []
 up_to_next between (b ∷ text) = (b ∷ text) ++ between
@@ -115,7 +115,7 @@ text_with_row text (Some e) = up_to_next (codes "\n") text ++ text_of_row e
 abbrev pub text_with_rows : List Sent → Bytes → ℕ → Bytes
 text_with_rows table text u = text_with_row (text_with_row text (row table u Nomination)) (row table u Kind.Ballot)
 
--- the text, where there is any
+-- the text, if it is not empty
 abbrev pub unless_empty : Bytes → Option Bytes
 unless_empty [] = None
 unless_empty (b ∷ text) = Some (b ∷ text)
@@ -168,16 +168,10 @@ PutsNone slot fields = (e : Sent) → ¬ PutsRow slot fields e
 abbrev pub HandsNone : List Bytes → Type 0
 HandsNone fields = (bytes : Bytes) → ¬ Hands fields bytes
 
--- the first line is bad where it begins no listener, any other where it asks for nothing that a listener does
+-- the first line is bad if it begins no listener, any other if it asks for nothing that a listener does
 abbrev pub RefusesTableLine : Option HeardRows → List Bytes → Type 0
 RefusesTableLine None fields = BeginsNone fields
 RefusesTableLine (Some h) fields = AsksNone fields × PutsNone h.configured.slot fields × HandsNone fields × ¬ ShowsKnown fields
-
--- no line is both bad and told
-abbrev pub BadTableLinesAreUntold : Type 0
-BadTableLinesAreUntold =
-    (old new : Option HeardRows) (fields : List Bytes) (printed : Option Bytes) → RefusesTableLine old fields
-    → ¬ TellsListener old fields printed new
 
 -- a line tells one thing: what it prints, and what becomes of the listener
 abbrev pub LinesTellOneThing : Type 0

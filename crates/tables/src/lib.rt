@@ -9,4 +9,4 @@ mod table_listener;
 mod table_run;
 
 pub use table_listener::{TableListener, Taken};
-pub use table_run::{TableRun, bad_lines_are_untold, lines_tell_one_thing};
+pub use table_run::{TableRun, lines_tell_one_thing};

@@ -5,7 +5,7 @@ ghost use Rattle.std.specs.Prelude.{◌≡◌, ◌≢◌, ◌↔◌, ◌++◌, I
 ghost use Rattle.latest.specs.Senders.{senders};
 ghost use Rattle.types.specs.Statements.{Sent};
 ghost use Rattle.listening.specs.declared.configured.Configured.{Configured};
-ghost use Rattle.tables.specs.TableLines.{AreOwn, AreOwnWords, ArePut, ArePutWords, Asks, AsksNone, Backs, BadTableLinesAreUntold, Begins, BeginsNone, Decodes, Hands, HandsNone, LinesTellOneThing, Prints, PrintsReach, PutsNone, PutsRow, RefusesTableLine, ShowsKnown, Takes, TellsListener, fault_text, text_of_row, text_of_table, text_with_name, text_with_row, text_with_rows, up_to_next};
+ghost use Rattle.tables.specs.TableLines.{AreOwn, AreOwnWords, ArePut, ArePutWords, Asks, AsksNone, Backs, Begins, BeginsNone, Decodes, Hands, HandsNone, LinesTellOneThing, Prints, PrintsReach, PutsNone, PutsRow, RefusesTableLine, ShowsKnown, Takes, TellsListener, fault_text, text_of_row, text_of_table, text_with_name, text_with_row, text_with_rows, up_to_next};
 
 use crate::table_listener::{TableListener, Taken};
 use codec::{CodecError, Fault, decode};
@@ -51,10 +51,13 @@ impl TableRun {
 
 impl LineRunner for TableRun {
     ghost use Rattle.tables.specs.TableLines.{RefusesTableLine, TellsListener};
+    ghost use Rattle.tables.specs.BadLines.{bad_table_lines_are_untold};
 
     ghost tells = { TellsListener };
 
     ghost refuses = { RefusesTableLine };
+
+    ghost untold = { bad_table_lines_are_untold };
 
     fn line(&mut self, alloc: Global, fields: &[&[u8]]) -> Result<Option<String>, LineError> {
         match &mut self.listener {
@@ -434,12 +437,6 @@ fn push_row(text: &mut String, row: &Envelope) -> Result<(), AllocError>
     text.push(' ')?;
     push_statement(text, row.body())
 }
-
-/// A law: no line is both bad and told.
-#[tactic(auto, using(crate::proofs::BadLines::bad_lines_are_untold))]
-pub fn bad_lines_are_untold()
-    ensures { BadTableLinesAreUntold }
-{}
 
 /// A law: a line prints one thing, if any, and leaves one listener.
 #[tactic(auto, using(crate::proofs::TellsOnce::lines_tell_one_thing))]

@@ -22,8 +22,8 @@ pub struct Decoded {
 }
 
 /// The line of the envelope that bytes spell, in the four words of scripts: its sender, its slot, its slices and its
-/// statement; or that of the fault of the bytes. The bytes are lower-case hexadecimal digits, or `-` for none, and
-/// `None` is answered to any other word. An error says that it is out of memory.
+/// statement. If they spell none, it is that of their fault. The bytes are lower-case hexadecimal digits, or `-` for
+/// none, and `None` is answered to any other word. An error says that it is out of memory.
 pub fn decode_digits(alloc: Global, digits: &[u8]) -> Result<Option<Decoded>, AllocError>
     ensures decoded { IfOk result (λ o. IsRead (λ (d : Bool × Bytes). IsDecoded digits.now d.0 d.1) (option_map (λ d. (d.is_fault, string_bytes d.line)) o)) }
     ensures back { IfOk result (λ o. IfSome o (λ d. d.is_fault ≡ false → EncodesBack digits.now (string_bytes d.line))) }

@@ -15,12 +15,12 @@ defined_verdict (CastDiffers u) = verdicts.Verdict.CastDiffers u
 defined_verdict (InputsDiffer place) = verdicts.Verdict.InputsDiffer place
 defined_verdict (Same list) = verdicts.Verdict.Same list
 
--- the hosted nodes of a network; nobody where a world lacks it
+-- the hosted nodes of a network; nobody if a world lacks it
 abbrev pub nodes_in : Option Log → List HostedNode
 nodes_in None = []
 nodes_in (Some l) = l.config.nodes
 
--- the entries of its journal; none where a world lacks it
+-- the entries of its journal; none if a world lacks it
 abbrev pub entries_in : Option Log → List Entry
 entries_in None = []
 entries_in (Some l) = l.entries
@@ -35,8 +35,8 @@ abbrev pub IsVerdictBetween : History → History → ℕ → ℕ → ℕ → Ve
 IsVerdictBetween h k g i v verdict =
     verdicts.IsVerdict (nodes_of h.configs g) (nodes_of k.configs g) (entries reading h g) (entries reading k g) i v (defined_verdict verdict)
 
--- Where both worlds have the same cast for the closure of v in the first, and the same kept steps, each member gave out
--- the same in both.
+-- Let both worlds have the same cast for the closure of v in the first, and the same kept steps. Then each member gave
+-- out the same in both.
 abbrev pub AreIsolated : Option Log → Option Log → ℕ → ℕ → Type 0
 AreIsolated one other i v =
     let R = closure (nodes_in one) i v (entries_in one) in

@@ -14,7 +14,7 @@ outs_of_each i run list = map (λ u. (u, outs_of i u run)) list
 abbrev pub hosted_in : Names → List HostedNode → List ℕ
 hosted_in R nodes = filter R (map (λ h. h.name) nodes)
 
--- What an entry adds to a list of nodes with their outs: its own to the node that it is of, where that is one of the
+-- What an entry adds to a list of nodes with their outs: its own to the node that it is of, if that is one of the
 -- names.
 pub data IsNoted (i : ℕ) (x : Entry) (list : List ℕ) (old new : List (ℕ × List Out)) : Type 0 where
   nobody : ((k u : ℕ) → slice_get list k ≡ Some u → IsFalse (is_of i u x.event)) → new ≡ old → IsNoted i x list old new

@@ -44,7 +44,7 @@ core (NominationTimerFires j u r) = EventAt u (NominationTimer r)
 core (BallotTimerFires j u n) = EventAt u (BallotTimer n)
 core (Reslices j u q) = EventAt u (Reslice q)
 
--- a node, where its step is at the slot
+-- a node, if its step is at the slot
 abbrev pub at_slot : Bool → ℕ → Option ℕ
 at_slot b u = if b then Some u else None
 
@@ -60,7 +60,7 @@ node_of_step i (NominationTimerFires j u r) = at_slot (j == i) u
 node_of_step i (BallotTimerFires j u n) = at_slot (j == i) u
 node_of_step i (Reslices j u q) = at_slot (j == i) u
 
--- the node of a step at the slot, where there is a step
+-- the node of a step at the slot, if there is a step
 abbrev pub node_in : ℕ → Option Step → Option ℕ
 node_in i None = None
 node_in i (Some s) = node_of_step i s
@@ -69,8 +69,8 @@ node_in i (Some s) = node_of_step i s
 abbrev pub kept_numbers : Names → ℕ → List Entry → List ℕ
 kept_numbers R i run = filter (λ n. is_kept_in R i (event_at run n)) (range_with_len 0 (length run))
 
--- the entry with this number is the kept step at a place, counted from 0 on: so many kept steps are before it, and what
--- is kept of it is what is kept at the place
+-- The entry with this number is the kept step at a place, both counted from 0 on. The place says how many kept steps
+-- are before it, and what is kept of the entry is what is kept at the place.
 pub record IsKeptEntry (R : Names) (i : ℕ) (run : List Entry) (place k : ℕ) : Type 0 where
   pub entry : Entry
   pub there : slice_get run k ≡ Some entry

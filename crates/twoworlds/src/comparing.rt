@@ -20,13 +20,13 @@ use world::World;
 /// node of a network at a slot. A world without the network hosts nobody there. The worlds may keep their envelopes on
 /// shelves of different kinds (this host's profile).
 ///
-/// The following holds whatever is answered, even out of memory. If both worlds host the same members of the closure
-/// with the same slices, and the steps that concern the members are the same in order, each hosted member gave out the
-/// same in both. There is no answer for a leak. If the journals of the worlds are those of two histories of hosts, the
-/// verdict is that on the histories.
+/// The following holds whatever is answered, even out of memory. Let both worlds host the same members of the closure
+/// with the same slices, and let the steps that concern the members be the same in order. Then each hosted member gave
+/// out the same in both. There is no answer for a leak. If the journals of the worlds are those of two histories of
+/// hosts, the verdict is that on the histories.
 ///
-/// Beside the closure, each journal is gone through once for the steps that concern the members, and the first one once
-/// more for what they gave out. An error says that it is out of memory.
+/// Besides what the closure takes, each journal is gone through once for the steps that concern the members. The first
+/// one is gone through once more for what they gave out. An error says that it is out of memory.
 pub fn compare<S: Shelf, T: Shelf>(
     alloc: Global,
     one: &World<S>,

@@ -1,5 +1,5 @@
-//! Two worlds side by side: whether what concerns a node of a network at a slot was the same in both, and what the
-//! members of its closure then gave out (this host's profile).
+//! Two worlds side by side: whether what concerns a node of a network at a slot was the same in both. If it was, also
+//! what the members of its closure gave out (this host's profile).
 //!
 //! If the same concerns a node in two worlds, each hosted member gives out the same in both. That is the isolation of
 //! hosted validators, and each comparison carries it in its contract, whatever it answers. So [`compare`] reads only

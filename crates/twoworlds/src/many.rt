@@ -23,9 +23,9 @@ use world::World;
 /// question or more. The threads have ended when the call returns. Each question reads only the two journals of its own
 /// network, as `compare` does. All of them share the worlds, which stay as they are.
 ///
-/// The following holds whatever is answered, even out of memory. Each question is isolated as by `compare`: if both
-/// worlds host the same members of its closure with the same slices, and the steps that concern the members are the
-/// same in order, each hosted member gave out the same in both. If the journals of the worlds are those of two
+/// The following holds whatever is answered, even out of memory. Each question is isolated as by `compare`. Let both
+/// worlds host the same members of its closure with the same slices, and let the steps that concern the members be the
+/// same in order. Then each hosted member gave out the same in both. If the journals of the worlds are those of two
 /// histories of hosts, the verdicts are those on the histories.
 ///
 /// An error says that it is out of memory, for one of the questions or for the list of verdicts; then no question has

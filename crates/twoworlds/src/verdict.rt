@@ -105,8 +105,8 @@ impl OutsOfMembers {
 /// The verdict on a subject in two worlds.
 #[derive(Drop)]
 pub enum Verdict {
-    /// The worlds host this node unlike. It is the node that was asked for, if the first world does not host it; else
-    /// the least member that only one world hosts, or that they host with other slices.
+    /// The worlds host this node unlike. It is the node that was asked for, if the first world does not host it. Else
+    /// it is the least member that only one world hosts, or that they host with other slices.
     CastDiffers(NodeId),
     /// This many steps that concern the members are the same before the first difference.
     InputsDiffer(usize),

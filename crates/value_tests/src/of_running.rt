@@ -72,7 +72,7 @@ fn fail_each_write<A: Abort>(rt: &A, alloc: Global, script: &[u8]) -> Result<u32
 fn writes_nothing_after_a_failed_write(rt: HostRuntime) -> Result<(), Fail> {
     let whole = fail_each_write(&rt, rt.alloc(), SCRIPT)?;
     assert!(rt; whole >= 3, "{whole} writes");
-    let stopped = fail_each_write(&rt, rt.alloc(), b"say one\nsay two\nbad")?;
+    let stopped = fail_each_write(&rt, rt.alloc(), b"say one\nsay two\nsay  three")?;
     assert!(rt; stopped >= 3, "{stopped} writes");
     Ok(())
 }

@@ -9,10 +9,10 @@ ghost use Rattle.slot.specs.Filings.{IsFiledEvent};
 
 use envstore::{Archive, BoxShelf};
 use scripts::{name_of, slices_of, statement_of};
-use slot::{FiledEvent, FiledOut, Node};
+use slot::{FiledEvent, Node};
 use std::alloc::Global;
 use std::test::Fail;
-use types::{Envelope, Value};
+use types::{Envelope, Out, Value};
 
 /// The node A with these slices, before its first event.
 fn node(alloc: Global, slices: &[u8]) -> Result<Node, Fail>
@@ -42,7 +42,7 @@ fn outs_at(
     ensures { AreFiled archive.new node.new.rows }
 {
     let filed = archive.put(envelope)?;
-    let given_out = node.advance(alloc, archive, FiledEvent::Take(filed), 0)?;
+    let given_out = node.advance(alloc, archive, FiledEvent::Take(filed))?;
     Ok(given_out.outs.len())
 }
 
@@ -81,9 +81,9 @@ fn a_row_of_its_own_names_no_candidates(rt: HostRuntime) -> Result<(), Fail> {
 }
 
 /// The round whose timer is to be armed, if that is all that is given out.
-fn round_in(outs: &[FiledOut]) -> Option<u32> {
+fn round_in(outs: &[Out]) -> Option<u32> {
     match outs {
-        [FiledOut::ArmNomination(round)] => Some(*round),
+        [Out::ArmNomination(round)] => Some(*round),
         _ => None,
     }
 }
@@ -99,7 +99,7 @@ fn round_at(
     requires event { IsFiledEvent archive.old event }
     ensures { AreFiled archive.new node.new.rows }
 {
-    let given_out = node.advance(alloc, archive, event, 0)?;
+    let given_out = node.advance(alloc, archive, event)?;
     Ok(round_in(&given_out.outs))
 }
 
@@ -174,13 +174,9 @@ fn a_second_proposal_begins_the_first_round_again(rt: HostRuntime) -> Result<(),
 }
 
 /// Whether two statements are sent and x is externalized.
-fn has_decided(outs: &[FiledOut], x: &Value) -> bool {
+fn has_decided(outs: &[Out], x: &Value) -> bool {
     match outs {
-        [
-            FiledOut::Emit(_),
-            FiledOut::Emit(_),
-            FiledOut::Externalized(value),
-        ] => value.is_same(x),
+        [Out::Emit(_), Out::Emit(_), Out::Externalized(value)] => value.is_same(x),
         _ => false,
     }
 }
@@ -191,7 +187,7 @@ fn decides(alloc: Global, archive: &mut Archive<BoxShelf>, node: &mut Node) -> R
 {
     let x = Value::of(alloc, b"x")?;
     let event = FiledEvent::Propose(x.try_copy()?);
-    let given_out = node.advance(alloc, archive, event, 0)?;
+    let given_out = node.advance(alloc, archive, event)?;
     Ok(has_decided(&given_out.outs, &x))
 }
 

@@ -46,7 +46,7 @@ pub record IsRemoved {S H P : Type 0} (a : (HostState S H P)) (c : CellSight) (s
   pub spares : a.spares.items ≡ b.spares.items ++ spare ∷ []
   pub queue : b.shared.queue ≡ a.shared.queue
 
--- the networks in two parts: the first so many, with the queue, and the others
+-- the networks in two parts: the first ones, this many, with the queue, and the others
 pub record AreStateParts {S H P : Type 0} (a : (HostState S H P)) (count : ℕ) (b c : (HostState S H P)) : Type 0 where
   pub first_numbers : b.shared.numbers.items ≡ take count a.shared.numbers.items
   pub first_cells : b.shared.cells.items ≡ take count a.shared.cells.items

@@ -10,7 +10,7 @@ abbrev pub HasNet : List NetSight → ℕ → Type 0
 HasNet [] number = ⊥
 HasNet (n ∷ ns) number = (number ≡ net_number n) ⊎ HasNet ns number
 
--- Why a network of this number does not join these. Of the three one alone can hold: its number is there; it is not, and
+-- Why a network of this number does not join these. Only one of the three can hold: its number is there; it is not, and
 -- there are 4,096 networks; or neither, and it is out of memory.
 abbrev pub IsWhyNotJoined : List NetSight → ℕ → NotJoined → Type 0
 IsWhyNotJoined nets number NumberThere = HasNet nets number

@@ -105,9 +105,10 @@ done_since h a b = applied_of h a.me.config (receipts_gained a b) + refused_of h
 abbrev pub heard_since : (Job → ℕ) → SeatSight → SeatSight → ℕ
 heard_since h a b = heard_of h a.me.config (receipts_gained a b)
 
--- However jobs are weighed: those that came in, and one for each emission that was gained and each other hosted node of
--- its network, are those that went out, the events that were gained as receipts and as denials, and those of networks
--- that are not here; and the report has the numbers of these.
+-- However jobs are weighed, two sums are the same. One is of the jobs that came in, and of one for each emission that
+-- was gained and each other hosted node of its network. The other is of the jobs that went out, of the events that were
+-- gained as receipts and as denials, and of the jobs of networks that are not here. The report counts the receipts as
+-- applied, and the denials and the jobs of networks that are not here as refused.
 pub record AreJobsDone (xs ys : List NetSight) (came went : (Job → ℕ) → ℕ) (r : Report) : Type 0 where
   pub lacking : List Job
   pub elsewhere : AllElsewhere xs lacking

@@ -24,18 +24,18 @@ use Rattle.workers.specs.declared.worker.Worker.{Worker}
 abbrev pub HaveSpareSeats : {S H P : Type 0} → ℕ → List (SpareSeats S H P) → Type 0
 HaveSpareSeats n bs = All (λ (b : SpareSeats _ _ _). n ≤ length b.seats.items) bs
 
--- beside the spare seats of each cell there is room for one more
+-- there is room for one more behind the spare seats of each cell
 abbrev pub AllRoomy : {S H P : Type 0} → List (SpareSeats S H P) → Type 0
 AllRoomy bs = All (λ (b : SpareSeats _ _ _). length b.seats.items < vec_capacity b.seats) bs
 
--- an empty room for so many seats
+-- an empty room for this many seats
 abbrev pub IsBlank : {S H P : Type 0} → ℕ → (Room S H P) → Type 0
 IsBlank n r = (r.seats.items ≡ []) × (n ≤ vec_capacity r.seats)
 
 abbrev pub AllBlank : {S H P : Type 0} → ℕ → List (Room S H P) → Type 0
 AllBlank n rs = All (IsBlank n) rs
 
--- rooms for so many workers at so many cells
+-- rooms for this many workers at this many cells
 pub record IsWorkerRoom {S H P : Type 0} (workers cells : ℕ) (c : (WorkerRoom S H P)) : Type 0 where
   pub many : length c.rooms.items ≡ workers
   pub blank : AllBlank cells c.rooms.items
@@ -88,7 +88,7 @@ NoneHasCounted ws = All (λ (w : Worker _ _ _). (w.applied ≡ 0) × (w.refused 
 abbrev pub AllHold : {S H P : Type 0} → Option Queue → List (Worker S H P) → Type 0
 AllHold q ws = All (λ (w : Worker _ _ _). IsPassing q w.pass) ws
 
--- some of the passes are the workers', the others lie beside them
+-- the passes are parted: some are the workers', and the others are left
 pub record IsSplit {S H P : Type 0} (before : List (Pass Job Hand)) (ws : List (Worker S H P))
     (after : List (Pass Job Hand)) : Type 0 where
   pub passing : (q : Option Queue) → AllPassing q before → AllPassing q after × AllHold q ws

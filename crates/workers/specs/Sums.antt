@@ -179,8 +179,8 @@ receipts_of w = weigh applied_many w.seats.items
 abbrev pub denials_of : {S H P : Type 0} → (Worker S H P) → ℕ
 denials_of w = weigh refused_many w.seats.items
 
--- from one moment of a worker to another: what it took, what its receipts made heard and what it was handed were as
--- often put, applied, refused or of no network here
+-- From one moment of a worker to another, two sums are the same. One is of what it took, what its receipts made others
+-- hear and what it was handed. The other is of what was put, applied or refused, or is of no network here.
 pub record KeepsSums {S H P : Type 0} (cells : List CellSight) (handed : List Job) (a b : (Worker S H P)) : Type 0 where
   pub lacking : List Job
   pub elsewhere : AllLack cells lacking
@@ -269,7 +269,7 @@ abbrev pub passes_of : {S H P : Type 0} → List (Worker S H P) → List (Pass J
 passes_of [] = []
 passes_of (w ∷ ws) = option_to_list w.pass ++ passes_of ws
 
--- the same sums of all workers, when the queue is closed and all that it had is done; some passes lay beside them
+-- the same sums of all workers, when the queue is closed and all that it had is done; some passes were not the workers'
 pub record AreSumsClosed {S H P : Type 0} (cells : List CellSight) (ps : List (Pass Job Hand)) (xs zs : List (Worker S H P))
     : Type 0 where
   pub lacking : List Job

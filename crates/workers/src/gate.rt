@@ -8,7 +8,7 @@ use work::Job;
 ///
 /// Each job that `before` sees is seen again by the same thread: by `after`, or by `put_off`.
 ///
-/// No contract speaks of it: an implementation may count, wait, or let other threads go first.
+/// No contract says what it does: an implementation may count, wait, or let other threads go first.
 pub trait Gate {
     /// The job is about to be applied by this thread.
     fn before<R: Wait>(&self, rt: &R, job: &Job);

@@ -76,7 +76,7 @@ impl<S: Shelf + Drop, H: Wait + Drop> Host<S, H> {
         self.host_state.shared.cells.len()
     }
 
-    /// Takes a network in, given by its cell and all seats of it, in the place of its number.
+    /// Takes a network in, given by its cell and all its seats, in the place of its number.
     ///
     /// An error says why not, and hands the cell and the seats back: a network of this number is there, or 4,096
     /// networks are. It says that it is out of memory only if neither is so. The host is then as it was.

@@ -114,7 +114,7 @@ impl<S: Shelf + Drop, H: Wait + Drop> HostState<S, H> {
                     spares,
                 })
             }
-            // Memory: the cells go back to where they were, where there is room for them.
+            // Memory: the cells go back to where they were; there is room for them.
             Err(_) => {
                 let Ok(()) = self.shared.cells.append(&mut cells) else {
                     unreachable!()

@@ -3,7 +3,7 @@
 //! A [`Host`] has networks, each a cell with all its seats. [`offer`] puts jobs into the queue, and a [`Crew`] is room
 //! for workers, made before they begin. In a [`run`] each worker has a seat at each network and a pass of the queue. It
 //! takes a job, and applies the event by its seat at the job's network. Then it goes through the receipts that the seat
-//! has gained: for each emission, each other hosted node of that network hears it, by a job that the worker applies at
+//! has gained. For each emission, each other hosted node of that network hears it, by a job that the worker applies at
 //! once. That goes on until no receipt is left, and only then the worker takes the next job from the queue. If it finds
 //! the job's network taken, it puts the job back, behind the others. A [`Gate`] sees each application begin and end.
 //!

@@ -126,10 +126,11 @@ where
 /// network that is held up holds up no worker, as long as there is a place in the queue. A worker ends when it finds
 /// the queue empty; a job that is left then is applied by the first worker at the close.
 ///
-/// However jobs are weighed: what the queue held, and one Hear for each emission of the receipts that were gained and
-/// each other hosted node, are the jobs that were applied, those that were refused, and those of networks that are not
-/// there. The report has these numbers. It takes no memory but for what cells keep. Cells and seats are the same after
-/// it, but that seats have gained receipts and refusals, and that those of workers have let go of all receipts.
+/// However jobs are weighed, two sums are the same. One is of what the queue held, and of one Hear for each emission of
+/// the receipts that were gained and each other hosted node. The other is of the jobs that were applied, those that
+/// were refused, and those of networks that are not there. The report has these numbers. It takes no memory but for
+/// what cells keep. Cells and seats are the same after it, but that seats have gained receipts and refusals, and that
+/// those of workers have let go of all receipts.
 pub fn run<S: Shelf + Drop + Send, H: Wait + Drop + Send, R: Threads + Wait + Sync, G: Gate + Sync>(
     rt: &R,
     host: &mut Host<S, H>,

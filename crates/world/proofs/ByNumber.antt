@@ -17,8 +17,8 @@ use Rattle.std.proofs.lemmas.List.{map-append, take-map, drop-map}
 use Rattle.types.specs.declared.event.Event.{Event}
 use Rattle.types.specs.declared.event.Refusal.{Refusal}
 use Rattle.protocol.specs.Networks.{Step}
+use Rattle.network.specs.declared.applied.Given.{Given}
 use Rattle.network.specs.Decoding.{step_of}
-use Rattle.hoststep.specs.declared.given.Given.{Given}
 use Rattle.hoststep.specs.Logs.{IsEntered, IsRefused, Log, marks_of, with_entry}
 use Rattle.world.specs.Worlds.{AreByNumber, IsAnswered, IsPlaceOf, log_at, logs_set, logs_with, marks_at, marks_in_log, numbers_of}
 use Rattle.world.proofs.Histories.{has-number}

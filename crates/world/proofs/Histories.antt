@@ -12,8 +12,8 @@ use Rattle.protocol.specs.Networks.Reply.{Done, Refused}
 use Rattle.protocol.specs.Hosts.{Config, Entry, History, journal_with, entries, journal, net_at, nets, new_net, steps_of}
 use Rattle.protocol.specs.Runs.{net_after, refusal_of, state_of}
 use Rattle.protocol.proofs.Runs.Hosts.{applied-journal, steps_to}
+use Rattle.network.specs.declared.applied.Given.{Given}
 use Rattle.network.specs.Decoding.{reading, step_of}
-use Rattle.hoststep.specs.declared.given.Given.{Given}
 use Rattle.hoststep.specs.Logs.{IsEntered, IsRefused, Log, with_entry}
 use Rattle.world.specs.Worlds.{IsAnswered, IsAnsweredAt, AreJournalsOf, items_of, with_history_of, and_then, configs_with, with_new_network, log_at, logs_set, logs_with}
 

@@ -8,8 +8,8 @@ use Rattle.protocol.specs.Sets.{IsAscending}
 use Rattle.protocol.specs.Networks.{Step}
 use Rattle.protocol.specs.Hosts.{Config, History, entries}
 use Rattle.configuration.specs.Configs.{index_in}
+use Rattle.network.specs.declared.applied.Given.{Given}
 use Rattle.network.specs.Decoding.{reading, step_of}
-use Rattle.hoststep.specs.declared.given.Given.{Given}
 use Rattle.hoststep.specs.Logs.{IsEntered, IsRefused, Log, marks_of, with_entry}
 use Rattle.world.specs.declared.world.WorldError.{WorldError}
 use Rattle.world.specs.declared.world.WorldError.TheVariants.{NetTwice, TooManyNets, NoMemory}
@@ -64,19 +64,19 @@ abbrev pub configs_with : Config → List Config → List Config
 configs_with c [] = c ∷ []
 configs_with c (k ∷ ks) = if nat_lt k.number c.number then k ∷ configs_with c ks else c ∷ k ∷ ks
 
--- a history where one more network is there from the start, without the events that named it
+-- a history in which one more network is there from the start, without the events that named it
 abbrev pub with_new_network : Config → History → History
 with_new_network c h =
     record { configs = configs_with c h.configs; calls = filter (λ x. not (x.0 == c.number)) h.calls }
 
--- a history where one more network is there with what another history does to it, behind all else
+-- a history in which one more network is there with what another history does to it, behind all else
 abbrev pub with_history_of : Config → History → History → History
 with_history_of c own h = record h {
   configs = configs_with c h.configs;
   calls = filter (λ x. not (x.0 == c.number)) h.calls ++ filter (λ x. x.0 == c.number) own.calls;
 }
 
--- a history where a network is not there, without the events that named it
+-- a history in which a network is not there, without the events that named it
 abbrev pub history_without : ℕ → History → History
 history_without g h = record {
   configs = filter (λ c. not (c.number == g)) h.configs;

@@ -7,7 +7,8 @@ ghost use Rattle.world.specs.Worlds.{IsAnswered, IsNotAdded, IsPlaceOf, AreJourn
 
 use configuration::NetConfig;
 use envstore::Shelf;
-use hoststep::{Given, Journal};
+use hoststep::Journal;
+use network::Given;
 use std::alloc::Global;
 use std::marker::Model;
 use thiserror::Error;
@@ -176,7 +177,7 @@ impl<S: Shelf> World<S> {
     }
 
     /// Adds a journal in the place of its number. It is handed back with the reason if there is a network of that
-    /// number, if there are 4,096, or if it is out of memory, in this order; then the host is as it was.
+    /// number, if there are 4,096, or if it is out of memory, in this order. Then the host is as it was.
     fn join(&mut self, journal: Journal<S>) -> Result<(), (WorldError, Journal<S>)>
         ensures ok { OnOk result (self.new ≡ logs_with journal self.old) }
         ensures fresh { OnOk result (log_at self.old journal.config.number ≡ None) }

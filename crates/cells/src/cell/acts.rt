@@ -233,8 +233,8 @@ impl<S: Shelf + Drop, H: Wait + Drop> Cell<S, H> {
     /// Applies an event under the lock: the seat gains its receipt, behind the others, which has what the event gives
     /// out. It waits for the lock.
     ///
-    /// What the journal decided is published, as far as there is memory; the rest goes with a later call. Beside
-    /// the lock it waits for watches that read.
+    /// What the journal decided is published, as far as there is memory; the rest goes with a later call. For this it
+    /// also waits for watches that read.
     ///
     /// An error is [`CellRefusal::Closed`] if the cell was stopped, and else the first refusal of the network that
     /// applies. It says that it is out of memory only if none applies, or while the bytes of an envelope are read.
@@ -265,7 +265,7 @@ impl<S: Shelf + Drop, H: Wait + Drop> Cell<S, H> {
         unreachable!()
     }
 
-    /// As [`Cell::apply`], with one attempt at the lock: if another seat has it, or another thread is in the way, the
+    /// As [`Cell::apply`], with one attempt at the lock. If another seat has it, or another thread is in the way, the
     /// event is handed back at once, and nothing has changed. So a thread that has other work need not wait.
     ///
     /// Once it has the lock it may still wait for watches that read, if something is published.

@@ -3,7 +3,7 @@
 ghost use Rattle.std.specs.Prelude.{◌≡◌, ◌++◌, ◌∷◌, [], IfOk, List, OnOk, Result, option_map};
 ghost use Rattle.types.specs.declared.event.Event.TheVariants.{Deliver};
 ghost use Rattle.types.specs.declared.event.Refusal.{Refusal};
-ghost use Rattle.hoststep.specs.declared.given.Given.{Given};
+ghost use Rattle.network.specs.declared.applied.Given.{Given};
 ghost use Rattle.world.specs.Worlds.{log_at};
 ghost use Rattle.runs.specs.ServedNetworks.{AreAllDelivered, AreDelivered, IsEventServed, IsHeardAt, hosted_names_in};
 ghost use Rattle.runs.specs.Unheard.{slot_closed_by, first_emitted};
@@ -12,8 +12,7 @@ use super::HostRun;
 use crate::hearings::{let_all_hear, names_of};
 use crate::unheard::first_emitted;
 use envstore::BoxShelf;
-use hoststep::Given;
-use network::push_named;
+use network::{Given, push_named};
 use std::alloc::{AllocError, Global};
 use types::{Bytes, Event, NodeId, Refusal};
 use world::World;

@@ -90,32 +90,24 @@ impl Write for FakeWriter {
     }
 }
 
-/// Prints the last field of a line, except for three words: `quiet` prints nothing, `bad` is a bad line, and at `full`
-/// it is out of memory.
+/// Prints the last field of a line, but nothing if that is `quiet`. It calls no line bad.
 #[derive(Drop)]
 pub struct LastField {}
 
 impl LineRunner for LastField {
     ghost tells = { λ s fields printed t. Unit {0} };
 
-    ghost refuses = { λ s fields. Unit {0} };
+    ghost refuses = { λ s fields. ⊥ };
+
+    ghost untold = { λ s t fields printed bad told. bad };
 
     fn line(&mut self, alloc: Global, fields: &[&[u8]]) -> Result<Option<String>, LineError> {
-        let last = match fields.last() {
-            Some(field) => *field,
-            None => return Err(LineError::Bad),
+        let Some(last) = fields.last() else {
+            return Ok(None);
         };
-        match last {
+        match *last {
             b"quiet" => Ok(None),
-            b"bad" => Err(LineError::Bad),
-            b"full" => Err(LineError::NoMemory),
-            _ => match std::str::from_utf8(last) {
-                Ok(text) => match String::from_str(alloc, text) {
-                    Ok(text) => Ok(Some(text)),
-                    Err(_) => Err(LineError::NoMemory),
-                },
-                Err(_) => Err(LineError::Bad),
-            },
+            text => Ok(Some(String::from_utf8_lossy(alloc, text)?)),
         }
     }
 }

@@ -1,10 +1,8 @@
-use Rattle.std.proofs.Common.{◌≡◌, ◌∙◌, ℕ, List, [], Some, slice_get, length, refl, sym, ap, arith}
+use Rattle.std.proofs.Common.{◌∙◌, [], sym, ap, arith}
 use Rattle.std.proofs.lemmas.Bool.Decides.{nat_tests}
-use Rattle.std.proofs.lemmas.Option.{slice_get_read}
-use Rattle.types.specs.declared.event.Event.{Event}
 use Rattle.protocol.specs.Hosts.{Config}
 use Rattle.hoststep.specs.Logs.{Log}
-use Rattle.crowds.proofs.RunsOf.{log_at_first, log_next, log_stays}
+use Rattle.crowds.proofs.RunsOf.{call_at, log_at_first, log_next, log_stays}
 use Rattle.crowds.proofs.replay.replay.Goals as goal
 use Rattle.crowds.proofs.replay.replay.Goals.{then-number-net+in_ok-answer+in-Done-1, then-number-net+in_ok-answer+in-Refused-1, else-number-net}
 
@@ -16,9 +14,8 @@ pub loop-call-preserved : goal.loop-call-preserved
 loop-call-preserved c =
     let h = c.args.submission.now in
     let k = c.loop-call.call-index in
-    let items = c.calls-call-items.result.now in
     let x = c.call-item.result in
-    let there : slice_get h.calls k ≡ Some x = ap (λ (cs : List (ℕ × Event)). slice_get cs k) (sym c.calls-call-items.ensures) ∙ slice_get_read items (length items) k x refl c.loop-call-test.true c.call-item.is in
+    let there = call_at h _ k x c.calls-call-items.ensures c.loop-call-test.true c.call-item.is in
     elim c.if-number-net.branch [
       | then-number-net+in_ok-answer+in-Done-1 w ↦
           w.journal-is ∙ log_next h c.args.config.now c.args.net c.requires k x there (grind (arith, nat_tests, w.if-number-net.true)) c.loop-call.journal c.loop-call.invariant w.in_ok-answer.ensures

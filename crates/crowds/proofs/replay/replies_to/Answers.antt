@@ -1,6 +1,5 @@
-use Rattle.std.proofs.Common.{◌≡◌, ◌∙◌, ◌≤◌, ℕ, List, [], true, false, ◌==◌, length, map, Some, slice_get, refl, sym, ap, subst, arith}
+use Rattle.std.proofs.Common.{◌≡◌, ◌∙◌, ◌≤◌, ℕ, List, [], true, false, ◌==◌, length, map, sym, ap, subst, arith}
 use Rattle.std.proofs.lemmas.Bool.Decides.{nat_tests}
-use Rattle.std.proofs.lemmas.Option.{slice_get_read}
 use Rattle.types.specs.declared.event.Event.{Event}
 use Rattle.protocol.specs.Hosts.{Config}
 use Rattle.protocol.specs.Sets.{among}
@@ -8,7 +7,7 @@ use Rattle.protocol.specs.Submissions.{replied_to}
 use Rattle.closure.specs.Announcing.{member_names}
 use Rattle.hoststep.specs.Logs.{Log}
 use Rattle.crowds.specs.Replies.{reply_of_answer}
-use Rattle.crowds.proofs.RunsOf.{answers_stay, log_at_first, log_next, log_stays, replied_at_first, replied_in_all, replies_next}
+use Rattle.crowds.proofs.RunsOf.{answers_stay, call_at, log_at_first, log_next, log_stays, replied_at_first, replied_in_all, replies_next}
 use Rattle.crowds.proofs.replay.replies_to.Goals as goal
 use Rattle.crowds.proofs.replay.replies_to.Goals.{then-number-net+in_ok-is_concerning+in_ok-reply+in_ok-keep, else-number-net}
 
@@ -23,9 +22,8 @@ loop-call-preserved c =
     let R = among (member_names c.args.members.now) in
     let h = c.args.submission.now in
     let k = c.loop-call.call-index in
-    let items = c.calls-call-items.result.now in
     let x = c.call-item.result in
-    let there : slice_get h.calls k ≡ Some x = ap (λ (cs : List (ℕ × Event)). slice_get cs k) (sym c.calls-call-items.ensures) ∙ slice_get_read items (length items) k x refl c.loop-call-test.true c.call-item.is in
+    let there = call_at h _ k x c.calls-call-items.ensures c.loop-call-test.true c.call-item.is in
     elim c.if-number-net.branch [
       | then-number-net+in_ok-is_concerning+in_ok-reply+in_ok-keep w ↦
           let o : (x.0 == c.args.net) ≡ true = grind (arith, nat_tests, w.if-number-net.true) in

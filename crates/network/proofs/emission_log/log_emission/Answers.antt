@@ -1,5 +1,5 @@
 use Rattle.std.proofs.Common.{rules, ◌≡◌, ◌∙◌, ◌++◌, ◌∷◌, [], length, ap}
-use Rattle.network.proofs.NumberedOuts.{by-kind, counted, kind-read}
+use Rattle.network.proofs.Numbering.{by-kind, counted, kind-read}
 use Rattle.network.proofs.emission_log.log_emission.Goals as goal
 
 pub returns-clause-places : goal.returns-clause-places

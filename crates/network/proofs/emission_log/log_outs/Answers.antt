@@ -4,7 +4,7 @@ use Rattle.protocol.specs.Networks.{emissions}
 use Rattle.network.specs.Marks.{numbers_by_kind}
 use Rattle.slot.specs.Filings.{whole_outs}
 use Rattle.network.specs.FiledSlots.{HaveRoom}
-use Rattle.network.proofs.NumberedOuts.{emitted-more, marks-more, fewer, room-for}
+use Rattle.network.proofs.Numbering.{emitted-more, marks-more, fewer, room-for}
 use Rattle.network.proofs.emission_log.log_outs.Goals as goal
 
 pub log_out-requires-clause-room : goal.log_out-requires-clause-room

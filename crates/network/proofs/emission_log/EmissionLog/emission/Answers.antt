@@ -3,7 +3,7 @@ use Rattle.envstore.specs.Archives.{AreFiled, sent_of, sents_of}
 use Rattle.envstore.specs.declared.filed.Filed.{Filed}
 use Rattle.network.proofs.Emitted.{filed-at}
 use Rattle.network.proofs.EmissionsByKind.{nth-none, nth-some, from-one}
-use Rattle.network.proofs.NumberedOuts.{sent-at, get-sent}
+use Rattle.network.proofs.Numbering.{sent-at, get-sent}
 use Rattle.network.proofs.emission_log.EmissionLog.emission.Goals as goal
 
 pub returns-in-None-clause-sent : goal.returns-in-None-clause-sent

@@ -32,6 +32,6 @@ returns-clause-applied g c =
     let e = step_of c.args.event.now in
     let plan = subst (λ (s : FiledMachine). IsPlan s e c.args.plan) (sym c.self.view_is) c.requires in
     let after : FiledMachine = record { config = i.config; archive = c.perform.new.archive; slots = c.perform.new.slots; events = c.count.new.events; bytes = c.count.new.bytes; opens = c.count.new.opens } in
-    subst (λ (s : FiledMachine). IsApplied s e c.args.copies after c.in_ok-applied.applied) c.self.view_is
-    (applied m e c.args.plan c.perform.new.slots c.perform.new.archive c.count.new.events c.count.new.bytes c.count.new.opens c.args.copies c.in_ok-applied.applied c.self.invariant plan c.in_ok-applied.ensures.done
-    c.count.ensures.events c.count.ensures.bytes c.count.ensures.opens c.in_ok-applied.ensures.answer)
+    subst (λ (s : FiledMachine). IsApplied s e after c.in_ok-applied.applied) c.self.view_is
+    (applied m e c.args.plan c.perform.new.slots c.perform.new.archive c.count.new.events c.count.new.bytes c.count.new.opens c.in_ok-applied.applied c.self.invariant plan c.in_ok-applied.ensures.done
+    c.count.ensures.events c.count.ensures.bytes c.count.ensures.opens c.in_ok-applied.ensures.outcome)

@@ -68,4 +68,4 @@ returns g c =
     let d = c.in_ok-drawn.drawn in
     let filed = c.in-Some.ensures.filed a.self.now.archive c.instance.ensures.archived in
     let plan = hears-plan c.in-Some.emitted d x c.in-Some.is filed (c.in_ok-drawn.ensures.room a.slot c.in_ok-slot_at.ensures) in
-    subst (λ (f : Filed). IsPlan a.self.now (Hears a.slot a.node.now a.emission.now.from a.emission.now.kind a.emission.now.number) (record { deed = Act c.in_ok-slot_at.slot_at c.in_ok-node_at.node_at (events.Take f); drawn = d; size = 0 })) (sym c.copy_of.ensures) plan
+    subst (λ (f : Filed). IsPlan a.self.now (Hears a.slot a.node.now a.emission.now.from a.emission.now.kind a.emission.now.number) (record { deed = Act (record { slot_at = c.in_ok-slot_at.slot_at; node_at = c.in_ok-node_at.node_at }) (events.Take f); charge = record { drawn = d; size = 0 } })) (sym c.copy_of.ensures) plan

@@ -65,5 +65,5 @@ returns-in-Ok g c =
     let st : IsStanding m = subst IsStanding c.self.view_is c.self.invariant in
     let bad : is_bad_value c.args.value.now ≡ false = search rules in
     let plan = asks-plan m c.args.slot c.args.node.now c.args.value.now c.in_ok-spot.spot (counted_instance c.instance.result.now) c.has_proposal.result c.in_ok-drawn.drawn st c.in_ok-spot.ensures c.instance.ensures.counted bad c.has_proposal.ensures c.if-has_proposal.false (c.in_ok-drawn.ensures c.args.slot c.in_ok-spot.ensures.slot) in
-    let e : c.plan_at.result ≡ record { deed = Act c.in_ok-spot.spot.slot_at c.in_ok-spot.spot.node_at (events.Propose c.args.value.now); drawn = c.in_ok-drawn.drawn; size = 0 } = c.plan_at.ensures ∙ ap (λ (x : List ℕ). record { deed = Act c.in_ok-spot.spot.slot_at c.in_ok-spot.spot.node_at (events.Propose x); drawn = c.in_ok-drawn.drawn; size = 0 }) c.in-Ok.ensures in
+    let e : c.plan_at.result ≡ record { deed = Act c.in_ok-spot.spot (events.Propose c.args.value.now); charge = record { drawn = c.in_ok-drawn.drawn; size = 0 } } = c.plan_at.ensures ∙ ap (λ (x : List ℕ). record { deed = Act c.in_ok-spot.spot (events.Propose x); charge = record { drawn = c.in_ok-drawn.drawn; size = 0 } }) c.in-Ok.ensures in
     subst (λ (p : Plan). IsPlan m (Proposes c.args.slot c.args.node.now c.args.value.now) p) (sym e) plan

@@ -39,6 +39,6 @@ pub returns-in-Ok : goal.returns-in-Ok
 returns-in-Ok g c =
     let a = c.args in
     let st : IsStanding a.self.now = subst IsStanding c.self.view_is c.self.invariant in
-    let of : Slices → Plan = λ q. record { deed = Act c.in_ok-spot.spot.slot_at c.in_ok-spot.spot.node_at (events.Reslice q); drawn = c.in_ok-drawn.drawn; size = 0 } in
+    let of : Slices → Plan = λ q. record { deed = Act c.in_ok-spot.spot (events.Reslice q); charge = record { drawn = c.in_ok-drawn.drawn; size = 0 } } in
     let plan = own-plan a.self.now a.slot a.node.now c.in_ok-spot.spot (events.Reslice a.slices.now) c.in_ok-drawn.drawn (Reslices a.slot a.node.now a.slices.now) st c.in_ok-spot.ensures tt (c.in_ok-drawn.ensures a.slot c.in_ok-spot.ensures.slot) (reslice-own a.slot a.node.now a.slices.now) in
     subst (IsPlan a.self.now (Reslices a.slot a.node.now a.slices.now)) (ap of (sym c.in-Ok.ensures) ∙ sym c.plan_at.ensures) plan

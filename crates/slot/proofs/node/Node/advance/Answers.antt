@@ -42,7 +42,7 @@ pub returns-clause-emitted : goal.returns-clause-emitted
 returns-clause-emitted g c =
     let at = own g (goal.at.returns-clause-emitted g c).Joined-event in
     let event = event_of c.args.event in
-    emitted-own c.args.self.now.node c.settle.new.self.node c.settle.new.archive event c.settle.result (c.settle.ensures.node event at) (c.settle.ensures.outs event at) c.settle.ensures.filed
+    emitted-own c.args.self.now.node c.settle.new.self.node c.settle.new.archive event c.settle.result (c.settle.ensures.node event at) (c.settle.ensures.outs event at) c.settle.ensures.whole c.settle.ensures.filed
 
 pub returns-in_err-changed_by_proposal-in-Propose-clause-idle : goal.returns-in_err-changed_by_proposal-in-Propose-clause-idle
 returns-in_err-changed_by_proposal-in-Propose-clause-idle g c = λ e. absurd (propose-changes c.args.self.now.node c.in-Propose.value (ap (λ (x : FiledEvent). change c.args.self.now.node (event_of x)) (sym c.in-Propose.is) ∙ e))
@@ -52,10 +52,10 @@ returns-in-Take-clause-quiet g c =
     λ R x is held out led. quiet-after c.args.self.now.node c.take.new.self.node (Take (sent_of c.in-Take.envelope)) c.take.result c.comes_of_events.ensures c.take.ensures.node c.take.ensures.outs R x (ap event_of (sym c.in-Take.is) ∙ is) held out led
 
 pub returns-in-Take-clause-emitted : goal.returns-in-Take-clause-emitted
-returns-in-Take-clause-emitted g c = emitted-own c.args.self.now.node c.take.new.self.node c.take.new.archive (Take (sent_of c.in-Take.envelope)) c.take.result c.take.ensures.node c.take.ensures.outs c.take.ensures.filed
+returns-in-Take-clause-emitted g c = emitted-own c.args.self.now.node c.take.new.self.node c.take.new.archive (Take (sent_of c.in-Take.envelope)) c.take.result c.take.ensures.node c.take.ensures.outs c.take.ensures.whole c.take.ensures.filed
 
 pub returns-in-Reslice-clause-emitted : goal.returns-in-Reslice-clause-emitted
-returns-in-Reslice-clause-emitted g c = emitted-own c.args.self.now.node c.reslice.new.self.node c.reslice.new.archive (Reslice c.in-Reslice.slices) c.reslice.result c.reslice.ensures.node c.reslice.ensures.outs c.reslice.ensures.filed
+returns-in-Reslice-clause-emitted g c = emitted-own c.args.self.now.node c.reslice.new.self.node c.reslice.new.archive (Reslice c.in-Reslice.slices) c.reslice.result c.reslice.ensures.node c.reslice.ensures.outs c.reslice.ensures.whole c.reslice.ensures.filed
 
 pub returns-in-Reslice-clause-idle : goal.returns-in-Reslice-clause-idle
 returns-in-Reslice-clause-idle g c = λ e. absurd (reslice-changes c.args.self.now.node c.in-Reslice.slices (ap (λ (x : FiledEvent). change c.args.self.now.node (event_of x)) (sym c.in-Reslice.is) ∙ e))

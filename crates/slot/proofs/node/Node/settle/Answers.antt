@@ -7,7 +7,6 @@ use Rattle.protocol.specs.Limits.{ComesOfEvents}
 use Rattle.envstore.specs.Archives.{AreFiled}
 use Rattle.envstore.proofs.Growing.{keeps_all}
 use Rattle.listening.specs.Listening.{ListenerState}
-use Rattle.slot.specs.Filings.{whole_outs}
 use Rattle.slot.specs.Listening.{FiledNode, node_of}
 use Rattle.slot.specs.NodeParts.{ChangesTo, IsBeforePasses}
 use Rattle.slot.proofs.Answered.{change-of, node-after, node_in, outs-after, reached-after, step-none}
@@ -33,7 +32,7 @@ pub returns-in_default-clause-node : goal.returns-in_default-clause-node
 returns-in_default-clause-node g c = λ event made. sym (ap (λ (p : Node × List Out). p.0) (step-none c.args.self.now.node event c.args.changed c.in_default.is made))
 
 pub returns-in_default-clause-outs : goal.returns-in_default-clause-outs
-returns-in_default-clause-outs g c = λ event made. ap whole_outs c.nothing.ensures.outs ∙ sym (ap (λ (p : Node × List Out). p.1) (step-none c.args.self.now.node event c.args.changed c.in_default.is made))
+returns-in_default-clause-outs g c = λ event made. c.nothing.ensures.outs ∙ sym (ap (λ (p : Node × List Out). p.1) (step-none c.args.self.now.node event c.args.changed c.in_default.is made))
 
 pub returns-in-Ok-clause-node : goal.returns-in-Ok-clause-node
 returns-in-Ok-clause-node g c = λ event made.

@@ -8,7 +8,6 @@ use Rattle.protocol.specs.Limits.{ComesOfEvents}
 use Rattle.protocol.specs.Limits.ComesOfEvents.{next}
 use Rattle.listening.specs.Listening.{ListenerState}
 use Rattle.slot.specs.Listening.{AddsRowAlone, node_of}
-use Rattle.slot.specs.Filings.{whole_outs}
 use Rattle.envstore.specs.Archives.{sent_of, sents_of}
 use Rattle.slot.proofs.Answered.{node_in, change-put, node-after, outs-after, reached-after, stale-put}
 use Rattle.slot.proofs.Idle.{idle-stale, never}
@@ -41,7 +40,7 @@ pub returns-then-adds_row_alone-clause-node : goal.returns-then-adds_row_alone-c
 returns-then-adds_row_alone-clause-node g c = sym (ap (λ (p : Node × List Out). p.0) (row g (goal.at.returns-then-adds_row_alone-clause-node g c).In_ok-offer))
 
 pub returns-then-adds_row_alone-clause-outs : goal.returns-then-adds_row_alone-clause-outs
-returns-then-adds_row_alone-clause-outs g c = ap whole_outs c.nothing.ensures.outs ∙ sym (ap (λ (p : Node × List Out). p.1) (row g (goal.at.returns-then-adds_row_alone-clause-outs g c).In_ok-offer))
+returns-then-adds_row_alone-clause-outs g c = c.nothing.ensures.outs ∙ sym (ap (λ (p : Node × List Out). p.1) (row g (goal.at.returns-then-adds_row_alone-clause-outs g c).In_ok-offer))
 
 pub returns-in_err-offer-clause-idle : goal.returns-in_err-offer-clause-idle
 returns-in_err-offer-clause-idle g c = λ idle.
@@ -82,7 +81,7 @@ returns-in-Stale-clause-node g c =
 pub returns-in-Stale-clause-outs : goal.returns-in-Stale-clause-outs
 returns-in-Stale-clause-outs g c =
     let i = c.self.inside in
-    ap whole_outs c.nothing-in-Stale.ensures.outs ∙ sym (ap (λ (p : Node × List Out). p.1) (stale-put i.listener c.put_row-put.new.listener i.inputs i.votes c.args.self.now.node (sent_of c.args.envelope) c.put_row-put.result.0 (ap node_in c.self.view_is) c.put_row-put.ensures.put c.put_row-put.ensures.same c.in-Stale.is))
+    c.nothing-in-Stale.ensures.outs ∙ sym (ap (λ (p : Node × List Out). p.1) (stale-put i.listener c.put_row-put.new.listener i.inputs i.votes c.args.self.now.node (sent_of c.args.envelope) c.put_row-put.result.0 (ap node_in c.self.view_is) c.put_row-put.ensures.put c.put_row-put.ensures.same c.in-Stale.is))
 
 pub returns-in-Ok-clause-node : goal.returns-in-Ok-clause-node
 returns-in-Ok-clause-node g c =

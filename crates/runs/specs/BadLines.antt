@@ -1,7 +1,8 @@
--- A line that is bad is none that is told.
+-- No line of a script of networks is both bad and told: the laws of what runs lines, and their proofs.
 use Rattle.std.proofs.Common.{◌≡◌, ◌∙◌, ◌++◌, ℕ, Bool, true, false, not, List, [], ◌∷◌, Option, Some, None, inl, inr, refl, sym, ap, subst}
 use Rattle.std.specs.Prelude.{IfSome, codes, option_and_then, option_map}
 use Rattle.std.proofs.lemmas.Bool.{false≢true}
+use Rattle.scripts.specs.Runs.{BadLinesAreUntold}
 use Rattle.scripts.specs.Script.{Bytes}
 use Rattle.scripts.specs.Names.{word_name}
 use Rattle.scripts.specs.Slices.{AreSlices}
@@ -42,18 +43,19 @@ use Rattle.requests.specs.Telling.{Allowed, HasNoNode, IsBadOrder, IsBadRequest,
 use Rattle.runs.specs.Hosting.{Hosting, IsNetworkBegun, logs_joined}
 use Rattle.runs.specs.declared.outcome.Outcome.{Outcome}
 use Rattle.runs.specs.declared.outcome.Outcome.TheVariants.{Declared, Answer, Answers, Settled}
-use Rattle.runs.specs.Running.{BadLinesTellNothing, Does}
-use Rattle.runs.specs.Submitting.{BadLinesSubmitNothing, IsNetworkDeclared, Submitting, declared_once, may_submit, no_settling}
+use Rattle.runs.specs.Running.{Does, IsLineCarriedOut, RefusesLine, Tells}
+use Rattle.runs.specs.Unprinted.{RefusesUnprinted, TellsUnprinted}
+use Rattle.runs.specs.Submitting.{IsNetworkDeclared, RefusesToSubmit, Submits, Submitting, declared_once, may_submit, allowed_to_submit}
 use Rattle.runs.specs.Submitting.Submits.{declares as submits_declaration, submits}
 
 -- ---- of two readings of one line, what the one asks for is bad where what the other asks for is
 
 -- what holds of one of these holds of each
-abbrev pub AreAlike : {X : Type 0} → (X → Type 0) → (Option X → Type 0) → Type 0
-AreAlike {X} asks P = (x y : X) → asks x → asks y → P (Some y) → P (Some x)
+abbrev pub AreReadAlike : {X : Type 0} → (X → Type 0) → (Option X → Type 0) → Type 0
+AreReadAlike {X} asks P = (x y : X) → asks x → asks y → P (Some y) → P (Some x)
 
 -- the same of any two readings of them, one of which may read nothing
-by-reading : {X : Type 0} (asks : X → Type 0) (P : Option X → Type 0) → P None → AreAlike asks P → (o p : Option X) → IsRead asks o → IsRead asks p → P p → P o
+by-reading : {X : Type 0} (asks : X → Type 0) (P : Option X → Type 0) → P None → AreReadAlike asks P → (o p : Option X) → IsRead asks o → IsRead asks p → P p → P o
 by-reading asks P nothing alike None p h k bad = nothing
 by-reading asks P nothing alike (Some x) None h k bad = absurd (k x h)
 by-reading asks P nothing alike (Some x) (Some y) h k bad = alike x y h k bad
@@ -113,36 +115,36 @@ module _ (P : ℕ → Request → Type 0) (words : (g : ℕ) → IsOfWords (P g)
     abbrev IsSoOfEvent : Option Event → Type 0
     IsSoOfEvent o = IsSoHere (option_map (λ e. Apply e) o)
 
-    two-nets : (o : Option Budgets) → AreAlike (AreAllowed o) IsSoHere
+    two-nets : (o : Option Budgets) → AreReadAlike (AreAllowed o) IsSoHere
     two-nets None r q h k so = absurd h
     two-nets (Some b) r q h k so = subst (P g) (k.1 ∙ sym h.1) so
 
-    two-named : (o : Option ℕ) (slices : Bytes) → AreAlike (IsNode o slices) IsSoHere
+    two-named : (o : Option ℕ) (slices : Bytes) → AreReadAlike (IsNode o slices) IsSoHere
     two-named None slices r q h k so = absurd h
     two-named (Some u) slices r q h k so = subst (P g) (k.2 ∙ ap (λ q. Declare (Node u q)) (same-slices slices k.0 h.0 k.1 h.1) ∙ sym h.2) so
 
-    two-nodes : (fields : List Bytes) → AreAlike (AsksNode fields) IsSoHere
+    two-nodes : (fields : List Bytes) → AreReadAlike (AsksNode fields) IsSoHere
     two-nodes (name ∷ slices ∷ []) r q h k so = two-named (word_name name) slices r q h k so
     two-nodes _ r q h k so = absurd h
 
-    two-rosters : (o : Option (Shares × List Bytes)) → AreAlike (IsReserved o) IsSoHere
+    two-rosters : (o : Option (Shares × List Bytes)) → AreReadAlike (IsReserved o) IsSoHere
     two-rosters None r q h k so = absurd h
     two-rosters (Some w) r q h k so =
         subst (P g) (sym h.3) (words g k.0 h.0 (same-names _ _ _ k.1 h.1) (k.2 ∙ sym h.2) (subst (P g) k.3 so))
 
-    two-said : (o : Option ℕ) (w : Bytes × Bytes × Bytes × Bytes × Bytes) → AreAlike (IsSaid o w) IsSoOfEvent
+    two-said : (o : Option ℕ) (w : Bytes × Bytes × Bytes × Bytes × Bytes) → AreReadAlike (IsSaid o w) IsSoOfEvent
     two-said None w e f h k so = absurd h
     two-said (Some u) w e f h k so = subst (λ x. IsSoOfEvent (Some x)) (k.2 ∙ ap (λ bytes. event.Deliver u bytes) (same-bytes k.0 h.0 w.1 w.2 w.3 w.4 k.1 h.1) ∙ sym h.2) so
 
-    two-sayings : (o : Option (Bytes × Bytes × Bytes × Bytes × Bytes)) → AreAlike (AsksSayOf o) IsSoOfEvent
+    two-sayings : (o : Option (Bytes × Bytes × Bytes × Bytes × Bytes)) → AreReadAlike (AsksSayOf o) IsSoOfEvent
     two-sayings None e f h k so = absurd h
     two-sayings (Some w) e f h k so = two-said (word_name w.0) w e f h k so
 
-    two-resliced : (o : Option (ℕ × ℕ)) (slices : Bytes) → AreAlike (IsResliced o slices) IsSoOfEvent
+    two-resliced : (o : Option (ℕ × ℕ)) (slices : Bytes) → AreReadAlike (IsResliced o slices) IsSoOfEvent
     two-resliced None slices e f h k so = absurd h
     two-resliced (Some at) slices e f h k so = subst (λ x. IsSoOfEvent (Some x)) (k.2 ∙ ap (λ q. event.Reslice at.0 at.1 q) (same-slices slices k.0 h.0 k.1 h.1) ∙ sym h.2) so
 
-    two-reslices : (o : Option (Bytes × Bytes × Bytes)) → AreAlike (AsksResliceOf o) IsSoOfEvent
+    two-reslices : (o : Option (Bytes × Bytes × Bytes)) → AreReadAlike (AsksResliceOf o) IsSoOfEvent
     two-reslices None e f h k so = absurd h
     two-reslices (Some w) e f h k so = two-resliced (slot_and_node_in w.0 w.1) w.2 e f h k so
 
@@ -287,12 +289,22 @@ done-is-not-bad g (order.ForAll bytes) old new (Answers rs) h bad =
 done-is-not-bad g order.Drop old new (Answer r) h bad = false≢true (sym h.0 ∙ bad)
 done-is-not-bad g o old new outcome h bad = absurd h
 
-pub bad_lines_tell_nothing : BadLinesTellNothing
-bad_lines_tell_nothing old new fields printed bad (g, outcome, (o, ordered, done), said) =
-    not-bad-order old.waiting old.named fields g o ordered (done-is-not-bad g o old new outcome done) bad
+carried-out-is-not-bad : (g : ℕ) (fields : List Bytes) (old new : Hosting) (outcome : Outcome) → IsLineCarriedOut g fields old outcome new → ¬ RefusesLine old fields
+carried-out-is-not-bad g fields old new outcome (o, ordered, done) =
+    not-bad-order old.waiting old.named fields g o ordered (done-is-not-bad g o old new outcome done)
 
-pub bad_lines_submit_nothing : BadLinesSubmitNothing
-bad_lines_submit_nothing old new fields printed bad (submits_declaration h closing named history) = taken (no_settling old.closing) old.waiting old.named fields new.waiting h bad
+-- a law: no line of a script of networks is both bad and told
+pub bad_lines_tell_nothing : BadLinesAreUntold Tells RefusesLine
+bad_lines_tell_nothing old new fields printed bad (g, outcome, done, said) = carried-out-is-not-bad g fields old new outcome done bad
+
+-- a law: no line of a script that prints nothing is both bad and told
+pub bad_lines_tell_nothing_unprinted : BadLinesAreUntold TellsUnprinted RefusesUnprinted
+bad_lines_tell_nothing_unprinted old new fields printed bad (g, outcome, done, none, memory, trace) =
+    carried-out-is-not-bad g fields old.hosting new.hosting outcome done bad
+
+-- a law: no line is both bad and submitted
+pub bad_lines_submit_nothing : BadLinesAreUntold Submits RefusesToSubmit
+bad_lines_submit_nothing old new fields printed bad (submits_declaration h closing named history) = taken (allowed_to_submit old.closing) old.waiting old.named fields new.waiting h bad
 bad_lines_submit_nothing old new fields printed bad (submits g e asked may h) =
-    not-bad (no_settling old.closing) old.waiting old.named fields g (Apply e) asked
+    not-bad (allowed_to_submit old.closing) old.waiting old.named fields g (Apply e) asked
     (not-bad-to-ask (may_submit old e) old.waiting g may (declared-has-nodes g old h.0 h.1)) bad
