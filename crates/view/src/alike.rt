@@ -24,7 +24,7 @@ pub(crate) const FEW_NODES: usize = 8;
 const MOST_GROUPS: usize = 16;
 
 /// The reached nodes but the node itself, in groups whose rows of one kind say the same. Those whose rows differ from
-/// the groups' are in the rest. So a question is put to one row of each group, and to each of the rest.
+/// the groups' are in the rest. So a question is put to one row of each group, if the rest is empty.
 ///
 /// For example, if A, C and D say the same and B says something else, one group is A, C and D, and another is B.
 #[derive(Drop)]

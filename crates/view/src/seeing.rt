@@ -27,7 +27,7 @@ use crate::region::Region;
 use crate::rows::values_of;
 use crate::searching::next_counter;
 use crate::unlisted::{next_mentioned, nominated_values};
-use crate::words::FEW_WORDS;
+use crate::words::{FEW_WORDS, first_place};
 use compiled::{Form, in_quorum, is_met, is_met_by, no_places};
 use envstore::Places;
 use fedvote::{Mention, Question, Sight};
@@ -306,7 +306,7 @@ fn ballots_alike(listed: &Option<ReachedBallots>) -> Option<&Alike>
 {
     match listed {
         None => None,
-        Some(listed) => listed.alike.as_ref(),
+        Some(listed) => if_all_grouped(&listed.alike),
     }
 }
 
@@ -316,6 +316,23 @@ fn values_alike(listed: &Option<ReachedValues>) -> Option<&Alike>
 {
     match listed {
         None => None,
-        Some(listed) => listed.alike.as_ref(),
+        Some(listed) => if_all_grouped(&listed.alike),
+    }
+}
+
+/// The groups, if each row of another node is in one. If some are not, many say something else: then each row is asked,
+/// and only until the answer is known.
+fn if_all_grouped(alike: &Option<Alike>) -> Option<&Alike>
+    ensures { (own : ℕ) (rows : RowsOfNodes) → IfSome alike.now (AreGrouped own rows) → IfSome result (λ a. AreGrouped own rows a.now) }
+{
+    match alike {
+        None => None,
+        Some(alike) => {
+            if first_place(&alike.rest).is_none() {
+                Some(alike)
+            } else {
+                None
+            }
+        }
     }
 }
