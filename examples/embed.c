@@ -1,6 +1,6 @@
 /* examples/embed.c: a live host within a program in C.
  *
- *     cc -o embed -I crates/scp_host examples/embed.c $(tools/library)
+ *     cc -o embed -I crates/live_embed examples/embed.c $(tools/library)
  *     ./embed < cases/serve/two-nodes-hear-each-other/lines
  *
  * It reads lines from the standard input, has a host answer each, and prints the blocks, as `scphost serve` does. With the word

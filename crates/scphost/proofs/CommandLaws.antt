@@ -1,11 +1,11 @@
 -- A command line, from its words to its status.
 use Rattle.std.proofs.Common.{◌≡◌, ℕ, List, Option, Err, inl, inr}
 use Rattle.std.specs.Io.KnownBytes.{Keeps}
-use Rattle.scripts.specs.Script.{Bytes}
-use Rattle.scripts.specs.declared.run.Stop.TheVariants as stop
-use Rattle.command_line.specs.CommandLine.{IsCall}
-use Rattle.command_line.specs.Words.{Text}
-use Rattle.command_line.specs.declared.call.Call.{Call}
+use Rattle.line_script.specs.Script.{Bytes}
+use Rattle.line_script.specs.declared.run.Stop.TheVariants as stop
+use Rattle.scphost_words.specs.CommandLine.{IsCall}
+use Rattle.scphost_words.specs.Words.{Text}
+use Rattle.scphost_words.specs.declared.call.Call.{Call}
 use Rattle.scphost.specs.Commands.{HasAnsweredWords, IsCarriedOut}
 use Rattle.scphost.specs.Printing.{IsPerformed, IsPerformedAsItComes}
 use Rattle.scphost.specs.Stops.{End, status_of_end}

@@ -3,25 +3,25 @@ use Rattle.std.proofs.Common.{◌≡◌, ◌≢◌, ℕ, ◌+◌, [], Bool, fals
 use Rattle.std.specs.Io.Buffered.{reader_buffer, reader_capacity, reader_inner, reader_remaining}
 use Rattle.std.specs.Io.KnownBytes.{prepend_known}
 use Rattle.std.specs.declared.io.buffered.BufReader.{BufReader}
-use Rattle.scripts.specs.Script.{Bytes}
-use Rattle.scripts.specs.declared.run.Stop.{Stop}
-use Rattle.feed.specs.Compacting.{HasCompacted}
-use Rattle.feed.specs.Hosted.{HasDone, HasHostedStream}
-use Rattle.feed.specs.Hosted.Hosts.{begins}
-use Rattle.feed.specs.WholeLines.{BeginsWithLines}
-use Rattle.feed.proofs.StopLaws.{survives}
+use Rattle.line_script.specs.Script.{Bytes}
+use Rattle.line_script.specs.declared.run.Stop.{Stop}
+use Rattle.live_feed.specs.Compacting.{HasCompacted}
+use Rattle.live_feed.specs.Hosted.{HasDone, HasHostedStream}
+use Rattle.live_feed.specs.Hosted.Hosts.{begins}
+use Rattle.live_feed.specs.WholeLines.{BeginsWithLines}
+use Rattle.live_feed.proofs.StopLaws.{survives}
 use Rattle.std.proofs.KnownBytes.{Appends-nil}
 use Rattle.std.specs.Prelude.{IfSome}
-use Rattle.feed.specs.declared.fault.Fault.{Fault}
-use Rattle.feed.specs.declared.fault.Fault.TheVariants as fault
-use Rattle.feed.specs.declared.reading.TheConstants.{LONGEST_LINE}
-use Rattle.journal.specs.Resuming.{HasResumed}
-use Rattle.journal.specs.declared.fault.JournalFault.{JournalFault}
-use Rattle.journal.specs.declared.fault.JournalFault.TheVariants as journal
-use Rattle.serving.specs.Hosts.{Live, Remembers, Serves, new_live}
-use Rattle.serving.specs.Keeping.{live_empty_lines_are_skipped, live_kept_lines_are_whole, live_only_kept_lines_count}
-use Rattle.command_line.specs.declared.replay.ReplayFrom.{ReplayFrom}
-use Rattle.command_line.specs.declared.replay.ReplayFrom.TheVariants.{Line, Open}
+use Rattle.live_feed.specs.declared.fault.Fault.{Fault}
+use Rattle.live_feed.specs.declared.fault.Fault.TheVariants as fault
+use Rattle.live_feed.specs.declared.reading.TheConstants.{LONGEST_LINE}
+use Rattle.live_journal.specs.Resuming.{HasResumed}
+use Rattle.live_journal.specs.declared.fault.JournalFault.{JournalFault}
+use Rattle.live_journal.specs.declared.fault.JournalFault.TheVariants as journal
+use Rattle.live_host.specs.Hosts.{Live, Remembers, Serves, new_live}
+use Rattle.live_host.specs.Keeping.{live_empty_lines_are_skipped, live_kept_lines_are_whole, live_only_kept_lines_count}
+use Rattle.scphost_words.specs.declared.replay.ReplayFrom.{ReplayFrom}
+use Rattle.scphost_words.specs.declared.replay.ReplayFrom.TheVariants.{Line, Open}
 use Rattle.scphost.specs.Hosting.{HasGoneOn, HasMadeShorter, HasServed, IsFrom, IsNotGoneOn}
 use Rattle.scphost.specs.Stops.{End, IsEndOfCompacting, IsEndOfHost}
 

@@ -1,18 +1,18 @@
 -- What the commands print.
 use Rattle.std.proofs.Common.{◌≡◌, ℕ, Bool, true, false, Option, inl, subst, sym}
-use Rattle.scripts.specs.Script.{Bytes}
-use Rattle.protocol.specs.Hosts.{History}
-use Rattle.runs.specs.Submitting.{Submitting}
-use Rattle.answers.specs.Comparisons.{IsComparison}
-use Rattle.answers.specs.Crowding.{TellsCrowd}
+use Rattle.line_script.specs.Script.{Bytes}
+use Rattle.scp_spec.specs.Hosts.{History}
+use Rattle.line_run.specs.Submitting.{Submitting}
+use Rattle.line_run.specs.Comparisons.{IsComparison}
+use Rattle.line_run.specs.Crowding.{TellsCrowd}
 use Rattle.scphost.specs.Printing.{HasAnswered, IsCompared, IsCrowdAnswer, IsPerformed, IsPooled, IsPrinted, IsReported}
 use Rattle.scphost.specs.Reporting.{IsReport}
-use Rattle.answers.specs.Scripts.{IsSubmittedBy, IsStoryOf, StopsStories, StopsStory, StopsSubmission, StopsSubmissions, Story}
+use Rattle.line_run.specs.Scripts.{IsSubmittedBy, IsStoryOf, StopsStories, StopsStory, StopsSubmission, StopsSubmissions, Story}
 use Rattle.scphost.specs.Stops.{End}
-use Rattle.answers.specs.declared.answer.Answer.{Answer}
-use Rattle.command_line.specs.declared.call.Call.{Call}
-use Rattle.command_line.specs.declared.subject.Format.{Format}
-use Rattle.types.specs.declared.subject.Subject.{Subject}
+use Rattle.line_run.specs.declared.answer.Answer.{Answer}
+use Rattle.scphost_words.specs.declared.call.Call.{Call}
+use Rattle.scphost_words.specs.declared.subject.Format.{Format}
+use Rattle.scp_types.specs.declared.subject.Subject.{Subject}
 
 -- an answer is printed
 pub has-reported : (format : Format) (subject : Subject) (file old new : Option Bytes) (end : End) (story : Story)

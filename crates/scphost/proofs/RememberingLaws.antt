@@ -6,13 +6,13 @@ use Rattle.std.specs.Str.Pattern.{FindsText, HasMatch}
 use Rattle.std.proofs.Common.{◌∙◌, refl, sym, ap, subst, arith, drop_at, length-append, true≢false}
 use Rattle.std.proofs.lemmas.List.{length-map, length-take, take-map}
 use Rattle.std.proofs.lemmas.List.Elements.{All-cons, All-head, All-nil, All-tail}
-use Rattle.scripts.specs.Script.{Bytes}
-use Rattle.feed.specs.Reading.{HeldLine, given_of}
-use Rattle.feed.specs.Served.{AreAnswered, LineReply, reply_of}
-use Rattle.feed.specs.declared.answering.Answer.{Answer}
-use Rattle.feed.proofs.TogetherLaws.{few_answers}
-use Rattle.serving.specs.Blocks.{TellsOfNoWant, want_of_memory}
-use Rattle.serving.specs.Hosts.{Live, Remembers, Serves}
+use Rattle.line_script.specs.Script.{Bytes}
+use Rattle.live_feed.specs.Reading.{HeldLine, given_of}
+use Rattle.live_feed.specs.Served.{AreAnswered, LineReply, reply_of}
+use Rattle.live_feed.specs.declared.answering.Answer.{Answer}
+use Rattle.live_feed.proofs.TogetherLaws.{few_answers}
+use Rattle.live_host.specs.Blocks.{TellsOfNoWant, want_of_memory}
+use Rattle.live_host.specs.Hosts.{Live, Remembers, Serves}
 use Rattle.scphost.specs.Remembering.{AllTellOfNoWant}
 
 -- the words, and the line feed (10) behind them

@@ -2,11 +2,11 @@
 use Rattle.std.proofs.Common.{◌≡◌, Bool, false, Option, Err, inl, inr, subst}
 use Rattle.std.specs.Prelude.{string_bytes}
 use Rattle.std.proofs.KnownBytes.{Keeps-refl}
-use Rattle.scripts.specs.Script.{Bytes}
-use Rattle.scripts.specs.declared.run.Stop.TheVariants as stop
-use Rattle.translations.specs.Translations.{DecodesBack, EncodesBack, IsDecoded, IsEncoded}
-use Rattle.answers.specs.declared.answer.Answer.{Answer}
-use Rattle.command_line.specs.declared.call.EncodeCall.{EncodeCall}
+use Rattle.line_script.specs.Script.{Bytes}
+use Rattle.line_script.specs.declared.run.Stop.TheVariants as stop
+use Rattle.line_request.specs.Translations.{DecodesBack, EncodesBack, IsDecoded, IsEncoded}
+use Rattle.line_run.specs.declared.answer.Answer.{Answer}
+use Rattle.scphost_words.specs.declared.call.EncodeCall.{EncodeCall}
 use Rattle.scphost.specs.Printing.{HasAnswered, IsPrinted}
 use Rattle.scphost.specs.Stops.{End}
 use Rattle.scphost.specs.Translating.{IsDecoding, IsEncoding, StopsDecoding, StopsEncoding}

@@ -1,19 +1,19 @@
 -- A command line: the call that its words are, carried out, and the exit status.
 use Rattle.std.specs.Prelude.{◌≡◌, ◌⊎◌, ℕ, List, Option, Err}
 use Rattle.std.specs.Io.KnownBytes.{Keeps}
-use Rattle.scripts.specs.Script.{Bytes}
-use Rattle.scripts.specs.declared.run.Stop.TheVariants as stop
-use Rattle.command_line.specs.CommandLine.{IsCall}
-use Rattle.command_line.specs.Help.{IsUsage}
-use Rattle.command_line.specs.Words.{Text}
-use Rattle.command_line.specs.declared.call.Call.{Call}
-use Rattle.command_line.specs.declared.call.Usage.{Usage}
-use Rattle.command_line.specs.declared.call.Usage.TheVariants.{NoMemory}
+use Rattle.line_script.specs.Script.{Bytes}
+use Rattle.line_script.specs.declared.run.Stop.TheVariants as stop
+use Rattle.scphost_words.specs.CommandLine.{IsCall}
+use Rattle.scphost_words.specs.Help.{IsUsage}
+use Rattle.scphost_words.specs.Words.{Text}
+use Rattle.scphost_words.specs.declared.call.Call.{Call}
+use Rattle.scphost_words.specs.declared.call.Usage.{Usage}
+use Rattle.scphost_words.specs.declared.call.Usage.TheVariants.{NoMemory}
 use Rattle.scphost.specs.Printing.{HasAnsweredUsage, IsPerformed, IsPerformedAsItComes}
 use Rattle.scphost.specs.Stops.{End, status_of_end}
 
 -- A call is carried out: it is performed on some contents of its readers, or on those of a standard input as they come.
--- Or one of its files cannot be opened, or there is no memory to read it, which is told, and nothing is written.
+-- Or one of its files cannot be opened, or it is out of memory to read it. That is told, and nothing is written.
 abbrev pub IsCarriedOut : Call → Option Bytes → Option Bytes → End → Type 0
 IsCarriedOut call old new end =
     ((first second : Option Bytes) × IsPerformed call first second old new end)

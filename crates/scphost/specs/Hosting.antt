@@ -1,19 +1,19 @@
 -- What a live host does with what it is sent.
 use Rattle.std.specs.Prelude.{◌≡◌, ◌⊎◌, ◌+◌, ℕ, Bool, false, Option, Some, None, Result, Ok, Err}
-use Rattle.scripts.specs.Script.{Bytes}
-use Rattle.feed.specs.Compacting.{HasCompacted}
-use Rattle.feed.specs.Hosted.{HasDone, HasHostedStream}
-use Rattle.feed.specs.declared.fault.Fault.{Fault}
-use Rattle.feed.specs.declared.reading.TheConstants.{LONGEST_LINE}
-use Rattle.feed.specs.Lasting.{Watched, Watching, unwatched}
-use Rattle.feed.specs.Served.{Serving}
-use Rattle.journal.specs.Resuming.{HasBadLine, HasFirst, HasResumed}
-use Rattle.journal.specs.declared.fault.JournalFault.{JournalFault}
-use Rattle.journal.specs.declared.fault.JournalFault.TheVariants as journal
-use Rattle.serving.specs.Hosts.{Live, Remembers, Serves, new_live}
-use Rattle.command_line.specs.declared.replay.ReplayFrom.{ReplayFrom}
-use Rattle.command_line.specs.declared.replay.ReplayFrom.TheVariants.{Line, Open}
-use Rattle.scripts.specs.declared.run.Stop.{Stop}
+use Rattle.line_script.specs.Script.{Bytes}
+use Rattle.live_feed.specs.Compacting.{HasCompacted}
+use Rattle.live_feed.specs.Hosted.{HasDone, HasHostedStream}
+use Rattle.live_feed.specs.declared.fault.Fault.{Fault}
+use Rattle.live_feed.specs.declared.reading.TheConstants.{LONGEST_LINE}
+use Rattle.live_feed.specs.Lasting.{Watched, Watching, unwatched}
+use Rattle.live_feed.specs.Served.{Serving}
+use Rattle.live_journal.specs.Resuming.{HasBadLine, HasFirst, HasResumed}
+use Rattle.live_journal.specs.declared.fault.JournalFault.{JournalFault}
+use Rattle.live_journal.specs.declared.fault.JournalFault.TheVariants as journal
+use Rattle.live_host.specs.Hosts.{Live, Remembers, Serves, new_live}
+use Rattle.scphost_words.specs.declared.replay.ReplayFrom.{ReplayFrom}
+use Rattle.scphost_words.specs.declared.replay.ReplayFrom.TheVariants.{Line, Open}
+use Rattle.line_script.specs.declared.run.Stop.{Stop}
 use Rattle.scphost.specs.Stops.{End, IsEndOfCompacting, IsEndOfHost, IsEndOfJournal}
 
 -- From a state on, a live host served what it was sent line by line as it came, the first line with this number. What

@@ -1,31 +1,31 @@
 -- What the commands print, and how they end.
 use Rattle.std.specs.Prelude.{◌≡◌, ◌⊎◌, ℕ, Bool, false, true, [], Option, Some, None, Result, Ok, Err, string_bytes}
 use Rattle.std.specs.Io.KnownBytes.{Appends, Keeps}
-use Rattle.scripts.specs.Script.{Bytes}
-use Rattle.scripts.specs.Runs.{HasRunScript, Refusing, Telling}
-use Rattle.scripts.specs.Streams.{HasRunStream}
-use Rattle.scripts.specs.declared.run.Stop.{Stop}
-use Rattle.scripts.specs.declared.run.Stop.TheVariants as stop
-use Rattle.tables.specs.TableLines
-use Rattle.runs.specs.Hosting.{new_hosting}
-use Rattle.runs.specs.Running
-use Rattle.runs.specs.Submitting.{Submitting}
-use Rattle.pooled.specs.Pooling.{IsPoolText}
-use Rattle.answers.specs.Comparisons.{IsComparison}
-use Rattle.answers.specs.Crowding.{TellsCrowd}
+use Rattle.line_script.specs.Script.{Bytes}
+use Rattle.line_script.specs.Runs.{HasRunScript, Refusing, Telling}
+use Rattle.line_script.specs.Streams.{HasRunStream}
+use Rattle.line_script.specs.declared.run.Stop.{Stop}
+use Rattle.line_script.specs.declared.run.Stop.TheVariants as stop
+use Rattle.line_table.specs.TableLines
+use Rattle.line_run.specs.Hosting.{new_hosting}
+use Rattle.line_run.specs.Running
+use Rattle.line_run.specs.Submitting.{Submitting}
+use Rattle.pool_script.specs.Pooling.{IsPoolText}
+use Rattle.line_run.specs.Comparisons.{IsComparison}
+use Rattle.line_run.specs.Crowding.{TellsCrowd}
 use Rattle.scphost.specs.Hosting.{HasMadeShorter, HasServed}
 use Rattle.scphost.specs.Reporting.{IsReport}
 use Rattle.scphost.specs.Translating.{IsDecoding, IsEncoding, StopsDecoding, StopsEncoding}
-use Rattle.answers.specs.Scripts.{IsStoryOf, IsSubmittedBy, Story, longest_script}
-use Rattle.answers.specs.Scripts.{StopsStories, StopsStory, StopsSubmission, StopsSubmissions}
+use Rattle.line_run.specs.Scripts.{IsStoryOf, IsSubmittedBy, Story, longest_script}
+use Rattle.line_run.specs.Scripts.{StopsStories, StopsStory, StopsSubmission, StopsSubmissions}
 use Rattle.scphost.specs.Stops.{End, IsEndOf}
-use Rattle.answers.specs.declared.answer.Answer.{Answer}
-use Rattle.command_line.specs.declared.call.Call.{Call}
-use Rattle.command_line.specs.declared.call.Call.TheVariants.{Table, Run, Closure, Compare, Crowd, Serve, Compact, Encode, Decode}
-use Rattle.command_line.specs.declared.call.Usage.{Usage}
-use Rattle.command_line.specs.declared.call.Usage.TheVariants.{Help, Bad, NoMemory}
-use Rattle.command_line.specs.declared.subject.Format.{Format}
-use Rattle.types.specs.declared.subject.Subject.{Subject}
+use Rattle.line_run.specs.declared.answer.Answer.{Answer}
+use Rattle.scphost_words.specs.declared.call.Call.{Call}
+use Rattle.scphost_words.specs.declared.call.Call.TheVariants.{Table, Run, Closure, Compare, Crowd, Serve, Compact, Encode, Decode}
+use Rattle.scphost_words.specs.declared.call.Usage.{Usage}
+use Rattle.scphost_words.specs.declared.call.Usage.TheVariants.{Help, Bad, NoMemory}
+use Rattle.scphost_words.specs.declared.subject.Format.{Format}
+use Rattle.scp_types.specs.declared.subject.Subject.{Subject}
 
 -- the whole answer is written, and told whether it is a difference; or a write failed
 abbrev pub IsPrinted : Answer → Option Bytes → Option Bytes → End → Type 0
@@ -37,7 +37,7 @@ abbrev pub IsGivenUp : (Stop → Type 0) → Option Bytes → Option Bytes → E
 IsGivenUp Why old new end =
     ((why : Stop) × Why why × (end ≡ Err why) × Keeps old new) ⊎ (end ≡ Err stop.CannotWrite)
 
--- an answer of this kind is printed, or none is, for one of these reasons
+-- an answer of this kind is printed, or none is, for one of these reasons; or a write failed
 abbrev pub HasAnswered : (Answer → Type 0) → (Stop → Type 0) → Option Bytes → Option Bytes → End → Type 0
 HasAnswered P Why old new end = ((a : Answer) × P a × IsPrinted a old new end) ⊎ IsGivenUp Why old new end
 
@@ -101,7 +101,7 @@ IsPerformed (Encode asked) first second old new end = HasAnswered (IsEncoding as
 IsPerformed (Decode digits) first second old new end =
     HasAnswered (IsDecoding digits) (StopsDecoding digits) old new end
 
--- the same of lines each of which is answered before the next one is read
+-- the lines of a script are run, each of which is answered before the next one is read; it is told how the run ended
 abbrev pub HasRunAsTheyCome : {S : Type 0} → Telling S → Refusing S → S → Option Bytes → Option Bytes → Option Bytes
     → End → Type 0
 HasRunAsTheyCome {S = S} tells refuses start input old new end =

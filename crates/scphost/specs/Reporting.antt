@@ -1,16 +1,16 @@
 -- What a report of a closure prints.
 use Rattle.std.specs.Prelude.{◌≡◌, ℕ, false, List, Option, string_bytes}
-use Rattle.protocol.specs.Sets.{among}
-use Rattle.closure.specs.Announcing.{IsClosureList, member_names, slices_then}
-use Rattle.hoststep.specs.Logs.{Log}
-use Rattle.world.specs.Worlds.{log_at}
-use Rattle.twoworlds.specs.Meanings.{entries_in, nodes_in}
-use Rattle.explorer.specs.Reports.{AreHosted, Shown}
-use Rattle.explorer.specs.Texts.{text_of_report}
-use Rattle.answers.specs.declared.answer.Answer.{Answer}
-use Rattle.command_line.specs.declared.subject.Format.{Format}
-use Rattle.command_line.specs.declared.subject.Format.TheVariants as format
-use Rattle.types.specs.declared.subject.Subject.{Subject}
+use Rattle.scp_spec.specs.Sets.{among}
+use Rattle.host_closure.specs.Announcing.{IsClosureList, member_names, slices_then}
+use Rattle.host_journal.specs.Logs.{Log}
+use Rattle.host_world.specs.Worlds.{log_at}
+use Rattle.host_compare.specs.Meanings.{entries_in, nodes_in}
+use Rattle.line_report.specs.Reports.{AreHosted, Shown}
+use Rattle.line_report.specs.Texts.{text_of_report}
+use Rattle.line_run.specs.declared.answer.Answer.{Answer}
+use Rattle.scphost_words.specs.declared.subject.Format.{Format}
+use Rattle.scphost_words.specs.declared.subject.Format.TheVariants as format
+use Rattle.scp_types.specs.declared.subject.Subject.{Subject}
 
 -- The closure of a node at a slot of a network, and who blocks whom in it. If there is no such network, that is only
 -- the node.

@@ -1,12 +1,12 @@
 -- The exit status of each way to end.
 use Rattle.std.specs.Prelude.{◌≡◌, ℕ, Bool, false, Result, Ok, Err, MatchResult, if◌then◌else◌}
-use Rattle.scripts.specs.declared.run.Stop.{Stop}
-use Rattle.scripts.specs.declared.run.Stop.TheVariants as stop
-use Rattle.feed.specs.declared.fault.Fault.{Fault}
-use Rattle.feed.specs.declared.fault.Fault.TheVariants as fault
-use Rattle.journal.specs.Faults.{fault_of_stop}
-use Rattle.journal.specs.declared.fault.JournalFault.{JournalFault}
-use Rattle.journal.specs.declared.fault.JournalFault.TheVariants as journal
+use Rattle.line_script.specs.declared.run.Stop.{Stop}
+use Rattle.line_script.specs.declared.run.Stop.TheVariants as stop
+use Rattle.live_feed.specs.declared.fault.Fault.{Fault}
+use Rattle.live_feed.specs.declared.fault.Fault.TheVariants as fault
+use Rattle.live_journal.specs.Faults.{fault_of_stop}
+use Rattle.live_journal.specs.declared.fault.JournalFault.{JournalFault}
+use Rattle.live_journal.specs.declared.fault.JournalFault.TheVariants as journal
 
 -- the exit status: 2 for a script or words at fault, 3 if it is out of memory, 4 for a write that failed
 abbrev pub status_of : Stop → ℕ

@@ -1,11 +1,11 @@
 -- What is printed of envelopes in words and as bytes.
 use Rattle.std.specs.Prelude.{◌≡◌, Bool, false, string_bytes}
-use Rattle.scripts.specs.Script.{Bytes}
-use Rattle.scripts.specs.declared.run.Stop.{Stop}
-use Rattle.scripts.specs.declared.run.Stop.TheVariants as stop
-use Rattle.translations.specs.Translations.{DecodesBack, EncodesBack, IsDecoded, IsEncoded}
-use Rattle.answers.specs.declared.answer.Answer.{Answer}
-use Rattle.command_line.specs.declared.call.EncodeCall.{EncodeCall}
+use Rattle.line_script.specs.Script.{Bytes}
+use Rattle.line_script.specs.declared.run.Stop.{Stop}
+use Rattle.line_script.specs.declared.run.Stop.TheVariants as stop
+use Rattle.line_request.specs.Translations.{DecodesBack, EncodesBack, IsDecoded, IsEncoded}
+use Rattle.line_run.specs.declared.answer.Answer.{Answer}
+use Rattle.scphost_words.specs.declared.call.EncodeCall.{EncodeCall}
 
 -- the answer is the line of the bytes of the envelope that four words spell, from which it is read back
 pub record IsEncoding (asked : EncodeCall) (a : Answer) : Type 0 where
@@ -27,11 +27,11 @@ StopsReading Unread (stop.BadLine number) = ⊥
 StopsReading Unread stop.NoMemory = Unit {0}
 StopsReading Unread stop.CannotWrite = ⊥
 
--- the same of four words, which spell no envelope
+-- why nothing is printed of four words: they spell no envelope, or it is out of memory
 abbrev pub StopsEncoding : EncodeCall → Stop → Type 0
 StopsEncoding asked =
     StopsReading ((line : Bytes) → ¬ IsEncoded asked.from asked.slot asked.slices asked.statement line)
 
--- the same of a word that spells no bytes
+-- why nothing is printed of a word: it spells no bytes, or it is out of memory
 abbrev pub StopsDecoding : Bytes → Stop → Type 0
 StopsDecoding digits = StopsReading ((d : Bool × Bytes) → ¬ IsDecoded digits d.0 d.1)

@@ -3,10 +3,10 @@
 ghost use Rattle.std.specs.Prelude.{◌≡◌};
 
 use crate::outputs::Outputs;
-use command_line::{Call, PairCall, RunCall, Word};
-use feed::LONGEST_LINE;
-use reasons::{Kind, line_at, reason_of};
-use scripts::{Stop, read_whole};
+use line_reason::{Kind, line_at, reason_of};
+use line_script::{Stop, read_whole};
+use live_feed::LONGEST_LINE;
+use scphost_words::{Call, PairCall, RunCall, Word};
 use std::alloc::Global;
 use std::fs;
 use std::fs::{File, Files};

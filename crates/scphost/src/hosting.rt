@@ -1,18 +1,18 @@
 //! A live host, which is sent its lines and answers each of them.
 
 ghost use Rattle.std.specs.Prelude.{◌≡◌, ◌<◌, None, Some, Err, false};
-ghost use Rattle.serving.specs.Hosts.{new_live};
+ghost use Rattle.live_host.specs.Hosts.{new_live};
 ghost use Rattle.scphost.specs.Hosting.{HasMadeShorter, HasServed, HasStarted, IsFrom};
 ghost use Rattle.scphost.specs.Stops.{IsEndOfHost, IsEndOfJournal};
 
 use crate::outputs::Outputs;
 use crate::perform::print_stop;
 use crate::remembering::RememberedHost;
-use command_line::{PoolSize, ReplayFrom, ServeCall};
-use feed::{Fault, Feed, READ_SIZE, compact};
-use journal::{JournalFault, first_open_line, open_journal, resume};
-use scripts::Stop;
-use shards::ShardedHost;
+use line_script::Stop;
+use live_feed::{Fault, Feed, READ_SIZE, compact};
+use live_journal::{JournalFault, first_open_line, open_journal, resume};
+use live_shards::ShardedHost;
+use scphost_words::{PoolSize, ReplayFrom, ServeCall};
 use std::fs::{File, Files};
 use std::io::{BufRead, BufReader, Read, Write};
 use std::sync::Wait;

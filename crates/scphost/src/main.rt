@@ -13,10 +13,10 @@ mod reporting;
 mod translating;
 
 use command::answer_words;
-use command_line::Usage;
+use line_script::Stop;
 use outputs::Outputs;
 use perform::{exit_status, print_stop, print_usage};
-use scripts::Stop;
+use scphost_words::Usage;
 use std::env;
 use std::fs::{File, Files};
 use std::io::{BufWriter, ErrorKind, Input, Write};

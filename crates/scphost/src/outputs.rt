@@ -1,8 +1,8 @@
 //! Where a program writes.
 
 use crate::explaining::explain_line;
-use feed::{Desk, write_and_flush};
-use journal::append_line;
+use live_feed::{Desk, write_and_flush};
+use live_journal::append_line;
 use std::alloc::Global;
 use std::fs::File;
 use std::io::Write;

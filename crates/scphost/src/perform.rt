@@ -2,7 +2,7 @@
 
 ghost use Rattle.std.specs.Prelude.{◌≡◌, Err, IsTrue, false};
 ghost use Rattle.scphost.specs.Printing.{HasAnswered, HasAnsweredUsage, IsCompared, IsCrowdAnswer, IsPerformed, IsPerformedAsItComes, IsPooled, IsReported, IsRunAsItComes, IsRunOn, names_files};
-ghost use Rattle.answers.specs.Scripts.{StopsStories, StopsStory, StopsSubmission, StopsSubmissions};
+ghost use Rattle.line_run.specs.Scripts.{StopsStories, StopsStory, StopsSubmission, StopsSubmissions};
 ghost use Rattle.scphost.specs.Stops.{IsEndOf, status_of_end};
 
 use crate::hosting::{make_file_shorter, make_shorter, serve};
@@ -11,17 +11,18 @@ use crate::pooling::answer_pool;
 use crate::printing::{print_answer, write_text};
 use crate::reporting::answer_closure;
 use crate::translating::{print_decoded, print_encoded};
-use answers::{FinishedScript, Side, Sides, answer_compare, answer_crowd, read_submission};
-use command_line::{Call, ClosureCall, PairCall, PoolSize, RunCall, Usage, Word};
-use runs::HostRun;
-use scripts::{Stop, run_script, run_stream};
+use line_run::{
+    FinishedScript, HostRun, Side, Sides, answer_compare, answer_crowd, read_submission,
+};
+use line_script::{Stop, run_script, run_stream};
+use line_table::TableRun;
+use scphost_words::{Call, ClosureCall, PairCall, PoolSize, RunCall, Usage, Word};
 use std::alloc::Global;
 use std::fs::{File, Files};
 use std::io;
 use std::io::{BufRead, Read, Write};
 use std::sync::Wait;
 use std::thread::Threads;
-use tables::TableRun;
 
 /// The status of a call that was carried out.
 pub const DONE: u8 = 0;

@@ -2,12 +2,12 @@
 
 ghost use Rattle.std.specs.Prelude.{IfErr, IfOk, false};
 ghost use Rattle.scphost.specs.Printing.{IsPooled};
-ghost use Rattle.answers.specs.Scripts.{StopsSubmission};
+ghost use Rattle.line_run.specs.Scripts.{StopsSubmission};
 
-use answers::{Answer, read_submission};
-use command_line::PoolSize;
-use pooled::run_pool;
-use scripts::Stop;
+use line_run::{Answer, read_submission};
+use line_script::Stop;
+use pool_script::run_pool;
+use scphost_words::PoolSize;
 use std::io::Read;
 use std::sync::Wait;
 use std::thread::Threads;

@@ -6,8 +6,8 @@ ghost use Rattle.scphost.specs.Printing.{IsPrinted};
 
 use crate::outputs::Outputs;
 use crate::perform::print_stop;
-use answers::Answer;
-use scripts::Stop;
+use line_run::Answer;
+use line_script::Stop;
 use std::io;
 use std::io::Write;
 

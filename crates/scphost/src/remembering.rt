@@ -1,13 +1,13 @@
 //! A live host that ends if its journal could not tell what it did.
 
 ghost use Rattle.std.specs.Prelude.{◌≡◌, ◌<◌, ◌≤◌, IfOk, false, length, map, take};
-ghost use Rattle.feed.specs.Served.{reply_of};
-ghost use Rattle.serving.specs.Blocks.{TellsOfNoWant};
-ghost use Rattle.serving.specs.Hosts.{new_live};
+ghost use Rattle.live_feed.specs.Served.{reply_of};
+ghost use Rattle.live_host.specs.Blocks.{TellsOfNoWant};
+ghost use Rattle.live_host.specs.Hosts.{new_live};
 ghost use Rattle.scphost.specs.Remembering.{AllTellOfNoWant};
 
-use feed::{Answer, BatchServer, KeptLine, LineServer};
-use shards::ShardedHost;
+use live_feed::{Answer, BatchServer, KeptLine, LineServer};
+use live_shards::ShardedHost;
 use std::alloc::{AllocError, Global};
 use std::collections::VecDeque;
 use std::marker::Model;
@@ -24,8 +24,8 @@ pub struct RememberedHost {
 
 impl Model for RememberedHost {
     ghost use Rattle.std.specs.Coded.{codes};
-    ghost use Rattle.types.specs.Trees.{members_code};
-    ghost use Rattle.serving.specs.Hosts.{Live};
+    ghost use Rattle.scp_types.specs.Trees.{members_code};
+    ghost use Rattle.live_host.specs.Hosts.{Live};
 
     ghost Value = { Live };
 
@@ -47,8 +47,8 @@ impl RememberedHost {
 }
 
 impl LineServer for RememberedHost {
-    ghost use Rattle.serving.specs.Hosts.{Remembers};
-    ghost use Rattle.serving.specs.Keeping.{empty_lines_are_remembered, only_remembered_lines_count, remembered_lines_are_whole};
+    ghost use Rattle.live_host.specs.Hosts.{Remembers};
+    ghost use Rattle.live_host.specs.Keeping.{empty_lines_are_remembered, only_remembered_lines_count, remembered_lines_are_whole};
 
     ghost serves = { Remembers };
 

@@ -1,15 +1,15 @@
 //! The report of a closure after a script.
 
 ghost use Rattle.std.specs.Prelude.{◌≡◌, IfOk, string_bytes};
-ghost use Rattle.world.specs.Worlds.{log_at};
-ghost use Rattle.explorer.specs.Texts.{text_of_report};
+ghost use Rattle.host_world.specs.Worlds.{log_at};
+ghost use Rattle.line_report.specs.Texts.{text_of_report};
 ghost use Rattle.scphost.specs.Reporting.{IsReport, IsReportOf};
 
-use answers::{Answer, FinishedScript};
-use command_line::Format;
-use explorer::{ClosureReport, NoNetwork, push_dot, push_svg, push_text, report_of};
+use line_report::{ClosureReport, NoNetwork, push_dot, push_svg, push_text, report_of};
+use line_run::{Answer, FinishedScript};
+use scp_types::Subject;
+use scphost_words::Format;
 use std::alloc::{AllocError, Global};
-use types::Subject;
 
 /// Whom the subject depends on after a script, in a form. In a network that no line declares that is only the node. An
 /// error says that it is out of memory.

@@ -7,12 +7,12 @@ ghost use Rattle.scphost.specs.Translating.{IsDecoding, IsEncoding, StopsDecodin
 use crate::outputs::Outputs;
 use crate::perform::print_stop;
 use crate::printing::print_answer;
-use answers::Answer;
-use command_line::{EncodeCall, Word};
-use scripts::{Stop, name_of, number_of, slices_of};
+use line_request::{Decoded, decode_digits, encode_words};
+use line_run::Answer;
+use line_script::{Stop, name_of, number_of, slices_of};
+use scphost_words::{EncodeCall, Word};
 use std::alloc::{AllocError, Global};
 use std::io::Write;
-use translations::{Decoded, decode_digits, encode_words};
 
 /// Prints the bytes of the envelope that four words spell. Words that spell none cannot be read: it is said on
 /// `outputs.err` which of them is wrong.

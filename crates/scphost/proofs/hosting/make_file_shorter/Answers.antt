@@ -1,6 +1,6 @@
 use Rattle.std.proofs.Common.{Err, refl}
 use Rattle.std.specs.Io.Buffered.{reader_remaining}
-use Rattle.scripts.specs.declared.run.Stop.TheVariants as stop
+use Rattle.line_script.specs.declared.run.Stop.TheVariants as stop
 use Rattle.scphost.proofs.HostingLaws.{holds_the_same, shorter_by_reader}
 use Rattle.scphost.proofs.hosting.make_file_shorter.Goals as goal
 

@@ -1,5 +1,5 @@
 use Rattle.std.proofs.Common.{Err, refl}
-use Rattle.scripts.specs.declared.run.Stop.TheVariants as stop
+use Rattle.line_script.specs.declared.run.Stop.TheVariants as stop
 use Rattle.scphost.proofs.hosting.make_shorter.Goals as goal
 
 pub returns-in_default : goal.returns-in_default

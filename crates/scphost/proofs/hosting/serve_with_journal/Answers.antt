@@ -1,5 +1,5 @@
 use Rattle.std.proofs.Common.{inl}
-use Rattle.journal.specs.declared.fault.JournalFault.TheVariants as journal
+use Rattle.live_journal.specs.declared.fault.JournalFault.TheVariants as journal
 use Rattle.scphost.proofs.hosting.serve_with_journal.Goals as goal
 
 pub returns-in_default : goal.returns-in_default

@@ -1,7 +1,7 @@
 use Rattle.std.proofs.Common.{sym, subst}
-use Rattle.feed.specs.Served.{reply_of}
-use Rattle.serving.specs.Blocks.{TellsOfNoWant}
-use Rattle.serving.specs.Keeping.{none_told}
+use Rattle.live_feed.specs.Served.{reply_of}
+use Rattle.live_host.specs.Blocks.{TellsOfNoWant}
+use Rattle.live_host.specs.Keeping.{none_told}
 use Rattle.scphost.proofs.RememberingLaws.{none_found}
 use Rattle.scphost.proofs.remembering.lacked_memory.Goals as goal
 

@@ -1,7 +1,7 @@
 use Rattle.std.proofs.Common.{rules, arith, ◌<◌, ◌∙◌, length, map, sym, ap, subst}
 use Rattle.std.proofs.lemmas.List.{get_or-map, length-map}
-use Rattle.feed.specs.Served.{LineReply, reply_of}
-use Rattle.serving.specs.Blocks.{TellsOfNoWant}
+use Rattle.live_feed.specs.Served.{LineReply, reply_of}
+use Rattle.live_host.specs.Blocks.{TellsOfNoWant}
 use Rattle.scphost.proofs.RememberingLaws.{told_more}
 use Rattle.scphost.proofs.remembering.told_of.Goals as goal
 

@@ -1,5 +1,5 @@
 use Rattle.std.proofs.Common.{map, take}
-use Rattle.feed.specs.Served.{reply_of}
+use Rattle.live_feed.specs.Served.{reply_of}
 use Rattle.scphost.specs.Remembering.{AllTellOfNoWant}
 use Rattle.scphost.proofs.remembering.told_of.Given as goal
 

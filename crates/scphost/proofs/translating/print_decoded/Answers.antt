@@ -1,8 +1,8 @@
 use Rattle.std.proofs.Common.{rules, ◌≡◌, Bool, false, subst, sym}
 use Rattle.std.specs.Prelude.{string_bytes}
-use Rattle.scripts.specs.Script.{Bytes}
-use Rattle.translations.specs.Translations.{EncodesBack, IsDecoded}
-use Rattle.answers.specs.declared.answer.Answer.{Answer}
+use Rattle.line_script.specs.Script.{Bytes}
+use Rattle.line_request.specs.Translations.{EncodesBack, IsDecoded}
+use Rattle.line_run.specs.declared.answer.Answer.{Answer}
 use Rattle.scphost.proofs.TranslatingLaws.{has-decoded, none-decoded}
 use Rattle.scphost.proofs.translating.print_decoded.Goals as goal
 

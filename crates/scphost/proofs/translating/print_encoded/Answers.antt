@@ -1,7 +1,7 @@
 use Rattle.std.proofs.Common.{rules, false, refl}
 use Rattle.std.specs.Prelude.{string_bytes}
-use Rattle.scripts.specs.Script.{Bytes}
-use Rattle.translations.specs.Translations.{DecodesBack, IsEncoded}
+use Rattle.line_script.specs.Script.{Bytes}
+use Rattle.line_request.specs.Translations.{DecodesBack, IsEncoded}
 use Rattle.scphost.proofs.TranslatingLaws.{has-encoded, none-encoded}
 use Rattle.scphost.proofs.translating.print_encoded.Goals as goal
 

@@ -1,7 +1,7 @@
 use Rattle.std.proofs.Common.{◌+◌, map, subst}
-use Rattle.feed.specs.Reading.{given_of}
-use Rattle.feed.specs.Served.{AreAnswered, reply_of}
-use Rattle.serving.specs.Hosts.{Remembers}
+use Rattle.live_feed.specs.Reading.{given_of}
+use Rattle.live_feed.specs.Served.{AreAnswered, reply_of}
+use Rattle.live_host.specs.Hosts.{Remembers}
 use Rattle.scphost.proofs.RememberingLaws.{remembered_batch}
 use Rattle.scphost.proofs.remembering.RememberedHostBatchServer.serve_batch.Goals as goal
 

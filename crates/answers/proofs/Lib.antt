@@ -1,5 +1,0 @@
-mod CrowdLines
-mod ExplainedTexts
-mod Histories
-mod LineLaws
-mod DeterminedEnds

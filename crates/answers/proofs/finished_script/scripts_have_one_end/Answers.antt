@@ -1,5 +1,0 @@
-use Rattle.answers.proofs.DeterminedEnds.{scripts_have_one_end}
-use Rattle.answers.proofs.finished_script.scripts_have_one_end.Goals as goal
-
-pub returns : goal.returns
-returns c = scripts_have_one_end

@@ -1,4 +1,0 @@
-pub mod Scripts
-pub mod Determined
-pub mod Comparisons
-pub mod Crowding

@@ -1,6 +1,0 @@
-mod RaiseLaws
-pub mod SearchLaws
-pub mod ChoosingLaws
-pub mod LowestLaws
-pub mod PreparedLaws
-mod ArmLaws

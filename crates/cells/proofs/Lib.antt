@@ -1,6 +1,0 @@
-pub mod Moves
-pub mod Seats
-pub mod Counts
-pub mod Closing
-pub mod Published
-pub mod Crossing

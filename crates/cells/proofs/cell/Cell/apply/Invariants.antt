@@ -1,5 +1,0 @@
-use Rattle.std.proofs.Common.{◌≡◌}
-use Rattle.cells.proofs.cell.Cell.apply.Given as goal
-
-abbrev pub invariant-loop : goal.invariant-loop
-invariant-loop g l = (l.seat ≡ l.initial.seat) × (l.event ≡ l.initial.event)

@@ -1,6 +1,0 @@
-use Rattle.crossbeam_queue.specs.Passes.{view}
-use Rattle.cells.specs.Rule.{after_look}
-use Rattle.cells.proofs.cell.Cell.tell.Given as goal
-
-abbrev pub ghosts-give : goal.ghosts-give
-ghosts-give g a = record { next = after_look (view a.pass.now) }

@@ -1,5 +1,0 @@
-use Rattle.cells.proofs.Moves.{adds, pushed_as}
-use Rattle.cells.proofs.lock.add.Goals as goal
-
-pub give-requires-clause-rule : goal.give-requires-clause-rule
-give-requires-clause-rule g c = pushed_as _ _ _ _ _ _ c.requires.cell_state c.requires.next (adds _ _ _ c.requires.sits c.requires.running c.requires.made)

@@ -1,5 +1,0 @@
-use Rattle.cells.proofs.Moves.{takes}
-use Rattle.cells.proofs.lock.try_take.Goals as goal
-
-pub try_pop_as-requires-clause-rule : goal.try_pop_as-requires-clause-rule
-try_pop_as-requires-clause-rule g c = takes _ _ c.requires.known c.requires.away

@@ -1,5 +1,0 @@
-use Rattle.cells.specs.Publishing.{IsPublished}
-use Rattle.cells.proofs.watched.append_all.Given as goal
-
-abbrev pub invariant-loop-number : goal.invariant-loop-number
-invariant-loop-number g l = IsPublished l.journal.entries l.number l.publisher

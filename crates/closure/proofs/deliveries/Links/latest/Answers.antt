@@ -1,7 +1,0 @@
-use Rattle.std.proofs.Common.{◌∙◌, ap}
-use Rattle.closure.specs.Turns.{PartyIndex, found_by}
-use Rattle.closure.proofs.NameLookups.{found_in_order}
-use Rattle.closure.proofs.deliveries.Links.latest.Goals as goal
-
-pub returns : goal.returns
-returns c = c.copied.ensures ∙ (c.get.ensures.value ∙ (found_in_order c.args.party.now _ ∙ ap (λ (d : PartyIndex). found_by d.latest c.args.party.now) c.self.view_is))

@@ -1,4 +1,0 @@
-pub mod Announcing
-pub mod Turns
-pub mod Least
-pub mod Hosting

@@ -1,5 +1,0 @@
-use Rattle.codec.proofs.EnvelopeLaws.{one_spelling}
-use Rattle.codec.proofs.decoder.one_spelling.Goals as goal
-
-pub returns : goal.returns
-returns c = one_spelling

@@ -1,5 +1,0 @@
-use Rattle.command_line.proofs.Short.{closure_short}
-use Rattle.command_line.proofs.call.closure_call.Goals as goal
-
-pub returns-in_default : goal.returns-in_default
-returns-in_default g c = closure_short g.S.AsStr.text c.args.asked.now c.args.operands.now c.in_default.len_below

@@ -1,5 +1,0 @@
-use Rattle.std.proofs.Common.{length}
-use Rattle.command_line.proofs.operands.+plain_count.Given as goal
-
-abbrev pub decreases-plain_count : goal.decreases-plain_count
-decreases-plain_count g l = length l.words.now

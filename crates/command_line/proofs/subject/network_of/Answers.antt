@@ -1,7 +1,0 @@
-use Rattle.std.proofs.Common.{◌∙◌, ap}
-use Rattle.std.specs.Prelude.{◌^◌}
-use Rattle.scripts.specs.Words.{word_number}
-use Rattle.command_line.proofs.subject.network_of.Goals as goal
-
-pub returns : goal.returns
-returns c = c.counter_of.ensures ∙ ap (word_number (2 ^ 32)) c.as_bytes.ensures.value

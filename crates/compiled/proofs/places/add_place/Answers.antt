@@ -1,5 +1,0 @@
-use Rattle.compiled.proofs.Clearing.{added}
-use Rattle.compiled.proofs.places.add_place.Goals as goal
-
-pub returns : goal.returns
-returns c = added c.args.places.now c.args.place c.requires

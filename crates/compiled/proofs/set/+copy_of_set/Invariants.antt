@@ -1,9 +1,0 @@
-use Rattle.std.proofs.Common.{◌≡◌, take}
-use Rattle.compiled.specs.Places.{sets_of}
-use Rattle.compiled.proofs.set.+copy_of_set.Given as goal
-
-abbrev pub decreases-copy_of_set : goal.decreases-copy_of_set
-decreases-copy_of_set l = goal.size-copy_of_set l
-
-abbrev pub invariant-loop-each : goal.invariant-loop-each
-invariant-loop-each l = record { shape : sets_of l.sets ≡ l.set.inner; copied : l.inner.items ≡ take l.each-index l.sets }

@@ -1,5 +1,0 @@
-use Rattle.std.proofs.Common.{◌≡◌, take}
-use Rattle.configuration.proofs.config.copies.Given as goal
-
-abbrev pub invariant-loop-hosted : goal.invariant-loop-hosted
-invariant-loop-hosted l = l.copies.items ≡ take l.hosted-index l.nodes

@@ -1,6 +1,0 @@
-use Rattle.std.proofs.Common.{◌≡◌, ◌++◌, drop}
-use Rattle.configuration.specs.Configs.{names_of}
-use Rattle.configuration.proofs.config.list_names.Given as goal
-
-abbrev pub invariant-loop-hosted : goal.invariant-loop-hosted
-invariant-loop-hosted l = l.names.items ++ names_of (drop l.hosted-index l.nodes) ≡ names_of l.nodes

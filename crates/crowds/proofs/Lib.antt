@@ -1,6 +1,0 @@
-mod SameSteps
-mod RosterSets
-mod ConcerningSteps
-mod RunsOf
-mod Judging
-mod IndexLaws

@@ -1,3 +1,0 @@
-mod SameAnswers
-mod Chosen
-mod Region

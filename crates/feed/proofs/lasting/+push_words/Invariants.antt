@@ -1,6 +1,0 @@
-use Rattle.std.proofs.Common.{length}
-use Rattle.feed.proofs.lasting.+push_words.Given as goal
-
--- proposed from what the function passes where it calls itself
-abbrev pub decreases-push_words : goal.decreases-push_words
-decreases-push_words l = length l.by.now

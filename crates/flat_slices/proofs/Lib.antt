@@ -1,4 +1,0 @@
-mod FlatteningLaws
-mod Found
-mod MeetingLaws
-mod NumberLaws

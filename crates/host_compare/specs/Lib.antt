@@ -1,0 +1,9 @@
+pub mod Steps
+pub mod Meanings
+pub mod OutLists
+pub mod Questions
+pub mod Submitted
+pub mod Listing
+pub mod Replies
+pub mod Crowding
+pub mod Indexed

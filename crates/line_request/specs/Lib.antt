@@ -1,0 +1,14 @@
+pub mod Outlines
+pub mod Naming
+pub mod Lines
+pub mod Requests
+pub mod Taking
+pub mod Preparing
+pub mod Telling
+pub mod Forms
+pub mod Asking
+pub mod Ordering
+pub mod Replies
+pub mod TranslatedLines
+pub mod Saying
+pub mod Translations

@@ -1,5 +1,0 @@
-use Rattle.network.proofs.Readings.{readings_are_exact}
-use Rattle.network.proofs.reading.readings_are_exact.Goals as goal
-
-pub returns : goal.returns
-returns c = readings_are_exact

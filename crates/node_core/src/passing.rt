@@ -1,0 +1,83 @@
+//! One pass of the rules, or a part of one.
+//!
+//! An error of a function here says that it is out of memory.
+
+ghost use Rattle.std.specs.Prelude.{◌≡◌, OnOk};
+ghost use Rattle.node_rules.specs.Drafted.{after};
+ghost use Rattle.scp_spec.specs.Passes.{balloting};
+ghost use Rattle.node_core.specs.Stirrings.{part_of_pass};
+
+use crate::stirring::Stirred;
+use node_rules::{
+    Draft, accept_commit, accept_prepared, arm, confirm_commit, confirm_prepared, nominate, raise,
+    start,
+};
+use scp_types::{Inputs, NodeId, Phase};
+use scp_voting::Sight;
+use std::alloc::{AllocError, Global};
+
+/// What the rules of a pass read besides the votes.
+#[derive(Drop)]
+pub(crate) struct PassContext<'a, S> {
+    /// The node's own name.
+    pub own: &'a NodeId,
+    /// What it sees of its table.
+    pub sight: &'a S,
+    /// What only events set.
+    pub inputs: &'a Inputs,
+}
+
+/// The part of a pass that is these rules, in their order, each with what the one before it made. In
+/// [`Phase::Externalized`] nothing changes (the Stellar Consensus Protocol draft; the order is this host's profile).
+#[tactic(auto, unfolding(scp_spec::specs::Passes::pass, scp_spec::specs::Passes::pass_rules, scp_spec::specs::Passes::balloted_in, scp_spec::specs::Passes::nominated_in))]
+pub(crate) fn apply_part<S: Sight>(
+    alloc: Global,
+    context: &PassContext<'_, S>,
+    rules: Stirred,
+    draft: &mut Draft<'_>,
+) -> Result<(), AllocError>
+    ensures { OnOk result (draft.new ≡ after (part_of_pass rules context.now.own.now (S.seen context.now.sight.now) context.now.inputs.now) draft.old) }
+{
+    match draft.votes().phase {
+        Phase::Externalized => Ok(()),
+        Phase::Preparing | Phase::Committing => match rules {
+            Stirred::All => {
+                nominate(alloc, context.own, context.sight, context.inputs, draft)?;
+                balloting(alloc, context.sight, context.inputs, draft)
+            }
+            Stirred::Ballots => balloting(alloc, context.sight, context.inputs, draft),
+            Stirred::Nominations => nominate(
+                alloc,
+                context.own,
+                context.sight,
+                context.inputs,
+                draft,
+            ),
+        },
+    }
+}
+
+/// The rules of balloting, in order: the first ballot; then what is prepared and what is committed, each accepted and
+/// then confirmed. Unless a value is externalized by then, counters follow, first raised and then armed.
+#[tactic(auto, unfolding(scp_spec::specs::Passes::voting, scp_spec::specs::Passes::counting))]
+fn balloting<S: Sight>(
+    alloc: Global,
+    sight: &S,
+    inputs: &Inputs,
+    draft: &mut Draft<'_>,
+) -> Result<(), AllocError>
+    ensures { OnOk result (draft.new ≡ after (balloting (S.seen sight.now) inputs.now) draft.old) }
+{
+    start(alloc, sight, draft)?;
+    accept_prepared(alloc, sight, draft)?;
+    confirm_prepared(alloc, sight, draft)?;
+    accept_commit(alloc, sight, draft)?;
+    confirm_commit(alloc, sight, draft)?;
+    match draft.votes().phase {
+        Phase::Externalized => Ok(()),
+        Phase::Preparing | Phase::Committing => {
+            raise(alloc, sight, inputs, draft)?;
+            arm(alloc, sight, draft)
+        }
+    }
+}

@@ -1,0 +1,3 @@
+pub mod Drafted
+pub mod Intervals
+pub mod Stages

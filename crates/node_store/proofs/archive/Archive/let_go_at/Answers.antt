@@ -1,0 +1,6 @@
+use Rattle.std.proofs.Common.{rules}
+use Rattle.node_store.proofs.Growing.{frees-at}
+use Rattle.node_store.proofs.archive.Archive.let_go_at.Goals as goal
+
+pub returns-then-not-is_kept : goal.returns-then-not-is_kept
+returns-then-not-is_kept g c = frees-at g.S.Places.put_there (g.T.Slots.is_among c.args.slots.now) _ c.self.inside.places.items c.args.number c.self.view_is (search rules)

@@ -1,0 +1,160 @@
+//! The envelopes of one network, by number.
+
+ghost use Rattle.std.specs.Prelude.{◌≡◌, ◌⊎◌, ◌<◌, ◌++◌, ◌∷◌, [], IfOk, None, OnErr, Some, is_some, length, map, slice_get, slice_index_or, slice_set, vec_capacity, vec_len};
+ghost use Rattle.node_store.specs.Archives.{IsFiled, Keeps, only_of, sent_of};
+
+use crate::filed::Filed;
+use crate::shelf::{Places, Shelf, Slots};
+use scp_types::Envelope;
+use std::alloc::{AllocError, Global};
+use std::marker::Model;
+use std::snapshot::Snapshot;
+
+/// A shelf, and the places at which the envelopes of one network lie, by number.
+///
+/// Contracts see it as the list of these envelopes, with nothing at a number that is free. What is filed stays until
+/// its slot is let go, and then its number may be given again.
+///
+/// Each place is one of this shelf: for example, of three envelopes that were filed, number 1 is the place
+/// where the second lies there.
+#[derive(Drop)]
+pub struct Archive<S: Places> {
+    shelf: S,
+    places: Vec<Option<S::Place>>,
+    free: Vec<usize>,
+    recent: usize,
+}
+
+impl<S: Places> Model for Archive<S> {
+    ghost use Rattle.std.specs.Coded.{codes};
+    ghost use Rattle.std.specs.Prelude.{IfSome, map, option_map};
+    ghost use Rattle.std.specs.List.{All};
+    ghost use Rattle.scp_types.specs.Trees.{members_code};
+    ghost use Rattle.node_store.specs.Archives.{Archived};
+
+    ghost Value = { Archived };
+
+    ghost coded = { Prim.hlevel (codes, members_code) };
+
+    ghost view = { λ a. map (option_map S.put_there) a.places.items };
+
+    ghost invariant = { λ a. All (λ o. IfSome o (S.is_of a.shelf)) a.places.items };
+}
+
+impl<S: Places> Archive<S> {
+    /// An archive with no envelope, whatever lies on the shelf. It takes no memory.
+    pub fn new(alloc: Global, shelf: S) -> Archive<S>
+        ensures { result ≡ [] }
+    {
+        Archive {
+            shelf,
+            places: Vec::new(alloc),
+            free: Vec::new(alloc),
+            recent: 0,
+        }
+    }
+
+    /// The envelope that was filed. It takes no memory, and waits for nobody.
+    pub fn read(&self, filed: &Filed) -> &Envelope
+        requires { IsFiled self.now filed.now }
+        ensures { result.now ≡ sent_of filed.now }
+    {
+        match &self.places[filed.number] {
+            Some(place) => self.shelf.read(place),
+            None => unreachable!(),
+        }
+    }
+
+    /// The number of the envelope once more, as for another table. It takes no memory.
+    pub fn copy_of(&self, filed: &Filed) -> Filed
+        requires { IsFiled self.now filed.now }
+        ensures { result ≡ filed.now }
+    {
+        Filed {
+            number: filed.number,
+            put: Snapshot::of(self.read(filed)),
+        }
+    }
+
+    /// Whether at least half as many envelopes were filed since others were let go as there are numbers, free ones
+    /// included. If they are let go only then, each that is filed costs a look or two, however many slots are closed
+    /// one by one.
+    pub fn is_due(&self) -> bool {
+        self.recent >= self.places.len() / 2
+    }
+
+    /// Lets go what was filed for all slots but these. It cannot fail: a number that is not noted as free, because it
+    /// is out of memory, is found again the next time.
+    pub fn let_go<T: Slots>(&mut self, slots: &T)
+        ensures { self.new ≡ map (only_of (T.is_among slots.now)) self.old }
+    {
+        self.recent = 0;
+        self.free.clear();
+        for number in 0..self.places.len() {
+            self.let_go_at(number, slots);
+        }
+    }
+
+    /// What has this number is let go, if it is not of one of these slots.
+    fn let_go_at<T: Slots>(&mut self, number: usize, slots: &T)
+        requires { number < length self.old }
+        ensures { self.new ≡ slice_set self.old number (only_of (T.is_among slots.now) (slice_index_or self.old number None)) }
+    {
+        if !self.is_kept(number, slots) {
+            self.places[number] = None;
+            let _ = self.free.push(number);
+        }
+    }
+
+    /// Whether an envelope of one of these slots has this number.
+    fn is_kept<T: Slots>(&self, number: usize, slots: &T) -> bool
+        requires { number < length self.now }
+        ensures { result ≡ is_some (only_of (T.is_among slots.now) (slice_index_or self.now number None)) }
+    {
+        match &self.places[number] {
+            Some(place) => slots.contains(self.shelf.read(place).slot()),
+            None => false,
+        }
+    }
+}
+
+impl<S: Shelf> Archive<S> {
+    /// Files an envelope, whether or not it stands there already. An error says that it is out of memory, and the
+    /// archive is as it was.
+    pub fn put(&mut self, envelope: Envelope) -> Result<Filed, AllocError>
+        ensures filed { IfOk result (λ f. IsFiled self.new f) }
+        ensures is { IfOk result (λ f. sent_of f ≡ envelope) }
+        ensures err { OnErr result (self.new ≡ self.old) }
+        ensures kept { Keeps self.old self.new }
+    {
+        if self.places.reserve(1).is_err() {
+            drop(envelope);
+            // Memory: the list of places has no room.
+            return Err(AllocError);
+        }
+        let put = Snapshot::of(&envelope);
+        // Memory: the shelf hands the envelope back.
+        let place = self.shelf.put(envelope).map_err(|_| AllocError)?;
+        let number = vacant(&mut self.places, &mut self.free);
+        self.places[number] = Some(place);
+        self.recent = self.recent.saturating_add(1);
+        Ok(Filed { number, put })
+    }
+}
+
+/// A number at which nothing lies: one that is free, or the next.
+fn vacant<P: Drop>(places: &mut Vec<Option<P>>, free: &mut Vec<usize>) -> usize
+    requires { vec_len places.old < vec_capacity places.old }
+    ensures within { result < vec_len places.new }
+    ensures vacant { slice_get places.new.items result ≡ Some None }
+    ensures grown { (places.new.items ≡ places.old.items) ⊎ (places.new.items ≡ places.old.items ++ None ∷ []) }
+{
+    match free.pop() {
+        Some(number) if number < places.len() && places[number].is_none() => number,
+        _ => {
+            let number = places.len();
+            places.push_reserved(None);
+            number
+        }
+    }
+}

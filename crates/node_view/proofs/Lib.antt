@@ -1,0 +1,23 @@
+pub mod Gathering
+pub mod Searches
+pub mod Sightings
+pub mod Widening
+pub mod SameRows
+pub mod FoundRows
+pub mod Keeping
+pub mod RegionLaws
+pub mod FormLaws
+pub mod EntryLaws
+pub mod PlaceLaws
+pub mod ListedLaws
+pub mod Leaving
+pub mod Following
+pub mod Knowing
+pub mod QuorumLaws
+pub mod KeptLaws
+pub mod MovedPlaces
+pub mod AddedPlaces
+pub mod WordLaws
+pub mod GroupLaws
+pub mod Offers
+mod KeptRegions

@@ -1,0 +1,283 @@
+//! What a listener knows of the nodes that it reaches, kept from one event to the next. A row that comes leaves its
+//! region, changes one entry of it, widens or moves it, or makes it unknown. If it stays known, the ballots and
+//! nominated values that are listed follow the row.
+
+ghost use Rattle.std.specs.Prelude.{◌≡◌, IfOk, IfSome, IsTrue, List, None, Some, is_some, box_value, option_map};
+ghost use Rattle.node_store.specs.Archives.{AreFiled, IsFiled, sent_of, sents_of};
+ghost use Rattle.node_table.specs.Puts.{IsFiledPut, IsPut, before_put};
+ghost use Rattle.scp_spec.specs.Rows.{with_row};
+ghost use Rattle.scp_spec.specs.Sets.{IsAscending};
+ghost use Rattle.scp_spec.specs.Stirring.{ReachesSame};
+ghost use Rattle.node_view.specs.declared.configured.Configured.{Configured};
+ghost use Rattle.node_view.specs.Listening.{IsEffect, KnowsLists, KnowsReach, KnowsRegion, is_put, reach_in, region_of, row_before};
+ghost use Rattle.scp_types.specs.Statements.{Sent};
+ghost use Rattle.node_view.specs.Knowing.{IsKnown, IsTaken};
+ghost use Rattle.node_view.specs.Regions.{IsKeptRegion, IsOfExtent};
+
+use crate::configured::Configured;
+use crate::{Change, Extent, KnownReach, NewReach, Region, RegionEntry, Taken};
+use node_store::{Archive, Filed, Places};
+use node_table::{Put, Rows, Table};
+use scp_types::Envelope;
+use std::alloc::{AllocError, Global};
+
+/// What a row does to the region that is known.
+#[derive(Drop)]
+pub(crate) enum Effect {
+    /// It stays.
+    Nothing,
+    /// This entry is set.
+    Sets(RegionEntry),
+    /// The node reaches others, to this extent.
+    Reach(Extent),
+    /// It is not known any more.
+    Forgets,
+}
+
+/// An envelope that is to be a row, and the archive in which it lies.
+#[derive(Drop)]
+pub(crate) struct FiledRow<'a, S: Places> {
+    pub archive: &'a Archive<S>,
+    pub envelope: Filed,
+}
+
+/// Takes what is known, or finds it now; nothing is known afterwards. An error says that it is out of memory.
+pub(crate) fn take_known<S: Places>(
+    alloc: Global,
+    known: &mut Option<Box<KnownReach>>,
+    configured: &Configured,
+    table: &Table,
+    archive: &Archive<S>,
+) -> Result<Box<KnownReach>, AllocError>
+    requires rows { AreFiled archive.now table.now }
+    requires known { KnowsReach configured.now (sents_of table.now) (reach_in known.old) }
+    ensures reach { IfOk result (λ k. IsKnown configured.now.name configured.now.slices (sents_of table.now) (box_value k)) }
+    ensures forgotten { known.new ≡ None }
+{
+    match known.take() {
+        Some(known) => Ok(known),
+        None => {
+            let rows = Rows::of(table, archive);
+            let reach = KnownReach::of(alloc, configured.own(), &rows)?;
+            on_heap(alloc, reach)
+        }
+    }
+}
+
+/// Puts what is known on the heap, so that a listener has no place for it before it is found. An error says that it is
+/// out of memory.
+fn on_heap(alloc: Global, known: KnownReach) -> Result<Box<KnownReach>, AllocError>
+    ensures { IfOk result (λ b. box_value b ≡ known) }
+{
+    match Box::new(alloc, known) {
+        Ok(known) => Ok(known),
+        // Memory: what is known has no room.
+        Err(_) => Err(AllocError),
+    }
+}
+
+pub(crate) fn copy_of_known(
+    alloc: Global,
+    known: &Option<Box<KnownReach>>,
+) -> Result<Option<Box<KnownReach>>, AllocError>
+    ensures { IfOk result (λ copy. (c : Configured) (table : List Sent) → KnowsReach c table (reach_in known.now) → KnowsReach c table (reach_in copy)) }
+{
+    match known {
+        None => Ok(None),
+        Some(known) => {
+            let copy = known.try_copy(alloc)?;
+            Ok(Some(on_heap(alloc, copy)?))
+        }
+    }
+}
+
+/// Puts the row into the table, and says whether the node surely reaches whom it reached before. What is known follows
+/// the row; if it is out of memory for that, nothing is known, and the put goes on.
+pub(crate) fn put_row<S: Places>(
+    alloc: Global,
+    configured: &Configured,
+    table: &mut Table,
+    known: &mut Option<Box<KnownReach>>,
+    row: FiledRow<'_, S>,
+) -> (Put, bool)
+    requires rows { AreFiled row.archive.now table.old }
+    requires envelope { IsFiled row.archive.now row.envelope }
+    requires known { KnowsReach configured.now (sents_of table.old) (reach_in known.old) }
+    ensures put { IsPut table.old (sent_of row.entry.envelope) result.0 table.new }
+    ensures back { before_put result.0 table.new ≡ table.old }
+    ensures known { KnowsReach configured.now (sents_of table.new) (reach_in known.new) }
+    ensures reach { IsTrue result.1 → ReachesSame configured.now.name configured.now.slices (sents_of table.old) (sents_of table.new) }
+    ensures filed { AreFiled row.entry.archive.now table.new }
+    ensures replaced { IsFiledPut row.entry.archive.now result.0 }
+{
+    // Memory for an entry is asked for before the table changes.
+    let effect = effect_of(alloc, configured, known, table, &row);
+    let FiledRow { archive, envelope } = row;
+    let copy = archive.copy_of(&envelope);
+    let put = table.put(archive, envelope);
+    if !is_put(&put) {
+        return (put, false);
+    }
+    let heard = HeardRow {
+        archive,
+        envelope: &copy,
+        put: &put,
+    };
+    match effect {
+        Effect::Reach(extent) => {
+            change(alloc, known, configured, table, (heard, extent));
+            (put, false)
+        }
+        effect => {
+            apply(known, effect);
+            hear(alloc, known, configured, table, heard);
+            // A region that is known still is of the nodes that were reached before.
+            (put, known.is_some())
+        }
+    }
+}
+
+/// What the row does to the region that is known if the table takes it.
+fn effect_of<S: Places>(
+    alloc: Global,
+    configured: &Configured,
+    known: &Option<Box<KnownReach>>,
+    table: &Table,
+    row: &FiledRow<'_, S>,
+) -> Effect
+    requires rows { AreFiled row.now.archive.now table.now }
+    requires envelope { IsFiled row.now.archive.now row.now.envelope }
+    requires known { KnowsReach configured.now (sents_of table.now) (reach_in known.now) }
+    ensures { IsEffect configured.now (sents_of table.now) (sent_of row.now.envelope) (region_of (reach_in known.now)) result }
+{
+    match known {
+        None => Effect::Nothing,
+        Some(known) => {
+            let rows = Rows::of(table, row.archive);
+            let envelope = row.archive.read(&row.envelope);
+            effect_on(alloc, configured, &known.region, &rows, envelope)
+        }
+    }
+}
+
+fn effect_on<S: Places>(
+    alloc: Global,
+    configured: &Configured,
+    region: &Region,
+    rows: &Rows<'_, S>,
+    envelope: &Envelope,
+) -> Effect
+    requires { IsAscending region.now.nodes.items }
+    ensures { IsEffect configured.now rows.now envelope.now (Some region.now) result }
+{
+    if region.stays(rows, envelope) {
+        return Effect::Nothing;
+    }
+    match region.change_by(alloc, configured.own(), rows, envelope) {
+        Ok(Change::Sets(entry)) => Effect::Sets(entry),
+        Ok(Change::Reach(extent)) => Effect::Reach(extent),
+        Err(_) => Effect::Forgets,
+    }
+}
+
+/// Has the region follow a row by which the reach stays; after any other one nothing is known. The ballots and values
+/// that are listed stay as they are.
+fn apply(known: &mut Option<Box<KnownReach>>, effect: Effect)
+    ensures known { (c : Configured) (table : List Sent) (e : Sent) → IsEffect c table e (region_of (reach_in known.old)) effect → KnowsRegion c table (region_of (reach_in known.old)) → KnowsRegion c (with_row e table) (region_of (reach_in known.new)) }
+    ensures reach { IsTrue (is_some known.new) → (c : Configured) (table : List Sent) (e : Sent) → IsEffect c table e (region_of (reach_in known.old)) effect → KnowsRegion c table (region_of (reach_in known.old)) → ReachesSame c.name c.slices table (with_row e table) }
+    ensures lists { (c : Configured) (table : List Sent) → KnowsLists c table (reach_in known.old) → KnowsLists c table (reach_in known.new) }
+{
+    match effect {
+        Effect::Nothing => {}
+        Effect::Sets(entry) => {
+            if let Some(known) = known {
+                known.region.set_entry(entry);
+            }
+        }
+        Effect::Reach(_) | Effect::Forgets => *known = None,
+    }
+}
+
+/// A row that a table has taken, and what the put answered.
+#[derive(Drop)]
+struct HeardRow<'a, S: Places> {
+    archive: &'a Archive<S>,
+    envelope: &'a Filed,
+    put: &'a Put,
+}
+
+/// Has the region follow a row by which the node reaches others, if it was asked for since the last such row. If it was
+/// not, or is out of memory, nothing is known.
+fn change<S: Places>(
+    alloc: Global,
+    known: &mut Option<Box<KnownReach>>,
+    configured: &Configured,
+    table: &Table,
+    heard: (HeardRow<'_, S>, Extent),
+)
+    requires rows { AreFiled heard.0.archive.now table.now }
+    requires envelope { IsFiled heard.0.archive.now heard.0.envelope.now }
+    requires kept { IfSome (region_of (reach_in known.old)) (IsKeptRegion configured.now.name configured.now.slices (sents_of table.now) (sent_of heard.0.envelope.now).sender) }
+    requires extent { IfSome (region_of (reach_in known.old)) (λ r. IsOfExtent configured.now.name configured.now.slices (sents_of table.now) (sent_of heard.0.envelope.now).sender r.nodes.items heard.1) }
+    ensures { KnowsReach configured.now (sents_of table.now) (reach_in known.new) }
+{
+    let Some(mut reach) = known.take() else {
+        return;
+    };
+    if !reach.is_asked {
+        return;
+    }
+    let (row, extent) = heard;
+    let rows = Rows::of(table, row.archive);
+    let sender = row.archive.read(row.envelope).sender();
+    let by = NewReach { sender, extent };
+    if let Ok(()) = reach.change(alloc, configured.own(), &rows, by) {
+        *known = Some(reach);
+    }
+}
+
+/// Has the ballots and values that are listed follow a row that the region follows already.
+fn hear<S: Places>(
+    alloc: Global,
+    known: &mut Option<Box<KnownReach>>,
+    configured: &Configured,
+    table: &Table,
+    heard: HeardRow<'_, S>,
+)
+    requires rows { AreFiled heard.archive.now table.now }
+    requires envelope { IsFiled heard.archive.now heard.envelope.now }
+    requires put { IsFiledPut heard.archive.now heard.put.now }
+    requires region { KnowsRegion configured.now (sents_of table.now) (region_of (reach_in known.old)) }
+    ensures some { IsTrue (is_some known.new) → IsTrue (is_some known.old) }
+    ensures known { (old : List Sent) → IsTaken old (sents_of table.now) (sent_of heard.entry.envelope.now) (row_before heard.entry.put.now) → KnowsLists configured.now old (reach_in known.old) → KnowsReach configured.now (sents_of table.now) (reach_in known.new) }
+{
+    if let Some(known) = known {
+        let rows = Rows::of(table, heard.archive);
+        let taken = Taken {
+            row: heard.archive.read(heard.envelope),
+            before: row_before(heard.archive, heard.put),
+        };
+        known.hear(alloc, configured.own(), &rows, &taken);
+    }
+}
+
+/// The row that the put replaced, if there was one.
+fn row_before<'a, S: Places>(archive: &'a Archive<S>, put: &Put) -> Option<&'a Envelope>
+    requires { IsFiledPut archive.now put.now }
+    ensures { option_map (λ r. r.now) result ≡ row_before put.now }
+{
+    match put {
+        Put::Stale | Put::NoMemory | Put::Added => None,
+        Put::Replaced(row) => Some(archive.read(row)),
+    }
+}
+
+/// Whether the table has taken the envelope.
+fn is_put(put: &Put) -> bool
+    ensures { result ≡ is_put put.now }
+{
+    match put {
+        Put::Stale | Put::NoMemory => false,
+        Put::Added | Put::Replaced(_) => true,
+    }
+}

@@ -1,0 +1,476 @@
+//! The nodes that a node reaches, and slices compiled against them.
+
+ghost use Rattle.std.specs.Prelude.{◌≡◌, ◌<◌, ◌≤◌, ◌++◌, ◌∷◌, [], ℕ, List, IfOk, IfSome, IsTrue, OnOk, Some, get_or, length, set};
+ghost use Rattle.scp_types.specs.Statements.{Sent, kind_of};
+ghost use Rattle.scp_types.specs.Trees.{Slices};
+ghost use Rattle.scp_types.specs.declared.kind.Kind.{Kind};
+ghost use Rattle.scp_types.specs.declared.kind.Kind.TheVariants.{Nomination};
+ghost use Rattle.scp_spec.specs.Backing.{slices_by};
+ghost use Rattle.scp_spec.specs.Rows.{with_row};
+ghost use Rattle.scp_spec.specs.Sets.{IsAscending, among};
+ghost use Rattle.scp_bits.specs.Searching.{AreCompiled};
+ghost use Rattle.node_table.specs.Places.{place_of_row};
+ghost use Rattle.node_view.specs.Forms.{AreAllForms, IsFormerOf, IsFoundWithin};
+ghost use Rattle.node_view.specs.Regions.{AreRowPlaces, IsChange, IsCopy, IsEntry, IsFormerRegion, IsPlaced, IsRegion, forms_of, row_places, row_places_of_kind, rows_of};
+
+use crate::changing::Extent;
+use crate::forms::{Candidates, Former, SlicesInReach};
+use crate::own::Own;
+use crate::reached::ReachedRows;
+use node_reach::{drops_none, keeps_reach, reach};
+use node_store::Places;
+use node_table::{RowPlace, RowPlaces, Rows};
+use scp_bits::{CompiledSet, Form, compile, place_in_nodes};
+use scp_types::{Envelope, Kind, Nested, NodeId};
+use std::alloc::{AllocError, Global};
+
+/// The nodes that a node reaches, its place among them, and what blocks it. Of each kind it has whose slices are met by
+/// whom, and where in the table the rows of the nodes stand. Its owner keeps it from event to event.
+///
+/// Slices that are the same are mostly compiled once: their forms in one list have one number, below `numbers`. A new
+/// row's slices are compared only with the node's own and with those of the row that was set last.
+///
+/// A newer row stands in the place of the one before, so the places change only with a first row.
+#[derive(Drop)]
+pub struct Region {
+    pub nodes: Vec<NodeId>,
+    pub place: usize,
+    pub blocking: CompiledSet,
+    pub ballots: Vec<Option<Form>>,
+    pub nominations: Vec<Option<Form>>,
+    pub ballot_rows: Vec<RowPlace>,
+    pub nomination_rows: Vec<RowPlace>,
+    pub numbers: usize,
+    pub latest: usize,
+}
+
+/// All that a row changes in a region whose reach stays: the compiled slices of a reached node's row of a kind, and
+/// where the row is to stand in the table. The numbers of all forms are below `numbers` afterwards.
+#[derive(Drop)]
+pub struct RegionEntry {
+    kind: Kind,
+    place: usize,
+    slices: Form,
+    row: RowPlace,
+    numbers: usize,
+}
+
+/// What a row of another reached node changes in a region.
+#[derive(Drop)]
+pub enum Change {
+    /// Only this entry; whom the node reaches stays.
+    Sets(RegionEntry),
+    /// Whom the node reaches.
+    Reach(Extent),
+}
+
+impl Region {
+    /// The region of a node by a table. An error says that it is out of memory.
+    pub fn of<'a, S: Places>(
+        alloc: Global,
+        own: &'a NodeId,
+        slices: &'a Nested,
+        table: &'a Rows<'a, S>,
+    ) -> Result<Region, AllocError>
+        ensures { IfOk result (λ r. IsRegion own.now slices.now table.now r) }
+    {
+        let nodes = reach(alloc, &*table, own, slices)?;
+        let rows = row_places(alloc, &*table, &nodes)?;
+        let placed = Placed { nodes, rows };
+        let itself = Own { name: own, slices };
+        Region::over(alloc, itself, table, placed, None)
+    }
+
+    /// The region of a node whose reached nodes are known, and where their rows stand. Forms are taken from a region of
+    /// other nodes, if there is one. An error says that it is out of memory.
+    pub(crate) fn over<'a, S: Places>(
+        alloc: Global,
+        own: Own<'a>,
+        table: &'a Rows<'a, S>,
+        placed: Placed,
+        former: Option<FormerRegion<'a>>,
+    ) -> Result<Region, AllocError>
+        requires placed { IsPlaced own.name.now own.slices.now table.now placed }
+        requires former { IfSome former (IsFormerRegion own.name.now own.slices.now table.now placed.nodes.items) }
+        ensures { IfOk result (λ r. IsRegion own.entry.name.now own.entry.slices.now table.now r) }
+    {
+        let place = place_in(&placed.nodes, own.name);
+        let blocking = compile(alloc, own.slices.set(), &placed.nodes, true)?;
+        let forms = kind_forms(alloc, own, &*table, &placed, former)?;
+        let Placed { nodes, rows } = placed;
+        let numbers = nodes.len();
+        Ok(Region {
+            nodes,
+            place,
+            blocking,
+            ballots: forms.ballots,
+            nominations: forms.nominations,
+            ballot_rows: rows.ballots,
+            nomination_rows: rows.nominations,
+            numbers,
+            latest: place,
+        })
+    }
+
+    /// A copy. An error says that it is out of memory.
+    pub fn try_copy(&self, alloc: Global) -> Result<Region, AllocError>
+        ensures { IfOk result (λ r. IsCopy self.now r) }
+    {
+        Ok(Region {
+            nodes: Vec::from_slice(alloc, &self.nodes)?,
+            place: self.place,
+            blocking: self.blocking.try_copy(alloc)?,
+            ballots: copy_of_all(alloc, &self.ballots)?,
+            nominations: copy_of_all(alloc, &self.nominations)?,
+            ballot_rows: Vec::from_slice(alloc, &self.ballot_rows)?,
+            nomination_rows: Vec::from_slice(alloc, &self.nomination_rows)?,
+            numbers: self.numbers,
+            latest: self.latest,
+        })
+    }
+
+    /// Whether the region surely stays as it is if the table takes the envelope. Its sender is not reached, or has a
+    /// row of that kind with the same slices, in whose place the envelope then stands. It takes no memory.
+    pub fn stays<S: Places>(&self, table: &Rows<'_, S>, envelope: &Envelope) -> bool
+        requires { IsAscending self.now.nodes.items }
+        ensures { IsTrue result → (own : ℕ) (configured : Slices) → IsRegion own configured table.now self.now → IsRegion own configured (with_row envelope.now table.now) self.now }
+    {
+        keeps_reach(&self.nodes, table, envelope)
+    }
+
+    /// What the envelope changes in the region if the table takes it. An error says that it is out of memory.
+    ///
+    /// It is an entry if another reached node's slices name only reached nodes, and drop no name of its row of that
+    /// kind. They may drop this node and names of its own slices, which are reached anyhow. If they drop nothing else
+    /// but name others, the reach is wider; in all other cases it is another reach.
+    ///
+    /// It costs some searches by name, however many rows there are. If the slices are neither the node's own nor those
+    /// of the row that was set last, they are compiled, with a search for each name. After the last number of a form
+    /// there is no such entry, and the reach is another.
+    pub fn change_by<S: Places>(
+        &self,
+        alloc: Global,
+        own: Own<'_>,
+        table: &Rows<'_, S>,
+        envelope: &Envelope,
+    ) -> Result<Change, AllocError>
+        requires { IsAscending self.now.nodes.items }
+        ensures { IfOk result (IsChange own.entry.name.now own.entry.slices.now table.now envelope.now self.now) }
+    {
+        let Some(place) = place_in_nodes(&self.nodes, envelope.sender()) else {
+            return Ok(Change::Reach(Extent::Other));
+        };
+        if place == self.place {
+            return Ok(Change::Reach(Extent::Other));
+        }
+        let drops_none = drops_none(alloc, own.name, own.slices, table, envelope)?;
+        if !drops_none {
+            return Ok(Change::Reach(Extent::Other));
+        }
+        let Some(numbers) = self.numbers.checked_add(1) else {
+            return Ok(Change::Reach(Extent::Other));
+        };
+        let found = self.form_for(alloc, own, table, envelope)?;
+        let Some(form) = found else {
+            return Ok(Change::Reach(Extent::Wider));
+        };
+        Ok(Change::Sets(RegionEntry {
+            kind: envelope.body().kind(),
+            place,
+            slices: form,
+            row: row_place(table, envelope),
+            numbers,
+        }))
+    }
+
+    /// The compiled form of the envelope's slices, for the list of its kind, if they name only reached nodes. It is
+    /// that of the node itself or of the row that was set last if their slices are the same, or else a new one. An
+    /// error says that it is out of memory.
+    fn form_for<S: Places>(
+        &self,
+        alloc: Global,
+        own: Own<'_>,
+        table: &Rows<'_, S>,
+        envelope: &Envelope,
+    ) -> Result<Option<Form>, AllocError>
+        requires { IsAscending self.now.nodes.items }
+        ensures { IfOk result (λ o. IfSome o (IsFoundWithin self.now.nodes.items (slices_by own.entry.name.now own.entry.slices.now table.now (kind_of envelope.now.body)) (forms_of (kind_of envelope.now.body) self.now) self.now.numbers envelope.now.slices)) }
+    {
+        let kind = envelope.body().kind();
+        let rows = ReachedRows::by_look_up(alloc, &self.nodes, table, kind);
+        let reached = SlicesInReach {
+            own: own.name,
+            slices: own.slices,
+            rows,
+            former: None,
+        };
+        let there = Candidates {
+            forms: self.forms(kind),
+            places: (self.place, self.latest),
+        };
+        reached.form_within(alloc, envelope.slices(), there, self.numbers)
+    }
+
+    pub(crate) fn forms(&self, kind: Kind) -> &[Option<Form>]
+        ensures { result.now ≡ forms_of kind self.now }
+    {
+        match kind {
+            Kind::Nomination => &self.nominations,
+            Kind::Ballot => &self.ballots,
+        }
+    }
+
+    /// The rows of a kind of the reached nodes. None is gathered, and it takes no memory.
+    pub(crate) fn rows<'a, S: Places>(
+        &'a self,
+        alloc: Global,
+        table: &'a Rows<'a, S>,
+        kind: Kind,
+    ) -> ReachedRows<'a, S>
+        requires { rows_of kind self.now ≡ row_places table.now kind self.now.nodes.items }
+        ensures { result ≡ record { nodes = self.now.nodes.items; table = table.now; kind = kind } }
+    {
+        let places = match kind {
+            Kind::Nomination => &self.nomination_rows,
+            Kind::Ballot => &self.ballot_rows,
+        };
+        ReachedRows::in_place(alloc, &self.nodes, places, table, kind)
+    }
+
+    /// Sets what [`Region::change_by`] found. The region is then that of the table with the row; its nodes stay the
+    /// same. It takes no memory.
+    pub fn set_entry(&mut self, entry: RegionEntry)
+        ensures nodes { self.new.nodes.items ≡ self.old.nodes.items }
+        ensures region { (own : ℕ) (configured : Slices) (table : List Sent) (e : Sent) → IsEntry own configured table e self.old entry → IsRegion own configured table self.old → IsRegion own configured (with_row e table) self.new }
+    {
+        self.numbers = entry.numbers;
+        self.latest = entry.place;
+        match entry.kind {
+            Kind::Ballot => {
+                set_at(&mut self.ballots, entry.place, entry.slices);
+                set_row(&mut self.ballot_rows, entry.place, entry.row);
+            }
+            Kind::Nomination => {
+                set_at(&mut self.nominations, entry.place, entry.slices);
+                set_row(&mut self.nomination_rows, entry.place, entry.row);
+            }
+        }
+    }
+}
+
+/// Where the envelope stands once the table takes it: in the place of its sender's row of that kind, or behind all
+/// others.
+#[tactic(auto, using(crate::proofs::PlaceLaws::stands_behind, crate::proofs::PlaceLaws::stands_there))]
+fn row_place<S: Places>(table: &Rows<'_, S>, envelope: &Envelope) -> RowPlace
+    ensures { place_of_row (with_row envelope.now table.now) envelope.now.sender (kind_of envelope.now.body) ≡ result }
+{
+    let place = table.place(envelope.sender(), envelope.body().kind());
+    match place.get() {
+        None => table.end(),
+        Some(_) => place,
+    }
+}
+
+fn set_at(entries: &mut [Option<Form>], place: usize, slices: Form)
+    ensures { place < length entries.old → entries.new ≡ set entries.old place (Some slices) }
+{
+    if place < entries.len() {
+        entries[place] = Some(slices);
+    }
+}
+
+fn set_row(rows: &mut [RowPlace], place: usize, row: RowPlace)
+    ensures { place < length rows.old → rows.new ≡ set rows.old place row }
+{
+    if place < rows.len() {
+        rows[place] = row;
+    }
+}
+
+/// A copy of compiled slices, each in its place. An error says that it is out of memory, or that a form has too many
+/// owners.
+fn copy_of_all(alloc: Global, forms: &[Option<Form>]) -> Result<Vec<Option<Form>>, AllocError>
+    ensures { IfOk result (λ v. v.items ≡ forms.now) }
+{
+    let mut copies = Vec::with_capacity(alloc, forms.len())?;
+    for form in forms {
+        copies.push(copy_of(form)?)?;
+    }
+    Ok(copies)
+}
+
+/// A copy of compiled slices, if there are any. An error says that they have too many owners.
+fn copy_of(form: &Option<Form>) -> Result<Option<Form>, AllocError>
+    ensures { IfOk result (λ o. o ≡ form.now) }
+{
+    match form {
+        None => Ok(None),
+        Some(form) => Ok(Some(form.try_copy()?)),
+    }
+}
+
+/// The place of a node that is listed.
+fn place_in(nodes: &[NodeId], node: &NodeId) -> usize
+    requires ascending { IsAscending nodes.now }
+    requires listed { IsTrue (among nodes.now node.now) }
+    ensures within { result < length nodes.now }
+    ensures is { get_or nodes.now result 0 ≡ node.now }
+{
+    let Some(place) = place_in_nodes(nodes, node) else {
+        unreachable!()
+    };
+    place
+}
+
+/// The slices that nodes have, compiled, in the order of the nodes, kind by kind.
+#[derive(Drop)]
+struct KindForms {
+    ballots: Vec<Option<Form>>,
+    nominations: Vec<Option<Form>>,
+}
+
+/// The slices that the nodes have by their rows, compiled, kind by kind. An error says that it is out of memory.
+fn kind_forms<'a, S: Places>(
+    alloc: Global,
+    own: Own<'a>,
+    table: &'a Rows<'a, S>,
+    placed: &'a Placed,
+    former: Option<FormerRegion<'a>>,
+) -> Result<KindForms, AllocError>
+    requires ascending { IsAscending placed.now.nodes.items }
+    requires rows { AreRowPlaces table.now placed.now.nodes.items placed.now.rows }
+    requires former { IfSome former (IsFormerRegion own.name.now own.slices.now table.now placed.now.nodes.items) }
+    ensures ballots { IfOk result (λ f. AreAllForms placed.now.nodes.items (slices_by own.entry.name.now own.entry.slices.now table.now Kind.Ballot) f.ballots.items) }
+    ensures nominations { IfOk result (λ f. AreAllForms placed.now.nodes.items (slices_by own.entry.name.now own.entry.slices.now table.now Nomination) f.nominations.items) }
+{
+    let rows = placed.rows_of(alloc, table, Kind::Ballot);
+    let ballots = forms_by(alloc, own, rows, forms_of(&former, Kind::Ballot))?;
+    let rows = placed.rows_of(alloc, table, Kind::Nomination);
+    let nominations = forms_by(alloc, own, rows, forms_of(&former, Kind::Nomination))?;
+    Ok(KindForms {
+        ballots,
+        nominations,
+    })
+}
+
+/// The compiled slices by rows of one kind, in the order of the nodes; the node's own are the configured ones. An error
+/// says that it is out of memory.
+fn forms_by<'a, S: Places>(
+    alloc: Global,
+    own: Own<'a>,
+    rows: ReachedRows<'a, S>,
+    former: Option<Former<'a>>,
+) -> Result<Vec<Option<Form>>, AllocError>
+    requires ascending { IsAscending rows.nodes }
+    requires former { IfSome former (IsFormerOf rows.nodes (slices_by own.name.now own.slices.now rows.table rows.kind)) }
+    ensures { IfOk result (λ v. AreAllForms rows.entry.nodes (slices_by own.entry.name.now own.entry.slices.now rows.entry.table rows.entry.kind) v.items) }
+{
+    let reached = SlicesInReach {
+        own: own.name,
+        slices: own.slices,
+        rows,
+        former,
+    };
+    reached.forms(alloc)
+}
+
+/// Nodes, and where their rows stand in the table, in the order of the nodes, kind by kind.
+#[derive(Drop)]
+pub(crate) struct Placed {
+    pub nodes: Vec<NodeId>,
+    pub rows: KindPlaces,
+}
+
+impl Placed {
+    /// The rows of a kind of these nodes. None is gathered, and it takes no memory.
+    fn rows_of<'a, S: Places>(
+        &'a self,
+        alloc: Global,
+        table: &'a Rows<'a, S>,
+        kind: Kind,
+    ) -> ReachedRows<'a, S>
+        requires { row_places_of_kind kind self.now.rows ≡ row_places table.now kind self.now.nodes.items }
+        ensures { result ≡ record { nodes = self.now.nodes.items; table = table.now; kind = kind } }
+    {
+        ReachedRows::in_place(alloc, &self.nodes, self.rows.of(kind), table, kind)
+    }
+}
+
+/// A region of other nodes, and where its nodes stand among all. Only the sender's rows may have changed since.
+#[derive(Clone, Copy)]
+pub(crate) struct FormerRegion<'a> {
+    pub region: &'a Region,
+    pub places: &'a [usize],
+    pub sender: &'a NodeId,
+}
+
+/// The forms of a kind in it, if there is one.
+fn forms_of<'a>(former: &Option<FormerRegion<'a>>, kind: Kind) -> Option<Former<'a>>
+    ensures { (own : ℕ) (configured : Slices) (table : List Sent) (nodes : List ℕ) → IfSome former.now (IsFormerRegion own configured table nodes) → IfSome result (IsFormerOf nodes (slices_by own configured table kind)) }
+{
+    match former {
+        None => None,
+        Some(former) => Some(Former {
+            nodes: &former.region.nodes,
+            forms: former.region.forms(kind),
+            places: former.places,
+            sender: former.sender,
+        }),
+    }
+}
+
+/// Where the rows of nodes stand in the table, in the order of the nodes, kind by kind.
+#[derive(Drop)]
+pub(crate) struct KindPlaces {
+    pub ballots: Vec<RowPlace>,
+    pub nominations: Vec<RowPlace>,
+}
+
+impl KindPlaces {
+    /// The places of no node yet, with room for `count` nodes. An error says that it is out of memory.
+    pub(crate) fn with_capacity(alloc: Global, count: usize) -> Result<KindPlaces, AllocError>
+        ensures ballots { IfOk result (λ p. p.ballots.items ≡ []) }
+        ensures nominations { IfOk result (λ p. p.nominations.items ≡ []) }
+    {
+        let ballots = Vec::with_capacity(alloc, count)?;
+        let nominations = Vec::with_capacity(alloc, count)?;
+        Ok(KindPlaces {
+            ballots,
+            nominations,
+        })
+    }
+
+    /// Adds the places of the next node. An error says that it is out of memory.
+    pub(crate) fn push(&mut self, places: RowPlaces) -> Result<(), AllocError>
+        ensures ballots { OnOk result (self.new.ballots.items ≡ self.old.ballots.items ++ places.ballot ∷ []) }
+        ensures nominations { OnOk result (self.new.nominations.items ≡ self.old.nominations.items ++ places.nomination ∷ []) }
+    {
+        self.ballots.push(places.ballot)?;
+        self.nominations.push(places.nomination)?;
+        Ok(())
+    }
+
+    fn of(&self, kind: Kind) -> &[RowPlace]
+        ensures { result.now ≡ row_places_of_kind kind self.now }
+    {
+        match kind {
+            Kind::Nomination => &self.nominations,
+            Kind::Ballot => &self.ballots,
+        }
+    }
+}
+
+/// Where the rows of the nodes stand in the table; each node is looked up once. An error says that it is out of memory.
+fn row_places<S: Places>(
+    alloc: Global,
+    table: &Rows<'_, S>,
+    nodes: &[NodeId],
+) -> Result<KindPlaces, AllocError>
+    ensures { IfOk result (AreRowPlaces table.now nodes.now) }
+{
+    let mut found = KindPlaces::with_capacity(alloc, nodes.len())?;
+    for node in nodes {
+        found.push(table.places(node))?;
+    }
+    Ok(found)
+}

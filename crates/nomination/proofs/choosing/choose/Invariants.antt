@@ -1,5 +1,0 @@
-use Rattle.nomination.proofs.Chosen.{GoesOn}
-use Rattle.nomination.proofs.choosing.choose.Given as goal
-
-abbrev pub invariant-loop-value : goal.invariant-loop-value
-invariant-loop-value g l = GoesOn (g.T.ValueTest.passes l.test) l.most l.values l.chosen l.room l.value-index

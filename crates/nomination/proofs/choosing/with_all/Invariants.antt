@@ -1,9 +1,0 @@
-use Rattle.std.proofs.Common.{◌≡◌, ◌≤◌, length}
-use Rattle.protocol.specs.Candidates.{all_with}
-use Rattle.nomination.proofs.choosing.with_all.Given as goal
-
-abbrev pub invariant-loop-left : goal.invariant-loop-left
-invariant-loop-left l = (length l.left ≤ length l.values) × (all_with l.left l.set ≡ all_with l.values l.fn.set)
-
-abbrev pub decreases-loop-left : goal.decreases-loop-left
-decreases-loop-left l = length l.left

@@ -1,0 +1,10 @@
+pub mod Beginnings
+pub mod Readers
+pub mod Receipts
+pub mod Views
+pub mod Rule
+pub mod Sights
+pub mod Sounds
+pub mod Cells
+pub mod Closing
+pub mod Publishing

@@ -1,0 +1,12 @@
+use Rattle.std.proofs.Common.{[], ◌∷◌, ap, arith}
+use Rattle.pool_workers.proofs.Sums.{busy, kept_both, kept_lacking}
+use Rattle.pool_workers.proofs.worker.Worker.try_serve.Goals as goal
+
+pub try_apply_at-requires-clause-busy : goal.try_apply_at-requires-clause-busy
+try_apply_at-requires-clause-busy g c = busy _ _ _ c.args.self.now c.in-Some.ensures.0 c.requires.ready
+
+pub returns-in-None-try_apply_at-clause-kept : goal.returns-in-None-try_apply_at-clause-kept
+returns-in-None-try_apply_at-clause-kept g c = kept_both _ (c.args.job ∷ []) [] _ c.try_apply_at.new.self _ c.in-None-try_apply_at.ensures.kept c.follow_receipts.ensures.kept
+
+pub returns-in-None-clause-kept : goal.returns-in-None-clause-kept
+returns-in-None-clause-kept g c = kept_lacking _ _ _ c.args.job c.in-None.ensures (ap (λ ws. ws.items) c.count.ensures.same.0) c.count.ensures.same.1 (let a = c.count.ensures.applied in omega arith) c.count.ensures.refused

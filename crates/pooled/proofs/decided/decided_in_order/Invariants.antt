@@ -1,6 +1,0 @@
-use Rattle.std.proofs.Common.{◌≡◌, take}
-use Rattle.pooled.specs.Decisions.{standing_in}
-use Rattle.pooled.proofs.decided.decided_in_order.Given as goal
-
-abbrev pub invariant-loop-number : goal.invariant-loop-number
-invariant-loop-number g l = l.found.items ≡ standing_in (take l.number l.journal.entries)

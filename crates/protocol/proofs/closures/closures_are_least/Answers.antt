@@ -1,5 +1,0 @@
-use Rattle.protocol.proofs.Sets.Least.{closures_least}
-use Rattle.protocol.proofs.closures.closures_are_least.Goals as goal
-
-pub returns : goal.returns
-returns c = closures_least

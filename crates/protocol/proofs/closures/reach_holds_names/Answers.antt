@@ -1,5 +1,0 @@
-use Rattle.protocol.proofs.Reach.Chains.{reach_names}
-use Rattle.protocol.proofs.closures.reach_holds_names.Goals as goal
-
-pub returns : goal.returns
-returns c = reach_names

@@ -1,5 +1,0 @@
-use Rattle.protocol.proofs.Runs.Claims.{quiet_claim}
-use Rattle.protocol.proofs.headline.calm_nodes_are_quiet.Goals as goal
-
-pub returns : goal.returns
-returns c = quiet_claim

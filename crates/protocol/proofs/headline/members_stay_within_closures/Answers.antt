@@ -1,5 +1,0 @@
-use Rattle.protocol.proofs.Runs.Prefixes.{prefix_of_whole_run}
-use Rattle.protocol.proofs.headline.members_stay_within_closures.Goals as goal
-
-pub returns : goal.returns
-returns c = prefix_of_whole_run

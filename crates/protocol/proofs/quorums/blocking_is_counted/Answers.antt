@@ -1,5 +1,0 @@
-use Rattle.protocol.proofs.Slices.Satisfaction.{blocking_counted}
-use Rattle.protocol.proofs.quorums.blocking_is_counted.Goals as goal
-
-pub returns : goal.returns
-returns c = blocking_counted

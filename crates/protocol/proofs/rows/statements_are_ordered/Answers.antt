@@ -1,5 +1,0 @@
-use Rattle.protocol.proofs.Statements.Newer.{statements_ordered, ties_are_one}
-use Rattle.protocol.proofs.rows.statements_are_ordered.Goals as goal
-
-pub returns : goal.returns
-returns c = record { order = statements_ordered; ties = ties_are_one }

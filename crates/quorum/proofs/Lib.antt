@@ -1,3 +1,0 @@
-pub mod Kept
-pub mod Fixed
-pub mod Region

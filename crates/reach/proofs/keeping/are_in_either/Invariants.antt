@@ -1,6 +1,0 @@
-use Rattle.std.proofs.Common.{◌≡◌, ◌||◌, drop}
-use Rattle.protocol.specs.Sets.{also, among, within}
-use Rattle.reach.proofs.keeping.are_in_either.Given as goal
-
-abbrev pub invariant-loop-name : goal.invariant-loop-name
-invariant-loop-name l = within (drop l.name-index l.names) (λ u. among l.new u || also l.node (among l.own) u) ≡ within l.names (λ u. among l.new u || also l.node (among l.own) u)

@@ -1,3 +1,0 @@
-mod OutlineLaws
-mod RosterLaws
-mod SayingLaws

@@ -1,5 +1,0 @@
-use Rattle.std.proofs.Common.{length}
-use Rattle.runs.proofs.hearings.+let_others_hear.Given as goal
-
-abbrev pub decreases-let_others_hear : goal.decreases-let_others_hear
-decreases-let_others_hear l = length l.names.now

@@ -1,5 +1,0 @@
-use Rattle.std.proofs.Common.{length}
-use Rattle.runs.proofs.hearings.+tell_others.Given as goal
-
-abbrev pub decreases-tell_others : goal.decreases-tell_others
-decreases-tell_others l = length l.names.now

@@ -1,5 +1,0 @@
-use Rattle.runs.proofs.MarkedEmissions.{emissions_stay}
-use Rattle.runs.proofs.host_run.marks_name_emissions.Goals as goal
-
-pub returns-clause-later : goal.returns-clause-later
-returns-clause-later c = emissions_stay

@@ -1,5 +1,0 @@
-use Rattle.std.proofs.Common.{length}
-use Rattle.runs.proofs.unheard.+first_emitted.Given as goal
-
-abbrev pub decreases-first_emitted : goal.decreases-first_emitted
-decreases-first_emitted l = length l.outs.now

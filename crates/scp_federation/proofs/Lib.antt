@@ -1,0 +1,7 @@
+mod SameAnswers
+mod Chosen
+mod Region
+mod FlatteningLaws
+mod Found
+mod MeetingLaws
+mod NumberLaws

@@ -1,0 +1,6 @@
+pub mod MemberLaws
+pub mod SetLists
+pub mod WeighingLaws
+pub mod Kept
+pub mod Fixed
+pub mod Region

@@ -1,7 +1,0 @@
-use Rattle.std.proofs.Common.{◌≡◌, ◌++◌, drop}
-use Rattle.std.specs.Prelude.{string_bytes}
-use Rattle.hex.specs.Hex.{encode_lower}
-use Rattle.scripts.proofs.hexadecimal.push_hex.Given as goal
-
-abbrev pub invariant-loop-byte : goal.invariant-loop-byte
-invariant-loop-byte l = string_bytes l.text ++ encode_lower (drop l.byte-index l.bytes) ≡ string_bytes l.fn.text ++ encode_lower l.bytes

@@ -1,5 +1,0 @@
-use Rattle.scripts.proofs.NameLaws.{zeros_behind}
-use Rattle.scripts.proofs.name.with_zeros.Goals as goal
-
-pub returns : goal.returns
-returns c = zeros_behind _ _ c.copy_from_slice.ensures.after

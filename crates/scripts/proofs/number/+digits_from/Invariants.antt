@@ -1,5 +1,0 @@
-use Rattle.std.proofs.Common.{length}
-use Rattle.scripts.proofs.number.+digits_from.Given as goal
-
-abbrev pub decreases-digits_from : goal.decreases-digits_from
-decreases-digits_from l = length l.digits.now

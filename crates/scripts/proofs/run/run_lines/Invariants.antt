@@ -1,6 +1,0 @@
-use Rattle.scripts.proofs.RunLaws.{Continues}
-use Rattle.scripts.specs.Script.{numbered_lines}
-use Rattle.scripts.proofs.run.run_lines.Given as goal
-
-abbrev pub invariant-loop-line : goal.invariant-loop-line
-invariant-loop-line g l = Continues g.S.LineRunner.tells g.S.LineRunner.refuses l.fn.runner l.text (g.W.Write.contents l.fn.out) (g.W.Write.contents l.out) l.runner (numbered_lines l.line-iterator)

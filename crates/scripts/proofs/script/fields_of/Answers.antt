@@ -1,9 +1,0 @@
-use Rattle.std.proofs.Common.{rules, ◌≡◌, false}
-use Rattle.scripts.specs.Script.{is_ascii}
-use Rattle.scripts.proofs.ScriptLemmas.{not_ascii_is_bad}
-use Rattle.scripts.proofs.script.fields_of.Goals as goal
-
-pub returns-then-not-is_ascii-clause-bad : goal.returns-then-not-is_ascii-clause-bad
-returns-then-not-is_ascii-clause-bad c e =
-    let no_ascii : is_ascii c.args.line.now ≡ false = search rules in
-    not_ascii_is_bad c.args.line.now no_ascii

@@ -1,5 +1,0 @@
-use Rattle.scripts.proofs.SlicesSpelled.{slices_spelled_once}
-use Rattle.scripts.proofs.slices.slices_spelled_once.Goals as goal
-
-pub returns : goal.returns
-returns c = slices_spelled_once

@@ -1,8 +1,0 @@
-use Rattle.std.specs.Prelude.{◌==◌}
-use Rattle.std.specs.List.{slice_split}
-use Rattle.scripts.specs.Values.{word_value}
-use Rattle.scripts.proofs.WordLists.{Left}
-use Rattle.scripts.proofs.statement.values_of.Given as goal
-
-abbrev pub invariant-loop-word : goal.invariant-loop-word
-invariant-loop-word l = Left goal.iterator-loop-word.next_gives (λ word. word.now) word_value l.word-iterator l.values (slice_split (λ b. b == 43) l.fn.list)

@@ -1,5 +1,0 @@
-use Rattle.serving.proofs.AlikeHosts as hosts
-use Rattle.serving.proofs.alike.alike_hosts_answer_alike.Goals as goal
-
-pub returns : goal.returns
-returns c = record { line = hosts.alike_hosts_answer_alike; lines = hosts.futures_are_alike }

@@ -1,5 +1,0 @@
-use Rattle.std.proofs.Common.{length}
-use Rattle.serving.proofs.all.+closing_of_answers.Given as goal
-
-abbrev pub decreases-closing_of_answers : goal.decreases-closing_of_answers
-decreases-closing_of_answers l = length l.answers.now

@@ -1,5 +1,0 @@
-use Rattle.std.proofs.Common.{length}
-use Rattle.serving.proofs.all.+serve_each.Given as goal
-
-abbrev pub decreases-serve_each : goal.decreases-serve_each
-decreases-serve_each g l = length l.names.now

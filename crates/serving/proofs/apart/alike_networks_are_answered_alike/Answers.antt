@@ -1,5 +1,0 @@
-use Rattle.serving.proofs.ApartRuns as runs
-use Rattle.serving.proofs.apart.alike_networks_are_answered_alike.Goals as goal
-
-pub returns : goal.returns
-returns c = runs.alike_networks_are_answered_alike

@@ -1,6 +1,0 @@
-use Rattle.serving.proofs.ApartLines.{hosts_stay_ordered}
-use Rattle.serving.proofs.ApartRuns.{reached_hosts_are_ordered}
-use Rattle.serving.proofs.apart.hosts_are_ordered.Goals as goal
-
-pub returns : goal.returns
-returns c = record { line = hosts_stay_ordered; lines = reached_hosts_are_ordered }

@@ -1,5 +1,0 @@
-use Rattle.serving.proofs.ApartLines as lines
-use Rattle.serving.proofs.apart.lines_are_answered_next_to_others.Goals as goal
-
-pub returns : goal.returns
-returns c = lines.lines_are_answered_next_to_others

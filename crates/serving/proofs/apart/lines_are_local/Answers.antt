@@ -1,5 +1,0 @@
-use Rattle.serving.proofs.ApartLines as lines
-use Rattle.serving.proofs.apart.lines_are_local.Goals as goal
-
-pub returns : goal.returns
-returns c = record { own = lines.lines_are_local; others = lines.other_lines_change_nothing }

@@ -1,9 +1,0 @@
-use Rattle.serving.proofs.ErasedServed as served
-use Rattle.serving.proofs.erasing.erased_nets_serve_alike.Goals as goal
-
-pub returns : goal.returns
-returns c = record {
-  done = served.erased_nets_serve_alike;
-  refused = served.erased_nets_refuse_events_alike;
-  there = served.events_there_are_erased;
-}

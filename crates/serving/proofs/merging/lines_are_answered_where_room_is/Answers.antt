@@ -1,5 +1,0 @@
-use Rattle.serving.proofs.ApartLines as lines
-use Rattle.serving.proofs.merging.lines_are_answered_where_room_is.Goals as goal
-
-pub returns : goal.returns
-returns c = lines.lines_are_answered_where_room_is

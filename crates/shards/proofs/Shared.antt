@@ -1,7 +1,0 @@
--- Where each part answers the lines of its place, the whole host answers them.
-use Rattle.shards.specs.Parts.{PartsAnswerLinesForTheWhole}
-use Rattle.shards.proofs.Many.{lines_for_the_whole}
-use Rattle.shards.proofs.Whole.{parts_answer_for_the_whole}
-
-pub parts_answer_lines_for_the_whole : PartsAnswerLinesForTheWhole
-parts_answer_lines_for_the_whole = lines_for_the_whole parts_answer_for_the_whole

@@ -1,9 +1,0 @@
-use Rattle.std.proofs.Common.{◌≡◌, ◌≤◌, length}
-use Rattle.std.specs.Prelude.{vec_capacity, vec_len}
-use Rattle.std.specs.List.{All}
-use Rattle.shards.proofs.ShardLaws.{IsFresh}
-use Rattle.shards.proofs.sharded_host.ShardedHost.new.Given as goal
-
-abbrev pub invariant-loop-made : goal.invariant-loop-made
-invariant-loop-made l =
-    (vec_len l.shards ≡ l._made) × (l.count ≤ vec_capacity l.shards) × (length l.shards.items ≡ l._made) × All (IsFresh l.bytes) l.shards.items

@@ -1,9 +1,0 @@
-use Rattle.std.proofs.Common.{◌≡◌, ◌≤◌, length, map, take}
-use Rattle.std.specs.Prelude.{vec_capacity, vec_len}
-use Rattle.feed.specs.Reading.{given_of}
-use Rattle.shards.specs.Parts.{ArePlaced}
-use Rattle.shards.proofs.sharded_host.places_of.Given as goal
-
-abbrev pub invariant-loop-line : goal.invariant-loop-line
-invariant-loop-line l =
-    (vec_len l.places ≡ l.line-index) × (length l.lines ≤ vec_capacity l.places) × ArePlaced l.count (map given_of (take l.line-index l.lines)) l.places.items

@@ -1,3 +1,0 @@
-pub mod MemberLaws
-pub mod SetLists
-pub mod WeighingLaws

@@ -1,6 +1,0 @@
-use Rattle.std.proofs.Common.{rules}
-use Rattle.tasks.proofs.Sharing.{DoesFrom, makes_all}
-use Rattle.tasks.proofs.doing.take_back.Goals as goal
-
-pub returns : goal.returns
-returns g c = makes_all (DoesFrom g.T.Task.does) c.args.places.items c.loop-place.place-iterator.rest.items c.loop-place.done.items (search rules) c.loop-place.invariant.3

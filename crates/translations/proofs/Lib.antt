@@ -1,4 +1,0 @@
-pub mod SayLaws
-pub mod DigitLaws
-pub mod FieldLaws
-pub mod BackLaws

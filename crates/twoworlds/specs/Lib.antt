@@ -1,4 +1,0 @@
-pub mod Steps
-pub mod Meanings
-pub mod OutLists
-pub mod Questions

@@ -1,5 +1,0 @@
-use Rattle.view.proofs.GroupLaws.{LeftTo}
-use Rattle.view.proofs.alike.Alike.leave.Given as goal
-
-abbrev pub invariant-loop-group : goal.invariant-loop-group
-invariant-loop-group l = LeftTo l.place l.group-index l.fn.self.groups.items l.group-items

@@ -1,5 +1,0 @@
-use Rattle.view.proofs.PlaceLaws.{AreSoFar}
-use Rattle.view.proofs.changing.kept_row_places.Given as goal
-
-abbrev pub invariant-loop-node : goal.invariant-loop-node
-invariant-loop-node g l = AreSoFar l.table l.nodes l.node-index l.found

@@ -1,9 +1,0 @@
-use Rattle.std.proofs.Common.{◌≡◌, ◌≤◌, length}
-use Rattle.protocol.specs.Candidates.{all_with}
-use Rattle.view.proofs.rows.insert_all.Given as goal
-
-abbrev pub invariant-loop-left : goal.invariant-loop-left
-invariant-loop-left l = (length l.left ≤ length l.more) × (all_with l.left l.values ≡ all_with l.more l.initial.values)
-
-abbrev pub decreases-loop-left : goal.decreases-loop-left
-decreases-loop-left l = length l.left

@@ -1,6 +1,0 @@
-use Rattle.std.proofs.Common.{◌≡◌, ◌++◌, drop, map, option_map}
-use Rattle.view.specs.Watching.{row_where}
-use Rattle.view.proofs.rows.rows_where.Given as goal
-
-abbrev pub invariant-loop-place : goal.invariant-loop-place
-invariant-loop-place g l = map (λ o. option_map (λ r. r.now) o) l.rows.items ++ map (row_where l.table) (drop l.place-index l.places) ≡ map (row_where l.table) l.places

@@ -1,9 +1,0 @@
-use Rattle.std.proofs.Common.{◌≡◌, drop, filter_map}
-use Rattle.fedvote.specs.Searching.{next_counter}
-use Rattle.protocol.specs.Rows.{row}
-use Rattle.view.specs.Watching.{lesser_of, rows_of_others, said_by_another}
-use Rattle.view.proofs.searching.next_counter.Given as goal
-
-abbrev pub invariant-loop-place : goal.invariant-loop-place
-invariant-loop-place g l =
-    lesser_of l.least (next_counter l.above (filter_map (λ u. said_by_another l.own (row l.rows.table u l.rows.kind)) (drop l.place l.rows.nodes))) ≡ next_counter l.above (rows_of_others l.own l.rows.kind l.rows.table l.rows.nodes)

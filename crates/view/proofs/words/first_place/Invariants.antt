@@ -1,5 +1,0 @@
-use Rattle.view.proofs.WordLaws.{AreEmpty}
-use Rattle.view.proofs.words.first_place.Given as goal
-
-abbrev pub invariant-loop-index : goal.invariant-loop-index
-invariant-loop-index l = AreEmpty l.index l.places

@@ -1,5 +1,0 @@
-use Rattle.view.proofs.WordLaws.{JoinedTo}
-use Rattle.view.proofs.words.join_places.Given as goal
-
-abbrev pub invariant-loop-index : goal.invariant-loop-index
-invariant-loop-index l = JoinedTo l.index l.fn.places l.more l.places

@@ -1,6 +1,0 @@
-use Rattle.std.proofs.Common.{◌<◌, ◌≤◌, take}
-use Rattle.workers.specs.Spares.{HaveSpareSeats}
-use Rattle.workers.proofs.deal.fewest_seats.Given as goal
-
-abbrev pub invariant-loop-spare : goal.invariant-loop-spare
-invariant-loop-spare g l = (0 < l.least) × (l.least ≤ l.most) × HaveSpareSeats l.least (take l.spare-index l.spares)

@@ -1,8 +1,0 @@
--- What contracts see of a network of a host.
-use Rattle.std.specs.Prelude.{List}
-use Rattle.cells.specs.Sights.{CellSight, SeatSight}
-
--- what is seen of a network of the host: its cell, and its seats
-pub record NetSight : Type 0 where
-  pub cell : CellSight
-  pub seats : List SeatSight
