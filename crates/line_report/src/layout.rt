@@ -40,7 +40,7 @@ impl Layout {
         apart: u64,
     ) -> Result<Layout, AllocError> {
         let mut spots = spots_in_rings(alloc, members)?;
-        count_leaves(members, &mut spots);
+        set_leaves(members, &mut spots);
         share_turn(members, &mut spots);
         let leaves = spots.first().map_or(1, |spot| spot.leaves as u64);
         let fewest = fewest_leaves(alloc, &spots)?;
@@ -91,8 +91,8 @@ fn spots_in_rings(alloc: Global, members: &ClosureList) -> Result<Vec<Spot>, All
     Ok(spots)
 }
 
-/// Counts the leaves of each member, from the last one back, since all that a member named come behind it.
-fn count_leaves(members: &ClosureList, spots: &mut [Spot]) {
+/// Sets how many leaves each member has, from the last one back, since all that a member named come behind it.
+fn set_leaves(members: &ClosureList, spots: &mut [Spot]) {
     for place in (0..members.len()).rev() {
         if let Some((_, namer)) = members.member(place) {
             let leaves = own_leaves(spots, place);

@@ -183,8 +183,8 @@ impl HostRun {
         })))
     }
 
-    /// Readies the network of a number for an event that names it: if it is declared and this is the first, it is
-    /// put into the world. It is a bad line if the network has no node.
+    /// Readies the network of a number for a line that names it. The number is then named, also if no network has it.
+    /// If the network waits, it is put into the world. It is a bad line if the network has no node.
     fn begin(&mut self, number: u32) -> Result<(), LineError>
         ensures begun { OnOk result (IsNetworkBegun number self.old self.new) }
         ensures bad { result ≡ Err LineError.Bad → HasNoNode self.old.waiting number }

@@ -66,7 +66,7 @@ fn members_at(
     ensures { IfOk result (λ o. option_map (λ r. (r.0.items, r.1.now)) o ≡ members_in (inner_front levels) text.now) }
 {
     let mut rest = text;
-    let mut members = Vec::new(alloc);
+    let mut members = Vec::with_capacity(alloc, likely_members(text))?;
     while members.len() < MAX_MEMBERS {
         let Some((member, after)) = member_at(alloc, levels, rest)? else {
             return Ok(None);
@@ -83,6 +83,23 @@ fn members_at(
         }
     }
     Ok(None)
+}
+
+/// How many members a text likely has at its front: one more than there are commas before the first closing bracket, and
+/// at most as many as a set may have. So room for them is made once.
+fn likely_members(text: &[u8]) -> usize {
+    let mut count = 1usize;
+    for byte in text {
+        match *byte {
+            b',' => count = count.saturating_add(1),
+            b']' => return count,
+            _ => {}
+        }
+        if count >= MAX_MEMBERS {
+            return MAX_MEMBERS;
+        }
+    }
+    count
 }
 
 /// The member at the front of a text, and the rest.

@@ -76,7 +76,7 @@ pub(crate) fn whole_lines(lines: &[KeptLine]) -> &[KeptLine]
 fn first_hole(lines: &[KeptLine]) -> Option<usize>
     ensures { result ≡ position (λ h. h.hole) lines.now }
 {
-    lines.iter().position(|line| line.has_hole())
+    lines.iter().position(|line| line.is_holed())
 }
 
 /// Those of the lines for which a number below 2^64 is left behind `count` others.

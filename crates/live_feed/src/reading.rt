@@ -86,7 +86,7 @@ impl KeptLine {
     }
 
     /// Whether a byte of the line is 0.
-    pub(crate) fn has_hole(&self) -> bool
+    pub(crate) fn is_holed(&self) -> bool
         ensures { result ≡ self.now.hole }
     {
         self.hole

@@ -13,6 +13,7 @@ ghost use Rattle.node_view.specs.Knowing.{IsKnown};
 
 use crate::answering::{Answer, Start, State, rests, settled_votes, votes_or};
 use crate::filing::{give_out, nothing};
+use crate::outs::is_externalized;
 use crate::stirring::Stirred;
 use node_store::{Archive, Places, Shelf};
 use node_table::Rows;
@@ -96,7 +97,7 @@ pub(crate) fn answer_anew<S: Shelf>(
 }
 
 /// The votes after passes from this start on, by the rows; `None` if they stay. Once a value is externalized no rule
-/// reads any row.
+/// reads any row, so what is known of the reach is let go then.
 fn votes_after<S: Places>(
     alloc: Global,
     archive: &Archive<S>,
@@ -114,8 +115,20 @@ fn votes_after<S: Places>(
     }
     let reach = take_reach(alloc, archive, listener, start.stirred)?;
     let votes = votes_within(alloc, archive, listener, &reach, start);
-    listener.keep_reach(reach);
+    if is_decided(&votes) {
+        drop(reach);
+    } else {
+        listener.keep_reach(reach);
+    }
     votes
+}
+
+/// Whether votes have changed, and a value is externalized by them.
+fn is_decided(votes: &Result<Option<Votes>, AllocError>) -> bool {
+    match votes {
+        Ok(Some(votes)) => is_externalized(votes.phase),
+        Ok(None) | Err(_) => false,
+    }
 }
 
 /// What the listener knows of its reach; what the stirred rules go through is listed there. An error says that it is

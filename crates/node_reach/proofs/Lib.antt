@@ -1,6 +1,5 @@
 mod Noted
 mod Underway
-mod ReachKept
 mod Dropped
 mod Widening
 mod Finding

@@ -1,16 +1,10 @@
 -- Envelopes that leave a reach as it is.
-use Rattle.std.specs.Prelude.{◌≡◌, ◌||◌, ℕ, List, Some, option_map, IsFalse}
+use Rattle.std.specs.Prelude.{◌≡◌, ◌||◌, ℕ, List, Some}
 use Rattle.scp_types.specs.Trees.{Slices}
 use Rattle.scp_types.specs.Statements.{Sent, kind_of}
 use Rattle.scp_spec.specs.Sets.{Names, among, also, AreWithin}
 use Rattle.scp_spec.specs.Satisfaction.{names}
 use Rattle.scp_spec.specs.Rows.{row}
-
--- the sender of the envelope is not in the reach, or its row of that kind has the same slices
-pub data KeepsReach (reach : List ℕ) (table : List Sent) (e : Sent) : Type 0 where
-  stranger : IsFalse (among reach e.sender) → KeepsReach reach table e
-  same_slices : option_map (λ r. r.slices) (row table e.sender (kind_of e.body)) ≡ Some e.slices
-      → KeepsReach reach table e
 
 -- the names in an envelope's slices, the node itself, and the names of its configured slices
 abbrev pub kept_names : ℕ → Slices → Sent → Names

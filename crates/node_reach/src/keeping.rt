@@ -2,13 +2,13 @@
 //!
 //! An error of a function here says that it is out of memory.
 
-ghost use Rattle.std.specs.Prelude.{◌≡◌, ◌↔◌, ◌||◌, ℕ, IfOk, IsTrue, List, Some, option_map};
+ghost use Rattle.std.specs.Prelude.{◌≡◌, ◌↔◌, ◌||◌, ℕ, IfOk, IsTrue, List};
 ghost use Rattle.scp_types.specs.Trees.{Slices};
 ghost use Rattle.scp_spec.specs.Reach.{IsReach};
 ghost use Rattle.scp_spec.specs.Rows.{with_row};
 ghost use Rattle.scp_spec.specs.Satisfaction.{names};
 ghost use Rattle.scp_spec.specs.Sets.{AreWithin, IsAscending, also, among, within};
-ghost use Rattle.node_reach.specs.Keeping.{DropsNone, KeepsReach, kept_names};
+ghost use Rattle.node_reach.specs.Keeping.{DropsNone, kept_names};
 ghost use Rattle.node_reach.specs.Widening.{IsNarrow};
 
 use node_store::Places;
@@ -16,30 +16,6 @@ use node_table::Rows;
 use scp_slices::{SliceFamily, is_among};
 use scp_types::{Envelope, Nested, NodeId, push_names};
 use std::alloc::{AllocError, Global};
-
-/// Whether a reach surely stays as it is once the table takes the envelope: the sender is not in it, or the sender's
-/// row of that kind has the same slices. It takes no memory.
-///
-/// If the answer is no, the reach may be another one: slices may name more nodes, or fewer.
-pub fn keeps_reach<S: Places>(reach: &[NodeId], table: &Rows<'_, S>, envelope: &Envelope) -> bool
-    requires { IsAscending reach.now }
-    ensures exactly { IsTrue result ↔ KeepsReach reach.now table.now envelope.now }
-    ensures stays { IsTrue result → (own : ℕ) (configured : Slices) → IsReach own configured table.now reach.now → IsReach own configured (with_row envelope.now table.now) reach.now }
-{
-    let sender = envelope.sender();
-    let row = table.row(sender, envelope.body().kind());
-    !is_among(reach, sender) || has_slices(row, envelope.slices())
-}
-
-/// Whether there is a row, and it has these slices.
-fn has_slices(row: Option<&Envelope>, slices: &Nested) -> bool
-    ensures { IsTrue result ↔ option_map (λ r. r.now.slices) row.entry ≡ Some slices.now }
-{
-    match row {
-        None => false,
-        Some(row) => row.slices().is_same(slices),
-    }
-}
 
 /// Whether the envelope drops no name of the sender's row of that kind but such as the node reaches by itself: each
 /// name of that row is in the envelope's slices too, or is the node or a name of its configured slices. It drops none

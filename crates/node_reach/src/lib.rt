@@ -10,6 +10,6 @@ mod of_table;
 mod search;
 mod sweep;
 
-pub use keeping::{drops_none, keeps_reach};
+pub use keeping::drops_none;
 pub use of_table::{reach, reach_among, wider_reach};
 pub use search::KnownNodes;

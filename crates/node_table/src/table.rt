@@ -135,12 +135,34 @@ impl Table {
         let sender = *new.sender();
         let kind = new.body().kind();
         match self.place(&sender, kind) {
-            Some(place) if !self.is_newer_than_row(archive, place, new) => Put::Stale,
-            Some(place) => Put::Replaced(self.replace(place, envelope)),
+            Some(place) => self.put_at(archive, place, envelope),
             None => match self.add(sender, kind, envelope) {
                 Ok(()) => Put::Added,
                 Err(_) => Put::NoMemory,
             },
+        }
+    }
+
+    /// Takes an envelope as [`Table::put`] does, if its sender's row of its kind is known to stand at this place. No
+    /// row is looked up, and no memory is asked for.
+    pub fn put_at<S: node_store::Places>(
+        &mut self,
+        archive: &Archive<S>,
+        place: usize,
+        envelope: Filed,
+    ) -> Put
+        requires rows { AreFiled archive.now self.old }
+        requires envelope { IsFiled archive.now envelope }
+        requires row { place_of_row (sents_of self.old) (sent_of envelope).sender (kind_of (sent_of envelope).body) ≡ Some place }
+        ensures put { IsPut self.old (sent_of envelope) result self.new }
+        ensures back { before_put result self.new ≡ self.old }
+        ensures filed { AreFiled archive.now self.new }
+        ensures known { IsFiledPut archive.now result }
+    {
+        if self.is_newer_than_row(archive, place, archive.read(&envelope)) {
+            Put::Replaced(self.replace(place, envelope))
+        } else {
+            Put::Stale
         }
     }
 

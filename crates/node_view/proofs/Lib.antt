@@ -1,6 +1,8 @@
 pub mod Gathering
 pub mod Searches
 pub mod Sightings
+pub mod Standings
+pub mod ReachKept
 pub mod Widening
 pub mod SameRows
 pub mod FoundRows

@@ -21,8 +21,8 @@ use Rattle.scp_spec.proofs.Slices.Satisfaction.{sat_local, sat_monotone}
 use Rattle.scp_slices.proofs.Kept.{among-filter, among-from_filter}
 use Rattle.scp_voting.proofs.Honesty.{names_reached}
 use Rattle.scp_spec.proofs.Statements.Offers.{row-with, is_row_of-parts}
-use Rattle.node_reach.specs.Keeping.{KeepsReach}
-use Rattle.node_reach.specs.Keeping.KeepsReach.{stranger, same_slices}
+use Rattle.node_view.proofs.ReachKept.{KeepsReach}
+use Rattle.node_view.proofs.ReachKept.KeepsReach.{stranger, same_slices}
 use Rattle.node_view.proofs.QuorumLaws.{from_all, quorum_of_all}
 use Rattle.scp_bits.specs.Asking.{ArePassing}
 use Rattle.scp_bits.specs.Places.{bit_of, Numbered}

@@ -1,5 +1,5 @@
 -- The nodes that a node reaches, and slices compiled against them.
-use Rattle.std.specs.Prelude.{◌≡◌, ◌≢◌, ℕ, ◌<◌, List, Option, get_or, length, map, true, ⊤}
+use Rattle.std.specs.Prelude.{◌≡◌, ◌≢◌, ℕ, ◌<◌, List, Option, Some, None, get_or, length, map, true, false, ⊤}
 use Rattle.scp_types.specs.Trees.{Slices}
 use Rattle.scp_types.specs.Statements.{Sent, kind_of}
 use Rattle.scp_types.specs.declared.kind.Kind.{Kind}
@@ -7,7 +7,7 @@ use Rattle.scp_types.specs.declared.kind.Kind.TheVariants.{Nomination}
 use Rattle.scp_spec.specs.Backing.{slices_by}
 use Rattle.scp_spec.specs.Reach.{IsReach}
 use Rattle.scp_spec.specs.Rows.{with_row}
-use Rattle.scp_spec.specs.Sets.{IsAscending}
+use Rattle.scp_spec.specs.Sets.{IsAscending, among}
 use Rattle.node_reach.specs.Searching.{ArePlacesBut}
 use Rattle.node_reach.specs.Widening.{IsNarrow}
 use Rattle.scp_bits.specs.Met.{IsCompiled}
@@ -24,6 +24,7 @@ use Rattle.node_view.specs.declared.region.FormerRegion.{FormerRegion}
 use Rattle.node_view.specs.declared.region.KindPlaces.{KindPlaces}
 use Rattle.node_view.specs.declared.region.Placed.{Placed}
 use Rattle.node_view.specs.declared.region.Region.{Region}
+use Rattle.node_view.specs.declared.standing.Standing.{Standing}
 
 -- where the rows of a kind that these nodes have stand in a table, in the order of the nodes
 abbrev pub row_places : List Sent → Kind → List ℕ → List (Option ℕ)
@@ -53,6 +54,11 @@ rows_of Kind.Ballot r = r.ballot_rows.items
 abbrev pub forms_of : Kind → Region → List (Option Numbered)
 forms_of Nomination r = r.nominations.items
 forms_of Kind.Ballot r = r.ballots.items
+
+-- where a node stands among these nodes; nowhere, if it is none of them
+abbrev pub IsFoundAmong : List ℕ → ℕ → Option Standing → Type 0
+IsFoundAmong nodes u None = among nodes u ≡ false
+IsFoundAmong nodes u (Some s) = (s.node < length nodes) × (get_or nodes s.node 0 ≡ u)
 
 -- what the configuration and the table give: the reach, the node's own place, what blocks it, and of all that are
 -- reached the slices, in forms whose numbers are below those to come, and where their rows stand

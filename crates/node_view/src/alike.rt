@@ -12,7 +12,6 @@ ghost use Rattle.node_view.specs.Knowing.{is_heard};
 use crate::reached::ReachedRows;
 use crate::words::{FEW_WORDS, first_place, put_place, take_place};
 use node_store::Places;
-use scp_bits::place_in_nodes;
 use scp_types::{Envelope, NodeId, Statement};
 use std::alloc::{AllocError, Global};
 
@@ -125,23 +124,24 @@ impl Alike {
     }
 }
 
-/// Has the groups follow a new row of one of the nodes, if they are known. It takes no memory.
+/// Has the groups follow a new row of the node at this place, if they are known. It takes no memory.
 pub(crate) fn follow<S: Places>(
     alike: &mut Option<Alike>,
     own: &NodeId,
     rows: &ReachedRows<'_, S>,
     row: &Envelope,
+    place: usize,
 )
-    requires { IsAscending rows.now.nodes }
+    requires ascending { IsAscending rows.now.nodes }
+    requires within { place < length rows.now.nodes }
+    requires sender { get_or rows.now.nodes place 0 ≡ row.now.sender }
     ensures { (old : List Sent) → rows.now.table ≡ with_row row.now old → IsTrue (is_heard rows.now.kind own.now rows.now.nodes row.now) → IfSome alike.old (AreGrouped own.now (record { nodes = rows.now.nodes; table = old; kind = rows.now.kind })) → IfSome alike.new (AreGrouped own.now rows.now) }
 {
     let Some(alike) = alike else {
         return;
     };
-    if let Some(place) = place_in_nodes(rows.nodes(), row.sender()) {
-        alike.leave(place);
-        alike.join(own, rows, place, row.body());
-    }
+    alike.leave(place);
+    alike.join(own, rows, place, row.body());
 }
 
 /// Whether this is said at a place.

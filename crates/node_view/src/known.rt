@@ -2,7 +2,7 @@
 //! region, changes one entry of it, widens or moves it, or makes it unknown. If it stays known, the ballots and
 //! nominated values that are listed follow the row.
 
-ghost use Rattle.std.specs.Prelude.{◌≡◌, IfOk, IfSome, IsTrue, List, None, Some, is_some, box_value, option_map};
+ghost use Rattle.std.specs.Prelude.{◌≡◌, ℕ, IfOk, IfSome, IsTrue, List, None, Option, Some, is_some, box_value, option_map};
 ghost use Rattle.node_store.specs.Archives.{AreFiled, IsFiled, sent_of, sents_of};
 ghost use Rattle.node_table.specs.Puts.{IsFiledPut, IsPut, before_put};
 ghost use Rattle.scp_spec.specs.Rows.{with_row};
@@ -10,11 +10,14 @@ ghost use Rattle.scp_spec.specs.Sets.{IsAscending};
 ghost use Rattle.scp_spec.specs.Stirring.{ReachesSame};
 ghost use Rattle.node_view.specs.declared.configured.Configured.{Configured};
 ghost use Rattle.node_view.specs.Listening.{IsEffect, KnowsLists, KnowsReach, KnowsRegion, is_put, reach_in, region_of, row_before};
-ghost use Rattle.scp_types.specs.Statements.{Sent};
+ghost use Rattle.node_table.specs.Places.{place_of_row};
+ghost use Rattle.node_view.specs.declared.standing.Standing.{Standing};
+ghost use Rattle.scp_types.specs.Statements.{Sent, kind_of};
 ghost use Rattle.node_view.specs.Knowing.{IsKnown, IsTaken};
-ghost use Rattle.node_view.specs.Regions.{IsKeptRegion, IsOfExtent};
+ghost use Rattle.node_view.specs.Regions.{IsFoundAmong, IsKeptRegion, IsOfExtent};
 
 use crate::configured::Configured;
+use crate::standing::{Standing, has_slices};
 use crate::{Change, Extent, KnownReach, NewReach, Region, RegionEntry, Taken};
 use node_store::{Archive, Filed, Places};
 use node_table::{Put, Rows, Table};
@@ -110,11 +113,12 @@ pub(crate) fn put_row<S: Places>(
     ensures filed { AreFiled row.entry.archive.now table.new }
     ensures replaced { IsFiledPut row.entry.archive.now result.0 }
 {
+    let there = standing_of(known, &row);
     // Memory for an entry is asked for before the table changes.
-    let effect = effect_of(alloc, configured, known, table, &row);
+    let effect = effect_of(alloc, configured, known, table, &row, &there);
     let FiledRow { archive, envelope } = row;
     let copy = archive.copy_of(&envelope);
-    let put = table.put(archive, envelope);
+    let put = put_there(table, archive, envelope, &there);
     if !is_put(&put) {
         return (put, false);
     }
@@ -130,10 +134,53 @@ pub(crate) fn put_row<S: Places>(
         }
         effect => {
             apply(known, effect);
-            hear(alloc, known, configured, table, heard);
+            hear(alloc, known, configured, table, heard, &there);
             // A region that is known still is of the nodes that were reached before.
             (put, known.is_some())
         }
+    }
+}
+
+/// Where the row's sender stands, if a region is known and the sender is reached.
+fn standing_of<S: Places>(
+    known: &Option<Box<KnownReach>>,
+    row: &FiledRow<'_, S>,
+) -> Option<Standing>
+    requires ascending { IfSome (region_of (reach_in known.now)) (λ r. IsAscending r.nodes.items) }
+    requires envelope { IsFiled row.now.archive.now row.now.envelope }
+    ensures among { IfSome (region_of (reach_in known.now)) (λ r. IsFoundAmong r.nodes.items (sent_of row.now.envelope).sender result) }
+    ensures row { (c : Configured) (table : List Sent) → KnowsRegion c table (region_of (reach_in known.now)) → IfSome result (λ s. place_of_row table (sent_of row.now.envelope).sender (kind_of (sent_of row.now.envelope).body) ≡ s.row) }
+{
+    match known {
+        None => None,
+        Some(known) => {
+            let envelope = row.archive.read(&row.envelope);
+            known.region.standing(envelope)
+        }
+    }
+}
+
+/// Puts the envelope into the table. If its sender's row is known to stand there, none is looked up.
+fn put_there<S: Places>(
+    table: &mut Table,
+    archive: &Archive<S>,
+    envelope: Filed,
+    there: &Option<Standing>,
+) -> Put
+    requires rows { AreFiled archive.now table.old }
+    requires envelope { IsFiled archive.now envelope }
+    requires there { IfSome there.now (λ s. place_of_row (sents_of table.old) (sent_of envelope).sender (kind_of (sent_of envelope).body) ≡ s.row) }
+    ensures put { IsPut table.old (sent_of envelope) result table.new }
+    ensures back { before_put result table.new ≡ table.old }
+    ensures filed { AreFiled archive.now table.new }
+    ensures known { IsFiledPut archive.now result }
+{
+    let Some(there) = there else {
+        return table.put(archive, envelope);
+    };
+    match there.row.get() {
+        None => table.put(archive, envelope),
+        Some(place) => table.put_at(archive, place, envelope),
     }
 }
 
@@ -144,10 +191,13 @@ fn effect_of<S: Places>(
     known: &Option<Box<KnownReach>>,
     table: &Table,
     row: &FiledRow<'_, S>,
+    there: &Option<Standing>,
 ) -> Effect
     requires rows { AreFiled row.now.archive.now table.now }
     requires envelope { IsFiled row.now.archive.now row.now.envelope }
     requires known { KnowsReach configured.now (sents_of table.now) (reach_in known.now) }
+    requires among { IfSome (region_of (reach_in known.now)) (λ r. IsFoundAmong r.nodes.items (sent_of row.now.envelope).sender there.now) }
+    requires row { IfSome there.now (λ s. place_of_row (sents_of table.now) (sent_of row.now.envelope).sender (kind_of (sent_of row.now.envelope).body) ≡ s.row) }
     ensures { IsEffect configured.now (sents_of table.now) (sent_of row.now.envelope) (region_of (reach_in known.now)) result }
 {
     match known {
@@ -155,7 +205,7 @@ fn effect_of<S: Places>(
         Some(known) => {
             let rows = Rows::of(table, row.archive);
             let envelope = row.archive.read(&row.envelope);
-            effect_on(alloc, configured, &known.region, &rows, envelope)
+            effect_on(alloc, configured, &known.region, &rows, envelope, *there)
         }
     }
 }
@@ -166,14 +216,20 @@ fn effect_on<S: Places>(
     region: &Region,
     rows: &Rows<'_, S>,
     envelope: &Envelope,
+    there: Option<Standing>,
 ) -> Effect
-    requires { IsAscending region.now.nodes.items }
+    requires ascending { IsAscending region.now.nodes.items }
+    requires among { IsFoundAmong region.now.nodes.items envelope.now.sender there }
+    requires row { IfSome there (λ s. place_of_row rows.now envelope.now.sender (kind_of envelope.now.body) ≡ s.row) }
     ensures { IsEffect configured.now rows.now envelope.now (Some region.now) result }
 {
-    if region.stays(rows, envelope) {
+    let Some(there) = there else {
+        return Effect::Nothing;
+    };
+    if has_slices(rows.row_where(there.row), envelope.slices()) {
         return Effect::Nothing;
     }
-    match region.change_by(alloc, configured.own(), rows, envelope) {
+    match region.change_at(alloc, configured.own(), rows, envelope, there) {
         Ok(Change::Sets(entry)) => Effect::Sets(entry),
         Ok(Change::Reach(extent)) => Effect::Reach(extent),
         Err(_) => Effect::Forgets,
@@ -185,6 +241,7 @@ fn effect_on<S: Places>(
 fn apply(known: &mut Option<Box<KnownReach>>, effect: Effect)
     ensures known { (c : Configured) (table : List Sent) (e : Sent) → IsEffect c table e (region_of (reach_in known.old)) effect → KnowsRegion c table (region_of (reach_in known.old)) → KnowsRegion c (with_row e table) (region_of (reach_in known.new)) }
     ensures reach { IsTrue (is_some known.new) → (c : Configured) (table : List Sent) (e : Sent) → IsEffect c table e (region_of (reach_in known.old)) effect → KnowsRegion c table (region_of (reach_in known.old)) → ReachesSame c.name c.slices table (with_row e table) }
+    ensures nodes { (u : ℕ) (there : Option Standing) → IfSome (region_of (reach_in known.old)) (λ r. IsFoundAmong r.nodes.items u there) → IfSome (region_of (reach_in known.new)) (λ r. IsFoundAmong r.nodes.items u there) }
     ensures lists { (c : Configured) (table : List Sent) → KnowsLists c table (reach_in known.old) → KnowsLists c table (reach_in known.new) }
 {
     match effect {
@@ -243,11 +300,13 @@ fn hear<S: Places>(
     configured: &Configured,
     table: &Table,
     heard: HeardRow<'_, S>,
+    there: &Option<Standing>,
 )
     requires rows { AreFiled heard.archive.now table.now }
     requires envelope { IsFiled heard.archive.now heard.envelope.now }
     requires put { IsFiledPut heard.archive.now heard.put.now }
     requires region { KnowsRegion configured.now (sents_of table.now) (region_of (reach_in known.old)) }
+    requires there { IfSome (region_of (reach_in known.old)) (λ r. IsFoundAmong r.nodes.items (sent_of heard.envelope.now).sender there.now) }
     ensures some { IsTrue (is_some known.new) → IsTrue (is_some known.old) }
     ensures known { (old : List Sent) → IsTaken old (sents_of table.now) (sent_of heard.entry.envelope.now) (row_before heard.entry.put.now) → KnowsLists configured.now old (reach_in known.old) → KnowsReach configured.now (sents_of table.now) (reach_in known.new) }
 {
@@ -257,7 +316,7 @@ fn hear<S: Places>(
             row: heard.archive.read(heard.envelope),
             before: row_before(heard.archive, heard.put),
         };
-        known.hear(alloc, configured.own(), &rows, &taken);
+        known.hear(alloc, configured.own(), &rows, &taken, *there);
     }
 }
 

@@ -1,13 +1,12 @@
 //! What a node knows of the nodes that it reaches, from one event to the next.
 
-ghost use Rattle.std.specs.Prelude.{◌≡◌, ℕ, List, IfOk, IfSome, IsTrue, OnErr, OnOk, Option, false, is_some, option_map};
+ghost use Rattle.std.specs.Prelude.{◌≡◌, ◌==◌, ◌<◌, ℕ, List, IfOk, IfSome, IsTrue, OnErr, OnOk, Option, false, get_or, is_some, length, option_map};
 ghost use Rattle.scp_types.specs.Statements.{Sent};
 ghost use Rattle.scp_types.specs.Trees.{Slices};
 ghost use Rattle.scp_types.specs.declared.kind.Kind.{Kind};
 ghost use Rattle.scp_types.specs.declared.kind.Kind.TheVariants.{Nomination};
-ghost use Rattle.scp_spec.specs.Sets.{IsAscending};
 ghost use Rattle.node_view.specs.Knowing.{AreBallotsOf, AreValuesOf, IsKnown, IsTaken, is_heard, is_of_another};
-ghost use Rattle.node_view.specs.Regions.{IsKeptRegion, IsOfExtent, IsRegion};
+ghost use Rattle.node_view.specs.Regions.{IsFoundAmong, IsKeptRegion, IsOfExtent, IsRegion};
 
 use crate::changing::NewReach;
 use crate::own::Own;
@@ -15,9 +14,9 @@ use crate::reached_ballots::ReachedBallots;
 use crate::reached_values::ReachedValues;
 use crate::region::Region;
 use crate::rows::said_in;
+use crate::standing::Standing;
 use node_store::Places;
 use node_table::Rows;
-use scp_slices::is_among;
 use scp_types::{Envelope, Kind, NodeId};
 use std::alloc::{AllocError, Global};
 
@@ -147,8 +146,10 @@ impl KnownReach {
         own: Own<'_>,
         table: &Rows<'_, S>,
         taken: &Taken<'_>,
+        there: Option<Standing>,
     )
-        requires { IsRegion own.name.now own.slices.now table.now self.old.region }
+        requires region { IsRegion own.name.now own.slices.now table.now self.old.region }
+        requires there { IsFoundAmong self.old.region.nodes.items taken.now.row.now.sender there }
         ensures region { self.new.region ≡ self.old.region }
         ensures other { is_of_another own.entry.name.now self.old.region.nodes.items taken.now.row.now ≡ false → self.new ≡ self.old }
         ensures same_ballots { is_heard Kind.Ballot own.entry.name.now self.old.region.nodes.items taken.now.row.now ≡ false → self.new.ballots ≡ self.old.ballots }
@@ -156,12 +157,15 @@ impl KnownReach {
         ensures ballots { (old : List Sent) → IsTaken old table.now taken.now.row.now (option_map (λ r. r.now) taken.now.before) → IfSome self.old.ballots (AreBallotsOf own.entry.name.now old self.old.region.nodes.items) → IfSome self.new.ballots (AreBallotsOf own.entry.name.now table.now self.old.region.nodes.items) }
         ensures values { (old : List Sent) → IsTaken old table.now taken.now.row.now (option_map (λ r. r.now) taken.now.before) → IfSome self.old.values (AreValuesOf own.entry.name.now old self.old.region.nodes.items) → IfSome self.new.values (AreValuesOf own.entry.name.now table.now self.old.region.nodes.items) }
     {
-        if !is_of_another(&self.region, own.name, taken.row) {
+        let Some(there) = there else {
+            return;
+        };
+        if is_own(own.name, taken.row) {
             return;
         }
         match taken.row.body().kind() {
-            Kind::Ballot => self.follow_ballots(alloc, own, table, taken),
-            Kind::Nomination => self.follow_values(alloc, own, table, taken.row),
+            Kind::Ballot => self.follow_ballots(alloc, own, table, taken, there.node),
+            Kind::Nomination => self.follow_values(alloc, own, table, taken.row, there.node),
         }
     }
 
@@ -172,8 +176,11 @@ impl KnownReach {
         own: Own<'_>,
         table: &Rows<'_, S>,
         taken: &Taken<'_>,
+        place: usize,
     )
         requires region { IsRegion own.name.now own.slices.now table.now self.old.region }
+        requires within { place < length self.old.region.nodes.items }
+        requires sender { get_or self.old.region.nodes.items place 0 ≡ taken.now.row.now.sender }
         requires heard { IsTrue (is_heard Kind.Ballot own.name.now self.old.region.nodes.items taken.now.row.now) }
         ensures region { self.new.region ≡ self.old.region }
         ensures values { self.new.values ≡ self.old.values }
@@ -184,7 +191,7 @@ impl KnownReach {
         };
         let rows = self.region.rows(alloc, table, Kind::Ballot);
         let before = said_in(taken.before);
-        let replaced = ballots.replace(own.name, &rows, taken.row, before);
+        let replaced = ballots.replace(own.name, &rows, taken.row, before, place);
         if let Ok(()) = replaced {
             self.ballots = Some(ballots);
         }
@@ -197,8 +204,11 @@ impl KnownReach {
         own: Own<'_>,
         table: &Rows<'_, S>,
         row: &Envelope,
+        place: usize,
     )
         requires region { IsRegion own.name.now own.slices.now table.now self.old.region }
+        requires within { place < length self.old.region.nodes.items }
+        requires sender { get_or self.old.region.nodes.items place 0 ≡ row.now.sender }
         requires heard { IsTrue (is_heard Nomination own.name.now self.old.region.nodes.items row.now) }
         ensures region { self.new.region ≡ self.old.region }
         ensures ballots { self.new.ballots ≡ self.old.ballots }
@@ -208,16 +218,15 @@ impl KnownReach {
             return;
         };
         let rows = self.region.rows(alloc, table, Kind::Nomination);
-        let added = values.add(own.name, &rows, row);
+        let added = values.add(own.name, &rows, row, place);
         if let Ok(()) = added {
             self.values = Some(values);
         }
     }
 }
 
-fn is_of_another(region: &Region, own: &NodeId, envelope: &Envelope) -> bool
-    requires { IsAscending region.now.nodes.items }
-    ensures { result ≡ is_of_another own.now region.now.nodes.items envelope.now }
+fn is_own(own: &NodeId, envelope: &Envelope) -> bool
+    ensures { result ≡ (own.now == envelope.now.sender) }
 {
-    *own != *envelope.sender() && is_among(&region.nodes, envelope.sender())
+    *own == *envelope.sender()
 }

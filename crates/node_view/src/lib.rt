@@ -25,6 +25,7 @@ mod region;
 mod rows;
 mod searching;
 mod seeing;
+mod standing;
 mod unlisted;
 mod words;
 
@@ -38,3 +39,4 @@ pub use reached_ballots::ReachedBallots;
 pub use reached_values::ReachedValues;
 pub use region::{Change, Region, RegionEntry};
 pub use seeing::View;
+pub use standing::Standing;

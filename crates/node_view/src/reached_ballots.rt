@@ -1,6 +1,6 @@
 //! The ballots that reached rows speak of, listed once and kept from event to event.
 
-ghost use Rattle.std.specs.Prelude.{◌≡◌, List, IfOk, IsTrue, OnOk, Some, option_map, option_to_list};
+ghost use Rattle.std.specs.Prelude.{◌≡◌, ◌<◌, List, IfOk, IsTrue, OnOk, Some, get_or, length, option_map, option_to_list};
 ghost use Rattle.scp_types.specs.Statements.{Sent};
 ghost use Rattle.scp_types.specs.declared.kind.Kind.{Kind};
 ghost use Rattle.scp_spec.specs.Sets.{IsAscending};
@@ -80,15 +80,18 @@ impl ReachedBallots {
         rows: &ReachedRows<'_, S>,
         row: &Envelope,
         before: Option<&Statement>,
+        place: usize,
     ) -> Result<(), AllocError>
         requires kind { rows.now.kind ≡ Kind.Ballot }
         requires ascending { IsAscending rows.now.nodes }
+        requires within { place < length rows.now.nodes }
+        requires sender { get_or rows.now.nodes place 0 ≡ row.now.sender }
         ensures { OnOk result ((old : List Sent) → IsHeard own.now rows.now.nodes old rows.now.table row.now (option_map (λ s. s.now) before.entry) → AreBallotsOf own.now old rows.now.nodes self.old → AreBallotsOf own.now rows.now.table rows.now.nodes self.new) }
     {
         let now = row.body();
         self.named.add_mentioned(Mention::Named, now)?;
         self.committed.add_mentioned(Mention::Committed, now)?;
-        follow(&mut self.alike, own, rows, row);
+        follow(&mut self.alike, own, rows, row, place);
         if let Some(before) = before {
             leave_mentioned(&mut self.named, Mention::Named, own, rows, before);
             leave_mentioned(&mut self.committed, Mention::Committed, own, rows, before);

@@ -1,6 +1,6 @@
 //! The values that reached rows nominate, listed once and kept from event to event.
 
-ghost use Rattle.std.specs.Prelude.{◌≡◌, IfOk, IsTrue, List, OnOk, Option};
+ghost use Rattle.std.specs.Prelude.{◌≡◌, ◌<◌, IfOk, IsTrue, List, OnOk, Option, get_or, length};
 ghost use Rattle.scp_types.specs.Statements.{Sent};
 ghost use Rattle.scp_types.specs.declared.kind.Kind.TheVariants.{Nomination};
 ghost use Rattle.scp_spec.specs.Sets.{IsAscending};
@@ -45,12 +45,15 @@ impl ReachedValues {
         own: &NodeId,
         rows: &ReachedRows<'_, S>,
         row: &Envelope,
+        place: usize,
     ) -> Result<(), AllocError>
         requires kind { rows.now.kind ≡ Nomination }
         requires ascending { IsAscending rows.now.nodes }
+        requires within { place < length rows.now.nodes }
+        requires sender { get_or rows.now.nodes place 0 ≡ row.now.sender }
         ensures { OnOk result ((old : List Sent) (before : Option Sent) → IsTrue (is_heard Nomination own.now rows.now.nodes row.now) → IsTaken old rows.now.table row.now before → AreValuesOf own.now old rows.now.nodes self.old → AreValuesOf own.now rows.now.table rows.now.nodes self.new) }
     {
-        follow(&mut self.alike, own, rows, row);
+        follow(&mut self.alike, own, rows, row, place);
         insert_values(&mut self.values, row.body())
     }
 }

@@ -17,7 +17,8 @@ use crate::changing::Extent;
 use crate::forms::{Candidates, Former, SlicesInReach};
 use crate::own::Own;
 use crate::reached::ReachedRows;
-use node_reach::{drops_none, keeps_reach, reach};
+use crate::standing::Standing;
+use node_reach::{drops_none, reach};
 use node_store::Places;
 use node_table::{RowPlace, RowPlaces, Rows};
 use scp_bits::{CompiledSet, Form, compile, place_in_nodes};
@@ -129,15 +130,6 @@ impl Region {
         })
     }
 
-    /// Whether the region surely stays as it is if the table takes the envelope. Its sender is not reached, or has a
-    /// row of that kind with the same slices, in whose place the envelope then stands. It takes no memory.
-    pub fn stays<S: Places>(&self, table: &Rows<'_, S>, envelope: &Envelope) -> bool
-        requires { IsAscending self.now.nodes.items }
-        ensures { IsTrue result → (own : ℕ) (configured : Slices) → IsRegion own configured table.now self.now → IsRegion own configured (with_row envelope.now table.now) self.now }
-    {
-        keeps_reach(&self.nodes, table, envelope)
-    }
-
     /// What the envelope changes in the region if the table takes it. An error says that it is out of memory.
     ///
     /// It is an entry if another reached node's slices name only reached nodes, and drop no name of its row of that
@@ -157,10 +149,30 @@ impl Region {
         requires { IsAscending self.now.nodes.items }
         ensures { IfOk result (IsChange own.entry.name.now own.entry.slices.now table.now envelope.now self.now) }
     {
-        let Some(place) = place_in_nodes(&self.nodes, envelope.sender()) else {
+        let sender = envelope.sender();
+        let Some(node) = place_in_nodes(&self.nodes, sender) else {
             return Ok(Change::Reach(Extent::Other));
         };
-        if place == self.place {
+        let row = table.place(sender, envelope.body().kind());
+        self.change_at(alloc, own, table, envelope, Standing { node, row })
+    }
+
+    /// What the envelope changes, as [`Region::change_by`] says, if it is known where its sender stands.
+    pub(crate) fn change_at<S: Places>(
+        &self,
+        alloc: Global,
+        own: Own<'_>,
+        table: &Rows<'_, S>,
+        envelope: &Envelope,
+        there: Standing,
+    ) -> Result<Change, AllocError>
+        requires ascending { IsAscending self.now.nodes.items }
+        requires within { there.node < length self.now.nodes.items }
+        requires sender { get_or self.now.nodes.items there.node 0 ≡ envelope.now.sender }
+        requires row { place_of_row table.now envelope.now.sender (kind_of envelope.now.body) ≡ there.row }
+        ensures { IfOk result (IsChange own.entry.name.now own.entry.slices.now table.now envelope.now self.now) }
+    {
+        if there.node == self.place {
             return Ok(Change::Reach(Extent::Other));
         }
         let drops_none = drops_none(alloc, own.name, own.slices, table, envelope)?;
@@ -176,9 +188,9 @@ impl Region {
         };
         Ok(Change::Sets(RegionEntry {
             kind: envelope.body().kind(),
-            place,
+            place: there.node,
             slices: form,
-            row: row_place(table, envelope),
+            row: row_place(table, there.row),
             numbers,
         }))
     }
@@ -258,16 +270,14 @@ impl Region {
     }
 }
 
-/// Where the envelope stands once the table takes it: in the place of its sender's row of that kind, or behind all
+/// Where an envelope stands once the table takes it: in the place of its sender's row of that kind, or behind all
 /// others.
-#[tactic(auto, using(crate::proofs::PlaceLaws::stands_behind, crate::proofs::PlaceLaws::stands_there))]
-fn row_place<S: Places>(table: &Rows<'_, S>, envelope: &Envelope) -> RowPlace
-    ensures { place_of_row (with_row envelope.now table.now) envelope.now.sender (kind_of envelope.now.body) ≡ result }
+fn row_place<S: Places>(table: &Rows<'_, S>, there: RowPlace) -> RowPlace
+    ensures { (e : Sent) → place_of_row table.now e.sender (kind_of e.body) ≡ there → place_of_row (with_row e table.now) e.sender (kind_of e.body) ≡ result }
 {
-    let place = table.place(envelope.sender(), envelope.body().kind());
-    match place.get() {
+    match there.get() {
         None => table.end(),
-        Some(_) => place,
+        Some(_) => there,
     }
 }
 

@@ -1,2 +1,2 @@
 pub mod Balances
-mod Sharing
+pub mod Sharing

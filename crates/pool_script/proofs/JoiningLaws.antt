@@ -1,7 +1,6 @@
 -- Slots that a seat asks for, and networks that are opened and join, one after the other.
 use Rattle.std.proofs.Common.{◌≡◌, ◌∙◌, ◌<◌, ◌≤◌, ◌+◌, ℕ, List, [], ◌∷◌, ◌++◌, drop, get_or, length, refl, sym, ap, subst, arith}
-use Rattle.std.specs.List.{AllZip}
-use Rattle.std.proofs.lemmas.List.{append-nil, append_assoc, drop_all, drop_more}
+use Rattle.std.proofs.lemmas.List.{drop_all, drop_more}
 use Rattle.scp_spec.specs.Hosts.{Config}
 use Rattle.pool_cell.specs.Sights.{CellSight, SeatSight}
 use Rattle.pool_workers.specs.NetSights.{NetSight}
@@ -22,25 +21,6 @@ asked_on c slots i d old seat next l one rest u later = rest u (subst (λ ss. Ha
 pub asked_all : (c : CellSight) (slots : List ℕ) (i : ℕ) (old seat : SeatSight) → length slots ≤ i
     → ((u : SeatSight) → HaveAsked c (drop i slots) seat u → HaveAsked c slots old u) → HaveAsked c slots old seat
 asked_all c slots i old seat l rest = rest seat (subst (λ ss. HaveAsked c ss seat seat) (sym (drop_all i slots l)) asked_none)
-
--- ---- what is made of each of a list, one after the other
-
-module _ {A B : Type 0} (R : A → B → Type 0) where
-  -- whatever those that are left will be made to, behind what was made it is that of all
-  abbrev pub Makes : List A → List A → List B → Type 0
-  Makes all left made = (ys : List B) → AllZip R left ys → AllZip R all (made ++ ys)
-
-  pub makes_none : (all left : List A) (made : List B) → left ≡ all → made ≡ [] → Makes all left made
-  makes_none all left made whole empty ys h = subst (λ zs. AllZip R all (zs ++ ys)) (sym empty) (subst (λ xs. AllZip R xs ys) whole h)
-
-  pub makes_more : (all left rest : List A) (x : A) (made now : List B) (y : B) → left ≡ x ∷ rest → R x y → now ≡ made ++ y ∷ [] → Makes all left made → Makes all rest now
-  makes_more all left rest x made now y is one grown whole ys h =
-      let longer : AllZip R all (made ++ y ∷ ys) = whole (y ∷ ys) (subst (λ xs. AllZip R xs (y ∷ ys)) (sym is) (one, h)) in
-      subst (AllZip R all) (sym (ap (λ zs. zs ++ ys) grown ∙ append_assoc made (y ∷ []) ys)) longer
-
-  pub makes_all : (all left : List A) (made : List B) → length left ≡ 0 → Makes all left made → AllZip R all made
-  makes_all all [] made few whole = subst (AllZip R all) (append-nil made) (whole [] tt)
-  makes_all all (x ∷ xs) made few whole = absurd (omega (arith, few))
 
 -- of one half of the networks, and of the other
 pub ready_halves : (many : ℕ) (all low high : List UnopenedNetwork) (ns ms nets : List NetSight) → all ≡ low ++ high → nets ≡ ns ++ ms

@@ -28,9 +28,11 @@ pub fn compile(
     let members = set.members();
     let mut masks = Vec::new(alloc);
     let mut inner = Vec::new(alloc);
+    // Names mostly come in the order of the nodes, so each is looked for behind the last one first.
+    let mut next = 0;
     for member in members {
         match member {
-            Member::Node(node) => add_node(&mut masks, nodes, node)?,
+            Member::Node(node) => next = add_node(&mut masks, nodes, next, node)?,
             Member::Set(set) => inner.push(compile(alloc, set, nodes, blocking)?)?,
         }
     }
@@ -50,15 +52,24 @@ fn needed_of(threshold: u8, members: usize, blocking: bool) -> usize
     }
 }
 
-/// Adds the place of a node, if it has one.
-fn add_node(masks: &mut Vec<Mask>, nodes: &[NodeId], node: &NodeId) -> Result<(), AllocError>
+/// Adds the place of a node, if it has one, which is looked for at `next` first. Answers where the next node is to be
+/// looked for.
+fn add_node(
+    masks: &mut Vec<Mask>,
+    nodes: &[NodeId],
+    next: usize,
+    node: &NodeId,
+) -> Result<usize, AllocError>
     requires { IsAscending nodes.now }
     ensures places { OnOk result ((ws : List ℕ) → places_in masks.new.items ws ≡ places_in masks.old.items ws + one_where (among (nodes_at nodes.now ws) node.now)) }
     ensures count { OnOk result (count_in masks.new.items ≤ count_in masks.old.items + 1) }
 {
-    match place_in_nodes(nodes, node) {
-        None => Ok(()),
-        Some(place) => add_place(masks, place),
+    match place_near(nodes, next, node) {
+        None => Ok(next),
+        Some(place) => {
+            add_place(masks, place)?;
+            Ok(place + 1)
+        }
     }
 }
 
@@ -68,12 +79,14 @@ pub fn has_places(set: &SliceSet, nodes: &[NodeId]) -> bool
     ensures { result ≡ within (names_in set.now.members) (among nodes.now) }
 {
     let members = set.members();
+    let mut next = 0;
     for member in members {
         match member {
             Member::Node(node) => {
-                if place_in_nodes(nodes, node).is_none() {
+                let Some(place) = place_near(nodes, next, node) else {
                     return false;
-                }
+                };
+                next = place + 1;
             }
             Member::Set(inner) => {
                 if !has_places(inner, nodes) {

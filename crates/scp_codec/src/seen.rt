@@ -41,6 +41,14 @@ impl SeenNames {
         }
     }
 
+    /// Makes room for so many names more. An error says that it is out of memory.
+    pub(crate) fn reserve(&mut self, count: usize) -> Result<(), AllocError>
+        ensures { self.new ≡ self.old }
+    {
+        self.in_turn.reserve(count)?;
+        self.ascending.reserve(count)
+    }
+
     pub(crate) fn len(&self) -> usize
         ensures { result ≡ length self.now }
     {

@@ -86,6 +86,7 @@ fn read_members(
     ensures names { IfOk result (λ x. seen.new ≡ seen.old ++ names_in (members_of x.items)) }
 {
     let mut members = Vec::with_capacity(alloc, count as usize)?;
+    seen.reserve(count as usize)?;
     for _ in 0..count {
         let member = read_member(alloc, reader, levels, seen)?;
         members.push(member)?;

@@ -1,4 +1,4 @@
-use Rattle.std.proofs.Common.{◌≡◌, ◌∙◌, ◌<◌, ◌/◌, IfSome, List, Option, Some, ap, get_or, length, subst, sym, ℕ}
+use Rattle.std.proofs.Common.{◌≡◌, ◌∙◌, ◌<◌, ◌/◌, IfSome, List, Option, Some, ap, subst, sym}
 use Rattle.scp_types.specs.Statements.{Sent}
 use Rattle.node_view.specs.Grouping.{AreGrouped, AreGroups, said_at}
 use Rattle.node_view.specs.Watching.{RowsOfNodes}
@@ -6,8 +6,8 @@ use Rattle.node_view.specs.declared.alike.Alike.{Alike}
 use Rattle.node_view.proofs.GroupLaws.{alike_followed}
 use Rattle.node_view.proofs.alike.follow.Goals as goal
 
-pub returns-in-Some-place_in_nodes : goal.returns-in-Some-place_in_nodes
-returns-in-Some-place_in_nodes g c = λ old is heard are.
+pub returns : goal.returns
+returns g c = λ old is heard are.
     let own = c.args.own.now in
     let e = c.args.row.now in
     let rows = c.args.rows.now in
@@ -15,9 +15,8 @@ returns-in-Some-place_in_nodes g c = λ old is heard are.
     let before = c.in-Some.alike in
     let mid = c.leave.new.self in
     let after = c.join.new.self in
-    let place = c.in-Some-place_in_nodes.place in
+    let place = c.args.place in
     let there : AreGrouped own (within old) before = subst (λ (o : Option Alike). IfSome o (λ a. AreGrouped own (within old) a)) c.in-Some.is are in
-    let stands : (place < length rows.nodes) × (get_or rows.nodes place 0 ≡ e.sender) = subst (λ (p : List ℕ × ℕ). (place < length p.0) × (get_or p.0 place 0 ≡ p.1)) (λ i. (c.nodes.ensures i, c.sender.ensures.value i)) c.in-Some-place_in_nodes.ensures.place in
     subst (λ (t : List Sent). (place / 64 < 8 → said_at own (within t) place ≡ Some e.body → AreGroups (said_at own (within t)) mid.groups.items → AreGroups (said_at own (within t)) after.groups.items) → AreGrouped own (within t) after) (sym is)
-    (λ groups. alike_followed own rows.nodes rows.kind old e heard c.requires place stands.0 stands.1 before mid after there c.leave.ensures groups c.join.ensures.outside)
+    (λ groups. alike_followed own rows.nodes rows.kind old e heard c.requires.ascending place c.requires.within c.requires.sender before mid after there c.leave.ensures groups c.join.ensures.outside)
     (λ short says. c.join.ensures.groups short (says ∙ ap Some (sym c.body.ensures.value)))

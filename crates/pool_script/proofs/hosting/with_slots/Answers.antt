@@ -1,6 +1,6 @@
 use Rattle.std.proofs.Common.{rules, refl, ◌∙◌, ap}
 use Rattle.pool_script.specs.Opening.{slots_to_open}
-use Rattle.pool_script.proofs.JoiningLaws.{makes_all, makes_more, makes_none}
+use Rattle.pool_queue.proofs.Sharing.{makes_all, makes_more, makes_none}
 use Rattle.pool_script.proofs.hosting.with_slots.Goals as goal
 
 pub loop-config-init : goal.loop-config-init

@@ -2,7 +2,7 @@ use Rattle.std.proofs.Common.{◌≡◌}
 use Rattle.scp_spec.specs.Hosts.{Config}
 use Rattle.pool_script.specs.Opening.{slots_to_open}
 use Rattle.pool_script.specs.declared.hosting.UnopenedNetwork.{UnopenedNetwork}
-use Rattle.pool_script.proofs.JoiningLaws.{Makes}
+use Rattle.pool_queue.proofs.Sharing.{Makes}
 use Rattle.pool_script.proofs.hosting.with_slots.Given as goal
 
 abbrev pub invariant-loop-config : goal.invariant-loop-config

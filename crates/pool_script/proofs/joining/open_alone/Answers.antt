@@ -1,5 +1,5 @@
 use Rattle.std.proofs.Common.{rules}
-use Rattle.pool_script.proofs.JoiningLaws.{makes_all, makes_more, makes_none}
+use Rattle.pool_queue.proofs.Sharing.{makes_all, makes_more, makes_none}
 use Rattle.pool_script.proofs.joining.open_alone.Goals as goal
 
 pub loop-network-init : goal.loop-network-init

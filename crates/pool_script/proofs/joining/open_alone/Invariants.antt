@@ -1,7 +1,7 @@
 use Rattle.pool_workers.specs.NetSights.{NetSight}
 use Rattle.pool_script.specs.Opening.{IsReadyNetwork}
 use Rattle.pool_script.specs.declared.hosting.UnopenedNetwork.{UnopenedNetwork}
-use Rattle.pool_script.proofs.JoiningLaws.{Makes}
+use Rattle.pool_queue.proofs.Sharing.{Makes}
 use Rattle.pool_script.proofs.joining.open_alone.Given as goal
 
 abbrev pub invariant-loop-network : goal.invariant-loop-network

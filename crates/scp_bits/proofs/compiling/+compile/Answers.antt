@@ -9,7 +9,7 @@ use Rattle.scp_bits.specs.Places.{Compiled, count_in, places_in, sets_of}
 use Rattle.scp_bits.specs.Met.{has_needed, sets_met, nodes_at, one_where, needed_of}
 use Rattle.scp_bits.proofs.MembersMet.{node_on, set_on, one_set_more, all_met}
 use Rattle.scp_bits.proofs.compiling.+compile.Goals as goal
-use Rattle.scp_bits.proofs.compiling.+compile.Goals.{in-Node+in_ok-add_node-in-Node, in-Set+in_ok-compile-in-Set+in_ok-push-in-Set}
+use Rattle.scp_bits.proofs.compiling.+compile.Goals.{in-Node+in_ok-next-in-Node, in-Set+in_ok-compile-in-Set+in_ok-push-in-Set}
 
 pub compile-requires : goal.compile-requires
 compile-requires t c =
@@ -23,10 +23,10 @@ loop-member-preserved t c = record {
   count =
       let before = c.loop-member.invariant.count in
       elim c.match-member.branch [
-        | in-Node+in_ok-add_node-in-Node w ↦
+        | in-Node+in_ok-next-in-Node w ↦
             let added = ap (λ (v : Vec Mask Global). count_in v.items) w.masks-is in
             let same = ap (λ (v : Vec Compiled Global). length v.items) w.inner-is in
-            omega (arith, before, added, same, w.in_ok-add_node-in-Node.ensures.count)
+            omega (arith, before, added, same, w.in_ok-next-in-Node.ensures.count)
         | in-Set+in_ok-compile-in-Set+in_ok-push-in-Set w ↦
             let same = ap (λ (v : Vec Mask Global). count_in v.items) w.masks-is in
             let added = ap (λ (v : Vec Compiled Global). length v.items) w.inner-is in
@@ -39,8 +39,8 @@ loop-member-preserved t c = record {
       let s = among (nodes_at c.args.nodes.now ws) in
       let before = c.loop-member.invariant.so_far ws in
       elim c.match-member.branch [
-        | in-Node+in_ok-add_node-in-Node w ↦
-            let added = ap (λ (v : Vec Mask Global). places_in v.items ws) w.masks-is ∙ w.in_ok-add_node-in-Node.ensures.places ws in
+        | in-Node+in_ok-next-in-Node w ↦
+            let added = ap (λ (v : Vec Mask Global). places_in v.items ws) w.masks-is ∙ w.in_ok-next-in-Node.ensures.places ws in
             let same = ap (λ (v : Vec Compiled Global). sets_met (sets_of v.items) ws) w.inner-is in
             omega (arith, before, added, same, node_on c.args.blocking ms i c.member-item.result w.in-Node.node s c.loop-member-test.true c.member-item.is w.in-Node.is)
         | in-Set+in_ok-compile-in-Set+in_ok-push-in-Set w ↦

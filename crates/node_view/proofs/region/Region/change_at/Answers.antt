@@ -1,0 +1,51 @@
+use Rattle.std.proofs.Common.{rules, ◌<◌, IsTrue, arith}
+use Rattle.scp_types.specs.Statements.{kind_of}
+use Rattle.scp_spec.specs.Backing.{slices_by}
+use Rattle.scp_spec.specs.Sets.{among}
+use Rattle.node_view.specs.Forms.{IsFoundWithin}
+use Rattle.node_view.specs.Regions.{forms_of}
+use Rattle.node_view.proofs.EntryLaws.{names_in_reach}
+use Rattle.node_view.proofs.FormLaws.{found_joins, found_of}
+use Rattle.node_view.proofs.KeptLaws.{kept_region}
+use Rattle.node_view.proofs.Standings.{among_there}
+use Rattle.node_view.proofs.region.Region.change_at.Goals as goal
+
+pub returns : goal.returns
+returns g c =
+    let r = c.args.self.now in
+    let e = c.args.envelope.now in
+    let k = kind_of e.body in
+    let us = r.nodes.items in
+    let f = c.in-Some-found.form in
+    let slices_at = slices_by c.args.own.name.now c.args.own.slices.now c.args.table.now k in
+    let more : r.numbers < c.in-Some.numbers = omega (arith, c.in-Some.ensures) in
+    let found : IsFoundWithin us slices_at (forms_of k r) r.numbers e.slices f = search rules in
+    record {
+      reach = λ is. c.in_ok-drops_none.ensures.stays c.if-not-drops_none.false us (names_in_reach c.args.own.name.now c.args.own.slices.now c.args.table.now k us (forms_of k r) r.numbers e.slices f found is) is;
+      within = search rules;
+      sender = search rules;
+      kind = search rules;
+      another = search rules;
+      numbers = more;
+      form = found_joins us slices_at (forms_of k r) e.slices f r.numbers c.in-Some.numbers more (found_of us slices_at (forms_of k r) e.slices f r.numbers found);
+      row = c.row_place.ensures e c.requires.row;
+    }
+
+pub returns-in_default-found : goal.returns-in_default-found
+returns-in_default-found g c = λ is.
+    let own = c.args.own.name.now in
+    let q = c.args.own.slices.now in
+    let t = c.args.table.now in
+    let r = c.args.self.now in
+    let e = c.args.envelope.now in
+    let there : IsTrue (among r.nodes.items e.sender) = among_there r.nodes.items c.args.there.node e.sender c.requires.within c.requires.sender in
+    (kept_region own q t e r is, c.in_ok-drops_none.ensures.narrow c.if-not-drops_none.false r.nodes.items there is.reach)
+
+pub returns-then-there-self : goal.returns-then-there-self
+returns-then-there-self g c = λ is. (kept_region c.args.own.name.now c.args.own.slices.now c.args.table.now c.args.envelope.now c.args.self.now is, tt)
+
+pub returns-then-not-drops_none : goal.returns-then-not-drops_none
+returns-then-not-drops_none g c = λ is. (kept_region c.args.own.name.now c.args.own.slices.now c.args.table.now c.args.envelope.now c.args.self.now is, tt)
+
+pub returns-in_default : goal.returns-in_default
+returns-in_default g c = λ is. (kept_region c.args.own.name.now c.args.own.slices.now c.args.table.now c.args.envelope.now c.args.self.now is, tt)
