@@ -37,11 +37,13 @@ index-nowhere (y ∷ ys) x (suc i) below above =
 rising : (xs : List ℕ) → IsAscending xs → (i j : ℕ) → i ≤ j → j < length xs → get_or xs i 0 ≤ get_or xs j 0
 rising xs up i j l m = grind (arith, up)
 
+pub place-there : (xs : List ℕ) (x k : ℕ) → IsAscending xs → k < length xs → get_or xs k 0 ≡ x → index_in xs x ≡ Some k
+place-there xs x k up l e = index-first xs x k l e (λ j m. subst (λ n. get_or xs j 0 < n) e (up j k 0 m l))
+
 pub place-found : (xs : List ℕ) (x : ℕ) (k : ℕ) → IsAscending xs → IsBinarySearchResult (λ y. nat_cmp y x) xs (Ok k) → index_in xs x ≡ Some k
 place-found xs x k up h =
     let s = searched xs x (Ok k) h (rising xs up) in
-    let e = s.1 in
-    index-first xs x k s.0 s.1 (λ j l. subst (λ n. get_or xs j 0 < n) e (up j k 0 l s.0))
+    place-there xs x k up s.0 s.1
 
 pub place-nowhere : (xs : List ℕ) (x : ℕ) (i : ℕ) → IsAscending xs → IsBinarySearchResult (λ y. nat_cmp y x) xs (Err i) → index_in xs x ≡ None
 place-nowhere xs x i up h =

@@ -1,6 +1,6 @@
 //! A network's configuration.
 
-ghost use Rattle.std.specs.Prelude.{◌≡◌, ◌≤◌, ◌++◌, IfErr, IfOk, IfSome, None, Some, is_some, length, option_map};
+ghost use Rattle.std.specs.Prelude.{◌≡◌, ◌≤◌, ◌++◌, IfErr, IfOk, IfSome, None, Some, is_some, length, option_map, true};
 ghost use Rattle.std.specs.List.Sorted.{IsPermutation};
 ghost use Rattle.scp_types.specs.Trees.{all_differ};
 ghost use Rattle.scp_spec.specs.Sets.{IsAscending};
@@ -148,6 +148,17 @@ impl NetConfig {
         place_in(&self.names, name)
     }
 
+    /// The place of a hosted node, which is looked for at `first` first, whatever number that is; `None` if it is not
+    /// hosted. So nodes that come in order cost no search.
+    pub fn place_from(&self, first: usize, name: &NodeId) -> Option<usize>
+        ensures { result ≡ index_of_name self.now.nodes name.now }
+    {
+        if stands_at(&self.names, first, name) {
+            return Some(first);
+        }
+        self.place(name)
+    }
+
     /// A copy. An error says that it is out of memory, or that slices have too many owners.
     pub fn try_copy(&self, alloc: Global) -> Result<NetConfig, AllocError>
         ensures { IfOk result (λ c. c ≡ self.now) }
@@ -265,6 +276,17 @@ fn place_in(names: &[NodeId], name: &NodeId) -> Option<usize>
     match names.binary_search(name) {
         Ok(place) => Some(place),
         Err(_) => None,
+    }
+}
+
+/// Whether a name stands at this place of an ascending list.
+fn stands_at(names: &[NodeId], place: usize, name: &NodeId) -> bool
+    requires { IsAscending names.now }
+    ensures { result ≡ true → index_in names.now name.now ≡ Some place }
+{
+    match names.get(place) {
+        None => false,
+        Some(there) => *there == *name,
     }
 }
 

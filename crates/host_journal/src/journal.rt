@@ -12,7 +12,7 @@ ghost use Rattle.host_journal.specs.Deciding.{decided_by, decisions_at};
 
 use crate::event_room::EventRoom;
 use crate::externalized::externalized_by;
-use crate::kept::{StoredEntry, entry_at, kept_event, push_whole_outs, whole_event};
+use crate::kept::{StoredEntry, entry_at, kept_event, near_last, push_whole_outs, whole_event};
 use crate::lent_decision::{LentDecision, lent_decision};
 use crate::lent_event::{LentEvent, lent_event};
 use crate::outs_list::{EntryOuts, KeptOuts};
@@ -168,7 +168,14 @@ impl<S: Shelf> Journal<S> {
                     given,
                     delivered,
                 } = outcome;
-                let event = kept_event(self.network.config(), &mut self.room, event, delivered);
+                let near = near_last(&self.entries);
+                let event = kept_event(
+                    self.network.config(),
+                    near,
+                    &mut self.room,
+                    event,
+                    delivered,
+                );
                 let outs = KeptOuts::put(&mut self.given, self.entries.len(), filed);
                 self.entries.push_reserved(StoredEntry { event, outs });
                 Ok(given)

@@ -84,6 +84,28 @@ pub(crate) struct LentEntry<'a> {
     pub outs: &'a [FiledOut],
 }
 
+/// Where the nodes of the next event are looked for first: its node, and if it is a hearing, who is heard. They need
+/// not stand there.
+#[derive(Clone, Copy)]
+pub(crate) struct Near {
+    node: usize,
+    from: usize,
+}
+
+/// Behind the node that heard last, and at the one that it heard, since nodes hear an emission in their order.
+pub(crate) fn near_last(entries: &[StoredEntry]) -> Near {
+    match entries.last() {
+        Some(last) => match &last.event {
+            KeptEvent::Hear { node, from, .. } => Near {
+                node: node.at().saturating_add(1),
+                from: from.at(),
+            },
+            _ => Near { node: 0, from: 0 },
+        },
+        None => Near { node: 0, from: 0 },
+    }
+}
+
 /// The entry of this number, read in place; `None` past the last. It takes no memory.
 pub(crate) fn entry_at<'a, S: Shelf>(
     network: &Network<S>,
@@ -105,9 +127,10 @@ pub(crate) fn entry_at<'a, S: Shelf>(
 }
 
 /// An event as it is kept, a large one in the box that was made for it. The place of the filed envelope stands for the
-/// bytes of a delivery. It takes no memory.
+/// bytes of a delivery. It takes no memory. Wherever its nodes are looked for first, the answer is the same.
 pub(crate) fn kept_event(
     config: &NetConfig,
+    near: Near,
     room: &mut EventRoom,
     event: Event,
     delivered: Option<Filed>,
@@ -122,12 +145,12 @@ pub(crate) fn kept_event(
     if is_large(&event) {
         return KeptEvent::Large(room.fill(event));
     }
-    let kept = kept_small(config, &event, delivered);
+    let kept = kept_small(config, near, &event, delivered);
     drop(event);
     kept
 }
 
-fn kept_small(config: &NetConfig, event: &Event, delivered: Option<Filed>) -> KeptEvent
+fn kept_small(config: &NetConfig, near: Near, event: &Event, delivered: Option<Filed>) -> KeptEvent
     requires small { is_large event.now ≡ false }
     requires hosted { NamesNodes config.now.nodes (step_of event.now) }
     requires delivered { option_map sent_of delivered ≡ delivered_of (step_of event.now) }
@@ -139,7 +162,7 @@ fn kept_small(config: &NetConfig, event: &Event, delivered: Option<Filed>) -> Ke
         Event::OpenSlot { slot } => KeptEvent::OpenSlot { slot: *slot },
         Event::CloseSlot { slot } => KeptEvent::CloseSlot { slot: *slot },
         Event::Deliver { node, bytes } => {
-            kept_delivery(NodePlace::of(config, node), bytes, delivered)
+            kept_delivery(NodePlace::of(config, near.node, node), bytes, delivered)
         }
         Event::Hear {
             slot,
@@ -148,14 +171,14 @@ fn kept_small(config: &NetConfig, event: &Event, delivered: Option<Filed>) -> Ke
             kind,
             number,
         } => KeptEvent::Hear {
-            node: NodePlace::of(config, node),
-            from: NodePlace::of(config, from),
+            node: NodePlace::of(config, near.node, node),
+            from: NodePlace::of(config, near.from, from),
             kind: *kind,
             slot: narrow(*slot),
             number: narrow(*number),
         },
         Event::NominationTimer { slot, node, round } => KeptEvent::NominationTimer {
-            node: NodePlace::of(config, node),
+            node: NodePlace::of(config, near.node, node),
             round: *round,
             slot: *slot,
         },
@@ -164,7 +187,7 @@ fn kept_small(config: &NetConfig, event: &Event, delivered: Option<Filed>) -> Ke
             node,
             counter,
         } => KeptEvent::BallotTimer {
-            node: NodePlace::of(config, node),
+            node: NodePlace::of(config, near.node, node),
             counter: *counter,
             slot: *slot,
         },

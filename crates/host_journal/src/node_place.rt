@@ -17,20 +17,25 @@ pub(crate) struct NodePlace {
 }
 
 impl NodePlace {
-    /// A hosted node, found by a binary search.
-    pub(crate) fn of(config: &NetConfig, node: &NodeId) -> NodePlace
+    /// A hosted node, looked for at the place `first` first, whatever number that is, and else by a binary search.
+    pub(crate) fn of(config: &NetConfig, first: usize, node: &NodeId) -> NodePlace
         requires { is_some (slices_of config.now.nodes node.now) ≡ true }
         ensures name { node_name result ≡ node.now }
         ensures there { IsNodePlace config.now.nodes result }
     {
         let _nodes = config.nodes();
-        let Some(place) = config.place(node) else {
+        let Some(place) = config.place_from(first, node) else {
             unreachable!()
         };
         NodePlace {
             place: place as u16,
             name: Snapshot::of(node),
         }
+    }
+
+    /// The place, from 0 on.
+    pub(crate) fn at(&self) -> usize {
+        self.place as usize
     }
 
     pub(crate) fn name(&self, config: &NetConfig) -> NodeId

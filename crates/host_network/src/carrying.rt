@@ -86,6 +86,7 @@ impl<S: Shelf> Network<S> {
     {
         self.limits();
         let Plan { deed, charge } = plan;
+        let next_node = place_behind(&deed, self.next_node);
         match perform(
             self.alloc,
             &mut self.archive,
@@ -96,6 +97,7 @@ impl<S: Shelf> Network<S> {
             Err(_) => Err(Refusal::NoMemory),
             Ok(outcome) => {
                 count(&mut self.events, &mut self.bytes, &mut self.opens, &charge);
+                self.next_node = next_node;
                 Ok(outcome)
             }
         }
@@ -120,6 +122,14 @@ impl<S: Shelf> Network<S> {
                 let _opens = shares.opens();
             }
         }
+    }
+}
+
+/// The place behind the node that the deed is for, and `before` if it is for a slot.
+fn place_behind(deed: &Deed, before: usize) -> usize {
+    match deed {
+        Deed::Act { spot, .. } | Deed::Hand { spot, .. } => spot.node_at.saturating_add(1),
+        Deed::Open(_) | Deed::Close { .. } => before,
     }
 }
 
@@ -237,6 +247,7 @@ fn hand<S: Shelf>(
     ensures archived { AreSlotsFiled archive.new slots.new.items }
     ensures kept { Keeps archive.old archive.new }
 {
+    let envelope = archive.with_shared_slices(envelope);
     let delivered = archive.put(envelope)?;
     let event = FiledEvent::Take(archive.copy_of(&delivered));
     let mut applied = act(archive, slots, spot, event, charge)?;

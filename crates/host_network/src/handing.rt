@@ -86,7 +86,7 @@ impl<S: Shelf> Network<S> {
         ensures { IsPlannedSurely self.now (Hears slot node.now emission.now.from emission.now.kind emission.now.number) result }
     {
         let _slots = &self.slots;
-        let node_at = self.node_place(node)?;
+        let node_at = self.next_place(node)?;
         let from_at = self.node_place(&emission.from)?;
         if *node == emission.from {
             return Err(Refusal::NoSuchNode);

@@ -31,7 +31,8 @@ pub struct Used {
 /// One network: its configuration, its archive, its open slots with the hosted nodes there, and how much of
 /// its budgets is used up.
 ///
-/// Contracts see all of it, also numbers in the archive; its owner shows it without them.
+/// Contracts see all of it but where a node is looked for first, also numbers in the archive; its owner shows it without
+/// them.
 ///
 /// All envelopes lie in its archive, no slot is open twice, each has the hosted nodes in their order, and the bytes
 /// keep to the budget. For example, if A and C are hosted, an open slot 5 has a node A, then a node C. Of a budget of
@@ -45,6 +46,8 @@ pub struct Network<S: Shelf> {
     pub(crate) events: u64,
     pub(crate) bytes: u64,
     pub(crate) opens: u64,
+    /// Behind the place of the node that an event came to last: where the next one is looked for first.
+    pub(crate) next_node: usize,
 }
 
 impl<S: Shelf> Model for Network<S> {
@@ -75,6 +78,7 @@ impl<S: Shelf> Network<S> {
             events: 0,
             bytes: 0,
             opens: 0,
+            next_node: 0,
         }
     }
 
@@ -190,6 +194,15 @@ impl<S: Shelf> Network<S> {
         ensures { MatchResult result (λ at. index_of_name self.now.config.nodes node.now ≡ Some at) (λ r. (r ≡ Refusal.NoSuchNode) × (index_of_name self.now.config.nodes node.now ≡ None)) }
     {
         self.config.place(node).ok_or(Refusal::NoSuchNode)
+    }
+
+    /// The place of a hosted node, looked for behind the last one first, or [`Refusal::NoSuchNode`].
+    pub(crate) fn next_place(&self, node: &NodeId) -> Result<usize, Refusal>
+        ensures { MatchResult result (λ at. index_of_name self.now.config.nodes node.now ≡ Some at) (λ r. (r ≡ Refusal.NoSuchNode) × (index_of_name self.now.config.nodes node.now ≡ None)) }
+    {
+        self.config
+            .place_from(self.next_node, node)
+            .ok_or(Refusal::NoSuchNode)
     }
 
     /// The place of an open slot, or [`Refusal::SlotNotOpen`].

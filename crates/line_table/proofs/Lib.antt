@@ -1,3 +1,4 @@
 mod Backed
+pub mod GoneRows
 pub mod RunLaws
 pub mod TellsOnce

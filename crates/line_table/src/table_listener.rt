@@ -13,7 +13,7 @@ ghost use Rattle.node_view.specs.Knowing.{IsKnown};
 
 use node_reach::reach;
 use node_store::{Archive, BoxShelf, Places};
-use node_table::Rows;
+use node_table::{Put, Rows};
 use node_view::{Configured, KnownReach, Listener, Own, View};
 use scp_types::{Ballot, Envelope, Kind, Leaders, NodeId};
 use scp_voting::{Claim, Question, Sight};
@@ -108,14 +108,23 @@ impl TableListener {
         }
     }
 
-    /// Files the envelope, and offers it to the table. Behind an error the rows are as they were, but the archive may
-    /// have grown.
+    /// Files the envelope, and offers it to the table. The row that it replaces is let go. Behind an error the rows are
+    /// as they were, but the archive may have grown.
     fn offer(&mut self, alloc: Global, envelope: Envelope) -> Result<(), AllocError>
         ensures offered { OnOk result (self.new ≡ record self.old { rows = table_with_offer self.old.rows envelope }) }
         ensures err { OnErr result (self.new ≡ self.old) }
     {
+        let _single_rows = self.listener.table().rows();
+        let envelope = self.archive.with_shared_slices(envelope);
         let filed = self.archive.put(envelope)?;
-        self.listener.offer(alloc, &self.archive, filed)
+        match self.listener.put(alloc, &self.archive, filed).0 {
+            Put::NoMemory => Err(AllocError),
+            Put::Stale | Put::Added => Ok(()),
+            Put::Replaced(row) => {
+                self.archive.remove(row);
+                Ok(())
+            }
+        }
     }
 
     /// All nodes that the node reaches, ascending, none twice: itself, the names of its configured slices, and the

@@ -1,7 +1,8 @@
 -- Envelopes that were filed.
-use Rattle.std.specs.Prelude.{◌≡◌, ℕ, Bool, List, Option, None, Some, map, slice_get, if◌then◌else◌}
+use Rattle.std.specs.Prelude.{◌≡◌, ◌≢◌, ◌⊎◌, ◌≤◌, ◌+◌, ℕ, Bool, IsTrue, List, Option, None, Some, get_or, map, slice_get, if◌then◌else◌}
 use Rattle.std.specs.List.{All}
 use Rattle.scp_types.specs.Statements.{Sent}
+use Rattle.scp_types.specs.Trees.{Slices}
 use Rattle.node_store.specs.declared.filed.Filed.{Filed}
 
 -- what an archive has at each of its numbers; at some of them nothing
@@ -28,7 +29,35 @@ AreFiled archive fs = All (IsFiled archive) fs
 abbrev pub Keeps : Archived → Archived → Type 0
 Keeps old new = (f : Filed) → IsFiled old f → IsFiled new f
 
+-- all that was filed in the archive before, but for this envelope, is filed still
+abbrev pub KeepsBut : Sent → Archived → Archived → Type 0
+KeepsBut e old new = (f : Filed) → IsFiled old f → sent_of f ≢ e → IsFiled new f
+
 -- what lies at a number, if it is an envelope of one of these slots
 abbrev pub only_of : (ℕ → Bool) → Option Sent → Option Sent
 only_of is_among None = None
 only_of is_among (Some e) = if is_among e.slot then Some e else None
+
+-- the slices of an envelope, if one lies there
+abbrev pub slices_if_any : Option (Option Sent) → Option Slices
+slices_if_any None = None
+slices_if_any (Some None) = None
+slices_if_any (Some (Some e)) = Some e.slices
+
+-- the slices of what an archive has at a number, if an envelope lies there
+abbrev pub filed_slices_at : Archived → ℕ → Option Slices
+filed_slices_at archive n = slices_if_any (slice_get archive n)
+
+-- at both places stands the same number, and it is not 0; behind the end of the list stands 0
+pub record IsSameNumber (numbers : List ℕ) (i j : ℕ) : Type 0 where
+  pub told : get_or numbers i 0 ≢ 0
+  pub same : get_or numbers i 0 ≡ get_or numbers j 0
+
+-- numbers tell slices: envelopes of the same number have the same slices, and no number is greater than the last
+pub record TellSlices (archive : Archived) (numbers : List ℕ) (last : ℕ) : Type 0 where
+  pub same : (i j : ℕ) (s t : Slices) → IsSameNumber numbers i j → filed_slices_at archive i ≡ Some s → filed_slices_at archive j ≡ Some t → s ≡ t
+  pub within : (i : ℕ) → get_or numbers i 0 ≤ last
+
+-- a number for slices: none, one that was not given yet, or that at another place, if the slices there are the same
+abbrev pub IsNumberFor : List ℕ → ℕ → ℕ → Bool → ℕ → Type 0
+IsNumberFor numbers last other is_same n = (n ≡ 0) ⊎ ((n ≡ last + 1) ⊎ (IsTrue is_same × (n ≡ get_or numbers other 0)))

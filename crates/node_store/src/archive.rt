@@ -1,11 +1,12 @@
 //! The envelopes of one network, by number.
 
-ghost use Rattle.std.specs.Prelude.{◌≡◌, ◌⊎◌, ◌<◌, ◌++◌, ◌∷◌, [], IfOk, None, OnErr, Some, is_some, length, map, slice_get, slice_index_or, slice_set, vec_capacity, vec_len};
-ghost use Rattle.node_store.specs.Archives.{IsFiled, Keeps, only_of, sent_of};
+ghost use Rattle.std.specs.Prelude.{◌≡◌, ◌↔◌, ◌⊎◌, ◌<◌, ◌++◌, ◌∷◌, [], IfOk, IfSome, IsTrue, None, OnErr, Some, is_some, length, map, slice_get, slice_index_or, slice_set, vec_capacity, vec_len};
+ghost use Rattle.node_store.specs.Archives.{IsFiled, Keeps, KeepsBut, filed_slices_at, only_of, sent_of};
 
 use crate::filed::Filed;
 use crate::shelf::{Places, Shelf, Slots};
-use scp_types::Envelope;
+use crate::slice_numbers::{SliceNumbers, fingerprint};
+use scp_types::{Envelope, Nested};
 use std::alloc::{AllocError, Global};
 use std::marker::Model;
 use std::snapshot::Snapshot;
@@ -16,13 +17,15 @@ use std::snapshot::Snapshot;
 /// its slot is let go, and then its number may be given again.
 ///
 /// Each place is one of this shelf: for example, of three envelopes that were filed, number 1 is the place
-/// where the second lies there.
+/// where the second lies there. Slices that are told by the same number are the same.
 #[derive(Drop)]
 pub struct Archive<S: Places> {
     shelf: S,
     places: Vec<Option<S::Place>>,
     free: Vec<usize>,
     recent: usize,
+    told: SliceNumbers,
+    alloc: Global,
 }
 
 impl<S: Places> Model for Archive<S> {
@@ -30,7 +33,7 @@ impl<S: Places> Model for Archive<S> {
     ghost use Rattle.std.specs.Prelude.{IfSome, map, option_map};
     ghost use Rattle.std.specs.List.{All};
     ghost use Rattle.scp_types.specs.Trees.{members_code};
-    ghost use Rattle.node_store.specs.Archives.{Archived};
+    ghost use Rattle.node_store.specs.Archives.{Archived, TellSlices};
 
     ghost Value = { Archived };
 
@@ -38,7 +41,7 @@ impl<S: Places> Model for Archive<S> {
 
     ghost view = { λ a. map (option_map S.put_there) a.places.items };
 
-    ghost invariant = { λ a. All (λ o. IfSome o (S.is_of a.shelf)) a.places.items };
+    ghost invariant = { λ a. All (λ o. IfSome o (S.is_of a.shelf)) a.places.items × TellSlices (map (option_map S.put_there) a.places.items) a.told.numbers.items a.told.last };
 }
 
 impl<S: Places> Archive<S> {
@@ -51,6 +54,8 @@ impl<S: Places> Archive<S> {
             places: Vec::new(alloc),
             free: Vec::new(alloc),
             recent: 0,
+            told: SliceNumbers::new(alloc),
+            alloc,
         }
     }
 
@@ -76,6 +81,69 @@ impl<S: Places> Archive<S> {
         }
     }
 
+    /// Whether both envelopes have the same slices. Mostly it is told by numbers, and no name is compared. It takes no
+    /// memory.
+    pub fn has_same_slices(&self, one: &Filed, other: &Filed) -> bool
+        requires one { IsFiled self.now one.now }
+        requires other { IsFiled self.now other.now }
+        ensures { IsTrue result ↔ (sent_of one.now).slices ≡ (sent_of other.now).slices }
+    {
+        self.tells_same_slices(one, other)
+            || self.has_slices_at(one.number, self.read(other).slices())
+    }
+
+    /// Whether numbers tell that both envelopes have the same slices. If they do not, these may still be the same. No
+    /// name is compared, and it takes no memory.
+    pub fn tells_same_slices(&self, one: &Filed, other: &Filed) -> bool
+        requires one { IsFiled self.now one.now }
+        requires other { IsFiled self.now other.now }
+        ensures { IsTrue result → (sent_of one.now).slices ≡ (sent_of other.now).slices }
+    {
+        self.told.are_same(one.number, other.number)
+    }
+
+    /// Whether an envelope with these slices lies at this number.
+    fn has_slices_at(&self, number: usize, slices: &Nested) -> bool
+        ensures { IsTrue result ↔ filed_slices_at self.now number ≡ Some slices.now }
+    {
+        if self.places.len() <= number {
+            return false;
+        }
+        match &self.places[number] {
+            Some(place) => self.shelf.read(place).slices().is_same(slices),
+            None => false,
+        }
+    }
+
+    /// The envelope, with slices that it shares with one that was filed, if the same slices are found there. So bytes
+    /// that come one by one keep their slices once. Without memory for that, it is as it came.
+    pub fn with_shared_slices(&self, envelope: Envelope) -> Envelope
+        ensures { result ≡ envelope }
+    {
+        let head = self.told.head(fingerprint(envelope.slices().set()));
+        match self.copy_of_slices(head, envelope.slices()) {
+            Some(slices) => with_slices(self.alloc, envelope, slices),
+            None => envelope,
+        }
+    }
+
+    /// A copy of the slices at this number, if an envelope with these slices lies there.
+    fn copy_of_slices(&self, number: usize, slices: &Nested) -> Option<Nested>
+        ensures { IfSome result (λ n. n ≡ slices.now) }
+    {
+        match self.places.get(number) {
+            Some(Some(place)) => {
+                let there = self.shelf.read(place).slices();
+                if there.is_same(slices) {
+                    there.try_copy().ok()
+                } else {
+                    None
+                }
+            }
+            _ => None,
+        }
+    }
+
     /// Whether at least half as many envelopes were filed since others were let go as there are numbers, free ones
     /// included. If they are let go only then, each that is filed costs a look or two, however many slots are closed
     /// one by one.
@@ -83,16 +151,26 @@ impl<S: Places> Archive<S> {
         self.recent >= self.places.len() / 2
     }
 
-    /// Lets go what was filed for all slots but these. It cannot fail: a number that is not noted as free, because it
-    /// is out of memory, is found again the next time.
+    /// Lets go what was filed for all slots but these, and what was told of slices. It cannot fail: a number that is not
+    /// noted as free, because it is out of memory, is found again the next time.
     pub fn let_go<T: Slots>(&mut self, slots: &T)
         ensures { self.new ≡ map (only_of (T.is_among slots.now)) self.old }
     {
         self.recent = 0;
+        self.told = SliceNumbers::new(self.alloc);
         self.free.clear();
         for number in 0..self.places.len() {
             self.let_go_at(number, slots);
         }
+    }
+
+    /// Lets go one envelope: its number may be given again. All others stay.
+    pub fn remove(&mut self, filed: Filed)
+        requires { IsFiled self.old filed }
+        ensures { KeepsBut (sent_of filed) self.old self.new }
+    {
+        self.places[filed.number] = None;
+        let _ = self.free.push(filed.number);
     }
 
     /// What has this number is let go, if it is not of one of these slots.
@@ -127,6 +205,9 @@ impl<S: Shelf> Archive<S> {
         ensures err { OnErr result (self.new ≡ self.old) }
         ensures kept { Keeps self.old self.new }
     {
+        let fingerprint = fingerprint(envelope.slices().set());
+        let head = self.told.head(fingerprint);
+        let is_same = self.has_slices_at(head, envelope.slices());
         if self.places.reserve(1).is_err() {
             drop(envelope);
             // Memory: the list of places has no room.
@@ -138,7 +219,23 @@ impl<S: Shelf> Archive<S> {
         let number = vacant(&mut self.places, &mut self.free);
         self.places[number] = Some(place);
         self.recent = self.recent.saturating_add(1);
+        self.told
+            .note(self.alloc, number, fingerprint, head, is_same);
         Ok(Filed { number, put })
+    }
+}
+
+/// The envelope with these slices, which are the same. Without memory for it, it is as it came.
+fn with_slices(alloc: Global, envelope: Envelope, slices: Nested) -> Envelope
+    requires { slices ≡ envelope.slices }
+    ensures { result ≡ envelope }
+{
+    match envelope.body().try_copy(alloc) {
+        Err(_) => {
+            drop(slices);
+            envelope
+        }
+        Ok(body) => Envelope::of(*envelope.sender(), envelope.slot(), slices, body),
     }
 }
 

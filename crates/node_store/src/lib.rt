@@ -6,6 +6,7 @@ mod box_shelf;
 mod filed;
 mod shared;
 mod shelf;
+mod slice_numbers;
 
 pub use archive::Archive;
 pub use box_shelf::BoxShelf;

@@ -212,6 +212,36 @@ impl Table {
         }
     }
 
+    /// Whether the row at this place has the slices of the envelope. Behind the last row there is none. It takes no
+    /// memory.
+    pub fn has_slices_at<S: node_store::Places>(
+        &self,
+        archive: &Archive<S>,
+        place: usize,
+        envelope: &Filed,
+    ) -> bool
+        requires rows { AreFiled archive.now self.now }
+        requires envelope { IsFiled archive.now envelope.now }
+        ensures { IsTrue result ↔ option_map (λ e. e.slices) (slice_get (sents_of self.now) place) ≡ Some (sent_of envelope.now).slices }
+    {
+        place < self.rows.len() && archive.has_same_slices(&self.rows[place], envelope)
+    }
+
+    /// Whether numbers tell that the row at this place has the slices of the envelope. If they do not, it may still have
+    /// them. No name is compared, and it takes no memory.
+    pub fn tells_slices_at<S: node_store::Places>(
+        &self,
+        archive: &Archive<S>,
+        place: usize,
+        envelope: &Filed,
+    ) -> bool
+        requires rows { AreFiled archive.now self.now }
+        requires envelope { IsFiled archive.now envelope.now }
+        ensures { IsTrue result → option_map (λ e. e.slices) (slice_get (sents_of self.now) place) ≡ Some (sent_of envelope.now).slices }
+    {
+        place < self.rows.len() && archive.tells_same_slices(&self.rows[place], envelope)
+    }
+
     /// The senders with a row, in ascending order, each once. It takes no memory.
     pub fn senders(&self) -> SenderNames<'_>
         ensures { result ≡ senders (sents_of self.now) }

@@ -60,6 +60,12 @@ abbrev pub IsFoundAmong : List ℕ → ℕ → Option Standing → Type 0
 IsFoundAmong nodes u None = among nodes u ≡ false
 IsFoundAmong nodes u (Some s) = (s.node < length nodes) × (get_or nodes s.node 0 ≡ u)
 
+-- the node whose row was set last has, by its row of the envelope's kind, the envelope's slices
+abbrev pub IsAsLatest : ℕ → Slices → List Sent → Sent → Region → Type 0
+IsAsLatest own configured table e r =
+    (r.latest < length r.nodes.items)
+    × (slices_by own configured table (kind_of e.body) (get_or r.nodes.items r.latest 0) ≡ Some e.slices)
+
 -- what the configuration and the table give: the reach, the node's own place, what blocks it, and of all that are
 -- reached the slices, in forms whose numbers are below those to come, and where their rows stand
 pub record IsRegion (own : ℕ) (configured : Slices) (table : List Sent) (r : Region) : Type 0 where

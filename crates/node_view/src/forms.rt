@@ -9,7 +9,7 @@ ghost use Rattle.node_view.specs.Forms.{AreAllForms, ArePart, IsFormOf, IsFormer
 
 use crate::reached::ReachedRows;
 use node_store::Places;
-use scp_bits::{Form, compile, has_places, place_in_nodes, relocate};
+use scp_bits::{Form, place_in_nodes};
 use scp_types::{Nested, NodeId};
 use std::alloc::{AllocError, Global};
 
@@ -32,7 +32,7 @@ pub(crate) struct Former<'a> {
 
 impl<'a> Former<'a> {
     /// The form of a node in that region, if it has one and its rows are still the same.
-    fn form_of(&self, node: &NodeId) -> Option<&'a Form>
+    fn kept_form(&self, node: &NodeId) -> Option<&'a Form>
         requires { IsAscending self.now.nodes.now }
         ensures { IfSome result (λ f. IsFormOf self.now node.now f.now) }
     {
@@ -139,14 +139,11 @@ impl<'a, S: Places> SlicesInReach<'a, S> {
     {
         let nodes = self.rows.nodes();
         let Some(former) = &self.former else {
-            return new_form(alloc, slices, nodes, place);
+            return Form::compile(alloc, place, slices.set(), nodes);
         };
-        match former.form_of(&nodes[place]) {
-            None => new_form(alloc, slices, nodes, place),
-            Some(form) => {
-                let set = relocate(alloc, form.set(), former.places)?;
-                Form::new(alloc, place, set)
-            }
+        match former.kept_form(&nodes[place]) {
+            None => Form::compile(alloc, place, slices.set(), nodes),
+            Some(form) => form.relocate(alloc, place, former.places),
         }
     }
 
@@ -168,7 +165,7 @@ impl<'a, S: Places> SlicesInReach<'a, S> {
                 let form = form.try_copy()?;
                 Ok(Some(form))
             }
-            None => new_form_within(alloc, slices, self.rows.nodes(), number),
+            None => Form::compile_within(alloc, number, slices.set(), self.rows.nodes()),
         }
     }
 
@@ -217,37 +214,7 @@ impl<'a, S: Places> SlicesInReach<'a, S> {
     }
 }
 
-/// A new form of slices, of this number, if they name only these nodes. An error says that it is out of memory.
-fn new_form_within(
-    alloc: Global,
-    slices: &Nested,
-    nodes: &[NodeId],
-    number: usize,
-) -> Result<Option<Form>, AllocError>
-    requires { IsAscending nodes.now }
-    ensures { IfOk result (λ o. IfSome o (λ f. (f.number ≡ number) × IsCompiled false nodes.now slices.now f.set × IsTrue (within (names slices.now) (among nodes.now)))) }
-{
-    if !has_places(slices.set(), nodes) {
-        return Ok(None);
-    }
-    let form = new_form(alloc, slices, nodes, number)?;
-    Ok(Some(form))
-}
-
-fn new_form(
-    alloc: Global,
-    slices: &Nested,
-    nodes: &[NodeId],
-    number: usize,
-) -> Result<Form, AllocError>
-    requires { IsAscending nodes.now }
-    ensures { IfOk result (λ f. (f.number ≡ number) × IsCompiled false nodes.now slices.now f.set) }
-{
-    let set = compile(alloc, slices.set(), nodes, false)?;
-    Form::new(alloc, number, set)
-}
-
-fn form_in(forms: &[Option<Form>], place: usize) -> Option<&Form>
+pub(crate) fn form_in(forms: &[Option<Form>], place: usize) -> Option<&Form>
     ensures { IfSome result (λ f. (place < length forms.now) × (get_or forms.now place None ≡ Some f.now)) }
 {
     match forms.get(place) {

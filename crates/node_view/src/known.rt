@@ -14,10 +14,10 @@ ghost use Rattle.node_table.specs.Places.{place_of_row};
 ghost use Rattle.node_view.specs.declared.standing.Standing.{Standing};
 ghost use Rattle.scp_types.specs.Statements.{Sent, kind_of};
 ghost use Rattle.node_view.specs.Knowing.{IsKnown, IsTaken};
-ghost use Rattle.node_view.specs.Regions.{IsFoundAmong, IsKeptRegion, IsOfExtent};
+ghost use Rattle.node_view.specs.Regions.{IsAsLatest, IsFoundAmong, IsKeptRegion, IsOfExtent};
 
 use crate::configured::Configured;
-use crate::standing::{Standing, has_slices};
+use crate::standing::Standing;
 use crate::{Change, Extent, KnownReach, NewReach, Region, RegionEntry, Taken};
 use node_store::{Archive, Filed, Places};
 use node_table::{Put, Rows, Table};
@@ -155,7 +155,7 @@ fn standing_of<S: Places>(
         None => None,
         Some(known) => {
             let envelope = row.archive.read(&row.envelope);
-            known.region.standing(envelope)
+            known.region.standing(known.next, envelope)
         }
     }
 }
@@ -200,36 +200,66 @@ fn effect_of<S: Places>(
     requires row { IfSome there.now (λ s. place_of_row (sents_of table.now) (sent_of row.now.envelope).sender (kind_of (sent_of row.now.envelope).body) ≡ s.row) }
     ensures { IsEffect configured.now (sents_of table.now) (sent_of row.now.envelope) (region_of (reach_in known.now)) result }
 {
-    match known {
-        None => Effect::Nothing,
-        Some(known) => {
-            let rows = Rows::of(table, row.archive);
-            let envelope = row.archive.read(&row.envelope);
-            effect_on(alloc, configured, &known.region, &rows, envelope, *there)
+    let Some(known) = known else {
+        return Effect::Nothing;
+    };
+    let Some(there) = there else {
+        return Effect::Nothing;
+    };
+    if let Some(place) = there.row.get() {
+        if table.has_slices_at(row.archive, place, &row.envelope) {
+            return Effect::Nothing;
         }
+    }
+    let is_as_latest = is_as_latest(&known.region, table, row);
+    let rows = Rows::of(table, row.archive);
+    let envelope = row.archive.read(&row.envelope);
+    effect_on(
+        alloc,
+        configured,
+        &known.region,
+        &rows,
+        envelope,
+        *there,
+        is_as_latest,
+    )
+}
+
+/// Whether the row that was set last is another node's, and numbers tell that its row of the envelope's kind has the
+/// envelope's slices. It takes no memory.
+fn is_as_latest<S: Places>(region: &Region, table: &Table, row: &FiledRow<'_, S>) -> bool
+    requires rows { AreFiled row.now.archive.now table.now }
+    requires envelope { IsFiled row.now.archive.now row.now.envelope }
+    ensures { IsTrue result → (c : Configured) → KnowsRegion c (sents_of table.now) (Some region.now) → IsAsLatest c.name c.slices (sents_of table.now) (sent_of row.now.envelope) region.now }
+{
+    if region.latest == region.place {
+        return false;
+    }
+    let kind = row.archive.read(&row.envelope).body().kind();
+    match region.row_there(kind, region.latest).get() {
+        None => false,
+        Some(place) => table.tells_slices_at(row.archive, place, &row.envelope),
     }
 }
 
+/// What an envelope does to a region, if its sender stands there. Its slices may be any; those of the node whose row was
+/// set last are not compared if they are known to be the same.
 fn effect_on<S: Places>(
     alloc: Global,
     configured: &Configured,
     region: &Region,
     rows: &Rows<'_, S>,
     envelope: &Envelope,
-    there: Option<Standing>,
+    there: Standing,
+    is_as_latest: bool,
 ) -> Effect
     requires ascending { IsAscending region.now.nodes.items }
-    requires among { IsFoundAmong region.now.nodes.items envelope.now.sender there }
-    requires row { IfSome there (λ s. place_of_row rows.now envelope.now.sender (kind_of envelope.now.body) ≡ s.row) }
+    requires among { IsFoundAmong region.now.nodes.items envelope.now.sender (Some there) }
+    requires row { place_of_row rows.now envelope.now.sender (kind_of envelope.now.body) ≡ there.row }
+    requires latest { IsTrue is_as_latest → IsAsLatest configured.now.name configured.now.slices rows.now envelope.now region.now }
     ensures { IsEffect configured.now rows.now envelope.now (Some region.now) result }
 {
-    let Some(there) = there else {
-        return Effect::Nothing;
-    };
-    if has_slices(rows.row_where(there.row), envelope.slices()) {
-        return Effect::Nothing;
-    }
-    match region.change_at(alloc, configured.own(), rows, envelope, there) {
+    match region.change_at(alloc, configured.own(), rows, envelope, there, is_as_latest) {
         Ok(Change::Sets(entry)) => Effect::Sets(entry),
         Ok(Change::Reach(extent)) => Effect::Reach(extent),
         Err(_) => Effect::Forgets,
@@ -317,6 +347,9 @@ fn hear<S: Places>(
             before: row_before(heard.archive, heard.put),
         };
         known.hear(alloc, configured.own(), &rows, &taken, *there);
+        if let Some(there) = there {
+            known.next = there.node.saturating_add(1);
+        }
     }
 }
 

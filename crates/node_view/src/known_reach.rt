@@ -30,6 +30,8 @@ pub struct KnownReach {
     /// Whether it was asked for since it was found or changed. So rows that change the reach cost no more than
     /// questions do.
     pub is_asked: bool,
+    /// Behind the place of the sender whose row came last: where the next one is looked for first.
+    pub next: usize,
 }
 
 /// A row that a table took, and the row that it replaced, if there was one.
@@ -55,6 +57,7 @@ impl KnownReach {
             ballots: None,
             values: None,
             is_asked: false,
+            next: 0,
         })
     }
 
@@ -68,6 +71,7 @@ impl KnownReach {
             ballots: None,
             values: None,
             is_asked: false,
+            next: 0,
         })
     }
 

@@ -12,7 +12,7 @@ use crate::configured::Configured;
 use crate::known::{FiledRow, copy_of_known, put_row, take_known};
 use node_store::{Archive, Filed, Places};
 use node_table::{Put, Rows, Table};
-use scp_slices::is_among;
+use scp_bits::place_near;
 use scp_types::{Nested, NodeId};
 use std::alloc::{AllocError, Global};
 use std::marker::Model;
@@ -104,7 +104,7 @@ impl Listener {
     {
         match &self.known {
             None => false,
-            Some(known) => !is_among(&known.region.nodes, sender),
+            Some(known) => place_near(&known.region.nodes, known.next, sender).is_none(),
         }
     }
 

@@ -14,7 +14,7 @@ ghost use Rattle.node_view.specs.Words.{IsEmptySet};
 use crate::reached::ReachedRows;
 use crate::words::{FEW_WORDS, first_place, join_places};
 use node_store::Places;
-use scp_bits::{Form, Passing, add_place, is_met_by};
+use scp_bits::{Form, Passing, add_place};
 use scp_voting::Question;
 
 /// The reached nodes, each to be asked whether it passes a question. The node itself passes if its position does,
@@ -57,7 +57,7 @@ impl<'a, S: Places> Supporters<'a, S> {
     {
         match form {
             None => false,
-            Some(form) => is_met_by(form.set(), self),
+            Some(form) => form.is_met_by(self),
         }
     }
 

@@ -11,10 +11,10 @@ ghost use Rattle.scp_spec.specs.Sets.{IsAscending, among};
 ghost use Rattle.scp_bits.specs.Searching.{AreCompiled};
 ghost use Rattle.node_table.specs.Places.{place_of_row};
 ghost use Rattle.node_view.specs.Forms.{AreAllForms, IsFormerOf, IsFoundWithin};
-ghost use Rattle.node_view.specs.Regions.{AreRowPlaces, IsChange, IsCopy, IsEntry, IsFormerRegion, IsPlaced, IsRegion, forms_of, row_places, row_places_of_kind, rows_of};
+ghost use Rattle.node_view.specs.Regions.{AreRowPlaces, IsAsLatest, IsChange, IsCopy, IsEntry, IsFormerRegion, IsPlaced, IsRegion, forms_of, row_places, row_places_of_kind, rows_of};
 
 use crate::changing::Extent;
-use crate::forms::{Candidates, Former, SlicesInReach};
+use crate::forms::{Candidates, Former, SlicesInReach, form_in};
 use crate::own::Own;
 use crate::reached::ReachedRows;
 use crate::standing::Standing;
@@ -154,10 +154,11 @@ impl Region {
             return Ok(Change::Reach(Extent::Other));
         };
         let row = table.place(sender, envelope.body().kind());
-        self.change_at(alloc, own, table, envelope, Standing { node, row })
+        self.change_at(alloc, own, table, envelope, Standing { node, row }, false)
     }
 
-    /// What the envelope changes, as [`Region::change_by`] says, if it is known where its sender stands.
+    /// What the envelope changes, as [`Region::change_by`] says, if it is known where its sender stands. No slices are
+    /// compared if they are known to be those of the node whose row was set last.
     pub(crate) fn change_at<S: Places>(
         &self,
         alloc: Global,
@@ -165,11 +166,13 @@ impl Region {
         table: &Rows<'_, S>,
         envelope: &Envelope,
         there: Standing,
+        is_as_latest: bool,
     ) -> Result<Change, AllocError>
         requires ascending { IsAscending self.now.nodes.items }
         requires within { there.node < length self.now.nodes.items }
         requires sender { get_or self.now.nodes.items there.node 0 ≡ envelope.now.sender }
         requires row { place_of_row table.now envelope.now.sender (kind_of envelope.now.body) ≡ there.row }
+        requires latest { IsTrue is_as_latest → IsAsLatest own.name.now own.slices.now table.now envelope.now self.now }
         ensures { IfOk result (IsChange own.entry.name.now own.entry.slices.now table.now envelope.now self.now) }
     {
         if there.node == self.place {
@@ -182,7 +185,7 @@ impl Region {
         let Some(numbers) = self.numbers.checked_add(1) else {
             return Ok(Change::Reach(Extent::Other));
         };
-        let found = self.form_for(alloc, own, table, envelope)?;
+        let found = self.form_for(alloc, own, table, envelope, is_as_latest)?;
         let Some(form) = found else {
             return Ok(Change::Reach(Extent::Wider));
         };
@@ -196,19 +199,27 @@ impl Region {
     }
 
     /// The compiled form of the envelope's slices, for the list of its kind, if they name only reached nodes. It is
-    /// that of the node itself or of the row that was set last if their slices are the same, or else a new one. An
-    /// error says that it is out of memory.
+    /// that of the node itself or of the row that was set last if their slices are the same, or else a new one. If
+    /// they are known to be the latter's, none are compared. An error says that it is out of memory.
     fn form_for<S: Places>(
         &self,
         alloc: Global,
         own: Own<'_>,
         table: &Rows<'_, S>,
         envelope: &Envelope,
+        is_as_latest: bool,
     ) -> Result<Option<Form>, AllocError>
-        requires { IsAscending self.now.nodes.items }
+        requires ascending { IsAscending self.now.nodes.items }
+        requires latest { IsTrue is_as_latest → IsAsLatest own.name.now own.slices.now table.now envelope.now self.now }
         ensures { IfOk result (λ o. IfSome o (IsFoundWithin self.now.nodes.items (slices_by own.entry.name.now own.entry.slices.now table.now (kind_of envelope.now.body)) (forms_of (kind_of envelope.now.body) self.now) self.now.numbers envelope.now.slices)) }
     {
         let kind = envelope.body().kind();
+        if is_as_latest {
+            if let Some(form) = form_in(self.forms(kind), self.latest) {
+                let form = form.try_copy()?;
+                return Ok(Some(form));
+            }
+        }
         let rows = ReachedRows::by_look_up(alloc, &self.nodes, table, kind);
         let reached = SlicesInReach {
             own: own.name,

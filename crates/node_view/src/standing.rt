@@ -1,6 +1,6 @@
 //! Where the sender of an envelope stands.
 
-ghost use Rattle.std.specs.Prelude.{◌≡◌, ◌↔◌, IfSome, IsTrue, List, None, Some, get_or, option_map};
+ghost use Rattle.std.specs.Prelude.{◌≡◌, IfSome, List, None, get_or};
 ghost use Rattle.node_table.specs.Places.{place_of_row};
 ghost use Rattle.node_view.specs.Regions.{IsFoundAmong, row_places, rows_of};
 ghost use Rattle.scp_spec.specs.Sets.{IsAscending};
@@ -8,8 +8,8 @@ ghost use Rattle.scp_types.specs.Statements.{Sent, kind_of};
 
 use crate::Region;
 use node_table::RowPlace;
-use scp_bits::place_in_nodes;
-use scp_types::{Envelope, Kind, Nested};
+use scp_bits::place_near;
+use scp_types::{Envelope, Kind};
 
 /// Where a reached node stands among the reached ones, and where its row of one kind stands in the table.
 #[derive(Clone, Copy, Debug, PartialEq, Eq)]
@@ -19,14 +19,14 @@ pub struct Standing {
 }
 
 impl Region {
-    /// Where the sender of an envelope stands, if it is reached, and its row of the envelope's kind. It costs one search
-    /// among the nodes, and takes no memory.
-    pub fn standing(&self, envelope: &Envelope) -> Option<Standing>
+    /// Where the sender of an envelope stands, if it is reached, and its row of the envelope's kind. It is looked for at
+    /// the place `first`, and else costs one search among the nodes. It takes no memory.
+    pub fn standing(&self, first: usize, envelope: &Envelope) -> Option<Standing>
         requires { IsAscending self.now.nodes.items }
         ensures among { IsFoundAmong self.now.nodes.items envelope.now.sender result }
         ensures row { (table : List Sent) → rows_of (kind_of envelope.now.body) self.now ≡ row_places table (kind_of envelope.now.body) self.now.nodes.items → IfSome result (λ s. place_of_row table envelope.now.sender (kind_of envelope.now.body) ≡ s.row) }
     {
-        match place_in_nodes(&self.nodes, envelope.sender()) {
+        match place_near(&self.nodes, first, envelope.sender()) {
             None => None,
             Some(node) => {
                 let row = self.row_there(envelope.body().kind(), node);
@@ -36,7 +36,7 @@ impl Region {
     }
 
     /// Where the row of a kind stands that the node at this place has, if it has one.
-    fn row_there(&self, kind: Kind, node: usize) -> RowPlace
+    pub(crate) fn row_there(&self, kind: Kind, node: usize) -> RowPlace
         ensures { result ≡ get_or (rows_of kind self.now) node None }
     {
         let rows = match kind {
@@ -47,15 +47,5 @@ impl Region {
             None => RowPlace::none(),
             Some(row) => *row,
         }
-    }
-}
-
-/// Whether there is a row, and it has these slices.
-pub(crate) fn has_slices(row: Option<&Envelope>, slices: &Nested) -> bool
-    ensures { IsTrue result ↔ option_map (λ r. r.now.slices) row.entry ≡ Some slices.now }
-{
-    match row {
-        None => false,
-        Some(row) => row.slices().is_same(slices),
     }
 }

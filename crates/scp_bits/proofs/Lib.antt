@@ -7,3 +7,4 @@ pub mod Clearing
 pub mod Tallies
 pub mod Moves
 pub mod PassingWords
+pub mod FewWords

@@ -1,5 +1,6 @@
 pub mod Places
 pub mod Met
+pub mod Few
 pub mod Moving
 pub mod Searching
 pub mod Answering

@@ -6,7 +6,6 @@ ghost use Rattle.scp_bits.specs.Met.{has_needed};
 
 use crate::form::Form;
 use crate::places::{add_place, has_place};
-use crate::set::is_met;
 
 /// How many words of 64 bits hold the numbers of the forms whose answers are kept. A form of a greater number is asked
 /// each time.
@@ -52,7 +51,7 @@ impl Answers {
         if has_place(&self.unmet, number) {
             return false;
         }
-        let met = is_met(form.set(), places);
+        let met = form.is_met(places);
         if met {
             note(&mut self.met, number);
         } else {

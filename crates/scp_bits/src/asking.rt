@@ -20,8 +20,8 @@ pub trait Passing {
 /// How a count stands: `missing` more have to pass, of at most `left` that are not asked yet.
 #[derive(Clone, Copy)]
 pub(crate) struct Tally {
-    missing: usize,
-    left: usize,
+    pub missing: usize,
+    pub left: usize,
 }
 
 impl Tally {
@@ -69,7 +69,7 @@ pub fn is_met_by<P: Passing>(set: &CompiledSet, who: &P) -> bool
 }
 
 /// The tally once the places of masks have been asked, as far as they may decide.
-fn after_masks<P: Passing>(start: Tally, masks: &[Mask], who: &P) -> Tally
+pub(crate) fn after_masks<P: Passing>(start: Tally, masks: &[Mask], who: &P) -> Tally
     ensures { (ws : List ℕ) → ArePassing (P.passing who.now) ws → IsAsked (places_in masks.now ws) (count_in masks.now) start result }
 {
     let mut tally = start;

@@ -1,50 +1,151 @@
-//! Compiled sets that a list keeps once.
+//! Compiled slices that a list keeps.
 
-ghost use Rattle.std.specs.Prelude.{◌≡◌, IfOk};
+ghost use Rattle.std.specs.Prelude.{◌≡◌, ℕ, List, IfOk, IfSome, IsTrue, false};
+ghost use Rattle.scp_types.specs.Trees.{Slices, names_in};
+ghost use Rattle.scp_spec.specs.Satisfaction.{names};
+ghost use Rattle.scp_spec.specs.Sets.{AreWithin, IsAscending, among, within};
+ghost use Rattle.scp_bits.specs.Asking.{ArePassing};
+ghost use Rattle.scp_bits.specs.Few.{AreMetAlike, few_set};
+ghost use Rattle.scp_bits.specs.Met.{IsCompiled, has_needed};
+ghost use Rattle.scp_bits.specs.Moving.{AreMoved, IsMoved};
 
-use crate::set::CompiledSet;
+use crate::asking::{Passing, is_met_by};
+use crate::compiling::{compile, has_places};
+use crate::few::FewPlaces;
+use crate::moving::relocate_set;
+use crate::set::{CompiledSet, is_met};
+use scp_types::{NodeId, SliceSet};
 use std::alloc::{AllocError, Global};
 use std::marker::Model;
 use std::sync::Arc;
 
-/// A compiled set, which copies share, and a number. Who keeps a list of forms gives those of one set one number, and
+/// The compiled form of slices, and a number. Who keeps a list of forms gives those of the same slices one number, and
 /// others another; so two forms of one list are told apart by their numbers. No contract here says that numbers agree.
 #[derive(Drop)]
 pub struct Form {
     number: usize,
-    set: Arc<CompiledSet, Global>,
+    set: FormSet,
+}
+
+/// The set of a form. Most sets are few places, which lie in one piece: a list of such forms is read from one end to the
+/// other. Copies share any other one.
+#[derive(Drop)]
+pub(crate) enum FormSet {
+    Few(FewPlaces),
+    Shared(Arc<CompiledSet, Global>),
 }
 
 impl Model for Form {
-    ghost use Rattle.std.specs.Arc.{arc_value};
+    ghost use Rattle.scp_bits.specs.Few.{set_in};
     ghost use Rattle.scp_bits.specs.Places.{Numbered, numbered_code};
 
     ghost Value = { Numbered };
 
     ghost coded = { numbered_code };
 
-    ghost view = { λ a. record { number = a.number; set = arc_value a.set } };
+    ghost view = { λ a. record { number = a.number; set = set_in a.set } };
 }
 
 impl Form {
-    /// The form of this number, of this set. An error says that it is out of memory.
-    pub fn new(alloc: Global, number: usize, set: CompiledSet) -> Result<Form, AllocError>
-        ensures { IfOk result (λ f. f ≡ record { number = number; set = set }) }
+    /// The form of this number, of slices that are compiled against a list of nodes, which are ascending, none twice.
+    /// Names that are not among them are in no set of nodes that meets it. An error says that it is out of memory.
+    pub fn compile(
+        alloc: Global,
+        number: usize,
+        set: &SliceSet,
+        nodes: &[NodeId],
+    ) -> Result<Form, AllocError>
+        requires { IsAscending nodes.now }
+        ensures { IfOk result (λ f. (f.number ≡ number) × IsCompiled false nodes.now set.now f.set) }
     {
-        Ok(Form {
-            number,
-            set: Arc::new(alloc, set)?,
-        })
+        match FewPlaces::compile(set, nodes) {
+            Some(few) => Ok(Form::few(number, few)),
+            None => Form::of(alloc, number, compile(alloc, set, nodes, false)?),
+        }
     }
 
-    /// A copy, which shares the set. It takes no memory; an error says that the set has too many owners.
+    /// As [`Form::compile`], if the slices name only these nodes; else there is none.
+    pub fn compile_within(
+        alloc: Global,
+        number: usize,
+        set: &SliceSet,
+        nodes: &[NodeId],
+    ) -> Result<Option<Form>, AllocError>
+        requires { IsAscending nodes.now }
+        ensures number { IfOk result (λ o. IfSome o (λ f. f.number ≡ number)) }
+        ensures compiled { IfOk result (λ o. IfSome o (λ f. IsCompiled false nodes.now set.now f.set)) }
+        ensures within { IfOk result (λ o. IfSome o (λ f. IsTrue (within (names_in set.now.members) (among nodes.now)))) }
+    {
+        if let Some(few) = FewPlaces::compile(set, nodes) {
+            return Ok(Some(Form::few(number, few)));
+        }
+        if !has_places(set, nodes) {
+            return Ok(None);
+        }
+        let set = compile(alloc, set, nodes, false)?;
+        let form = Form::of(alloc, number, set)?;
+        Ok(Some(form))
+    }
+
+    fn few(number: usize, few: FewPlaces) -> Form
+        ensures { result ≡ record { number = number; set = few_set few } }
+    {
+        let set = FormSet::Few(few);
+        Form { number, set }
+    }
+
+    /// The form of this number, of a set with which the same places meet it. An error says that it is out of memory.
+    fn of(alloc: Global, number: usize, set: CompiledSet) -> Result<Form, AllocError>
+        ensures { IfOk result (λ f. (f.number ≡ number) × AreMetAlike set f.set) }
+    {
+        let set = match FewPlaces::of(&set) {
+            Some(few) => FormSet::Few(few),
+            None => FormSet::Shared(Arc::new(alloc, set)?),
+        };
+        Ok(Form { number, set })
+    }
+
+    /// A copy. It takes no memory; an error says that a shared set has too many owners.
     pub fn try_copy(&self) -> Result<Form, AllocError>
         ensures { IfOk result (λ f. f ≡ self.now) }
     {
+        let set = match &self.set {
+            FormSet::Few(few) => FormSet::Few(*few),
+            FormSet::Shared(set) => FormSet::Shared(Arc::try_clone(set)?),
+        };
         Ok(Form {
             number: self.number,
-            set: Arc::try_clone(&self.set)?,
+            set,
         })
+    }
+
+    /// The form of this number with each place moved to the one that stands at it in the list. A place that is not in
+    /// the list is left out.
+    ///
+    /// Let these be the places that the nodes have in another list, as far as they are in it. Let the slices name only
+    /// nodes that are in both. Then the form becomes that of the slices against the other list: no name is searched
+    /// for. An error says that it is out of memory.
+    pub fn relocate(
+        &self,
+        alloc: Global,
+        number: usize,
+        places: &[usize],
+    ) -> Result<Form, AllocError>
+        ensures number { IfOk result (λ f. f.number ≡ number) }
+        ensures compiled { IfOk result (λ f. (us vs : List ℕ) (q : Slices) → AreMoved us vs places.now → AreWithin (among (names q)) (among us) → AreWithin (among (names q)) (among vs) → IsCompiled false us q self.now.set → IsCompiled false vs q f.set) }
+    {
+        let set = self.moved(alloc, places)?;
+        Form::of(alloc, number, set)
+    }
+
+    /// The set with its places moved. An error says that it is out of memory.
+    fn moved(&self, alloc: Global, places: &[usize]) -> Result<CompiledSet, AllocError>
+        ensures { IfOk result (IsMoved places.now self.now.set) }
+    {
+        match &self.set {
+            FormSet::Few(few) => few.relocate(alloc, places),
+            FormSet::Shared(set) => relocate_set(alloc, set, places),
+        }
     }
 
     /// Its number.
@@ -54,10 +155,23 @@ impl Form {
         self.number
     }
 
-    /// Its set.
-    pub fn set(&self) -> &CompiledSet
-        ensures { result.now ≡ self.now.set }
+    /// Whether as many places and inner sets as are needed are in the set of nodes. It takes no memory.
+    pub(crate) fn is_met(&self, places: &[u64]) -> bool
+        ensures { result ≡ has_needed self.now.set places.now }
     {
-        &self.set
+        match &self.set {
+            FormSet::Few(few) => few.is_met(places),
+            FormSet::Shared(set) => is_met(set, places),
+        }
+    }
+
+    /// Whether as many places and inner sets as are needed pass: the same as [`is_met_by`] of its set.
+    pub fn is_met_by<P: Passing>(&self, who: &P) -> bool
+        ensures { (ws : List ℕ) → ArePassing (P.passing who.now) ws → result ≡ has_needed self.now.set ws }
+    {
+        match &self.set {
+            FormSet::Few(few) => few.is_met_by(who),
+            FormSet::Shared(set) => is_met_by(set, who),
+        }
     }
 }

@@ -5,6 +5,7 @@
 mod answers;
 mod asking;
 mod compiling;
+mod few;
 mod form;
 mod mask;
 mod moving;
@@ -15,7 +16,6 @@ mod set;
 pub use asking::{Passing, is_met_by};
 pub use compiling::{compile, has_places, place_in_nodes, place_near};
 pub use form::Form;
-pub use moving::relocate;
 pub use places::{add_place, clear_place, has_place, no_places};
 pub use search::in_quorum;
 pub use set::{CompiledSet, is_met};

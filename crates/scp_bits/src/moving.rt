@@ -12,24 +12,8 @@ use crate::mask::{Mask, add_place_behind};
 use crate::set::CompiledSet;
 use std::alloc::{AllocError, Global};
 
-/// The compiled set with each place moved to the one that stands at it in the list. A place that is not in the list is
-/// left out.
-///
-/// Let these be the places that the nodes have in another list, as far as they are in it. Let the slices name only
-/// nodes that are in both. Then the compiled form by which they are satisfied becomes that against the other list: no
-/// name is searched for. An error says that it is out of memory.
-pub fn relocate(
-    alloc: Global,
-    set: &CompiledSet,
-    places: &[usize],
-) -> Result<CompiledSet, AllocError>
-    ensures { IfOk result (λ c. (us vs : List ℕ) (q : Slices) → AreMoved us vs places.now → AreWithin (among (names q)) (among us) → AreWithin (among (names q)) (among vs) → IsCompiled false us q set.now → IsCompiled false vs q c) }
-{
-    let relocated = relocate_set(alloc, set, places)?;
-    Ok(relocated)
-}
-
-fn relocate_set(
+/// The compiled set with each place moved, as [`crate::Form::relocate`] says. An error says that it is out of memory.
+pub(crate) fn relocate_set(
     alloc: Global,
     set: &CompiledSet,
     places: &[usize],
@@ -46,7 +30,11 @@ fn relocate_set(
 }
 
 /// The masks of the places to which those of these masks move. They have no more places than these.
-fn relocate_masks(alloc: Global, masks: &[Mask], places: &[usize]) -> Result<Vec<Mask>, AllocError>
+pub(crate) fn relocate_masks(
+    alloc: Global,
+    masks: &[Mask],
+    places: &[usize],
+) -> Result<Vec<Mask>, AllocError>
     ensures places { IfOk result (λ v. (ws vs : List ℕ) → IsBefore places.now ws vs → places_in v.items vs ≡ places_in masks.now ws) }
     ensures count { IfOk result (λ v. count_in v.items ≤ count_in masks.now) }
 {

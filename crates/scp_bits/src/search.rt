@@ -13,7 +13,6 @@ ghost use Rattle.scp_bits.specs.Searching.{AllMet, AreAgreed, AreCompiled, IsLef
 use crate::answers::Answers;
 use crate::form::Form;
 use crate::places::{clear_place, has_place};
-use crate::set::is_met;
 
 /// Whether some quorum within the supporters contains the node at a place (Mazières 2015, of quorums).
 ///
@@ -79,6 +78,6 @@ fn is_met_at(left: &[u64], place: usize, compiled: &[Option<Form>]) -> bool
 {
     match &compiled[place] {
         None => false,
-        Some(form) => is_met(form.set(), left),
+        Some(form) => form.is_met(left),
     }
 }

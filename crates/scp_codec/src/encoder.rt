@@ -7,11 +7,18 @@ ghost use Rattle.scp_types.specs.Statements.{IsWellFormed};
 ghost use Rattle.std.specs.Int.{w16, w32, w64, to_be_bytes};
 ghost use Rattle.scp_codec.specs.Spelling.{name, value, ballot, optional, nominated_values, slices, body, Spells};
 
+use crate::decoder::MAX_BYTES;
 use crate::statements::StatementKind;
 use crate::versions::version_of;
 use byteorder::{BigEndian, ByteOrder};
 use scp_types::{Ballot, Envelope, Member, NodeId, SliceSet, Statement, Value, Values};
 use std::alloc::{AllocError, Global};
+
+/// A member of slices that is a node: a byte and its name.
+const BYTES_OF_MEMBER: usize = 33;
+
+/// All but the members: the 44 bytes before them, and a statement with short values.
+const BYTES_OF_OTHERS: usize = 112;
 
 /// The one spelling of an envelope, in the format of this host's profile: at most `MAX_BYTES` bytes,
 /// which `decode` answers with the same envelope.
@@ -22,7 +29,7 @@ use std::alloc::{AllocError, Global};
 pub fn encode(alloc: Global, envelope: &Envelope) -> Result<Vec<u8>, AllocError>
     ensures { IfOk result (λ v. Spells v.items envelope.now) }
 {
-    let mut out = Vec::new(alloc);
+    let mut out = Vec::with_capacity(alloc, likely_bytes(envelope))?;
     out.push(version_of(envelope.slices()))?;
     out.push(StatementKind::of(envelope.body()).byte())?;
     put_name(&mut out, envelope.sender())?;
@@ -30,6 +37,16 @@ pub fn encode(alloc: Global, envelope: &Envelope) -> Result<Vec<u8>, AllocError>
     put_set(&mut out, envelope.slices().set())?;
     put_statement(&mut out, envelope.body())?;
     Ok(out)
+}
+
+/// How many bytes an envelope has that names each member of its slices, and short values.
+fn likely_bytes(envelope: &Envelope) -> usize {
+    let members = envelope.slices().set().members();
+    members
+        .len()
+        .saturating_mul(BYTES_OF_MEMBER)
+        .saturating_add(BYTES_OF_OTHERS)
+        .min(MAX_BYTES)
 }
 
 /// Adds the name of a node: its 32 bytes.

@@ -21,6 +21,7 @@ use std::alloc::Global;
 use std::fs::{File, Files};
 use std::io;
 use std::io::{BufRead, Read, Write};
+use std::mem::forget;
 use std::sync::Wait;
 use std::thread::Threads;
 
@@ -46,6 +47,8 @@ pub const NO_WRITE: u8 = 4;
 /// `run` what lines before a bad one printed is written by then. `closure`, `compare`, `crowd` and `compact` print
 /// nothing before all files have been run to their ends, the first one before the second is read. `run` with workers
 /// runs no event before all lines have been read. A write to `err` that fails changes nothing.
+///
+/// Worlds that were run are not given back piece by piece: this is for a process that ends with the answer.
 pub fn perform<
     A: AllocGlobal + Threads + Wait + Sync + Send + Copy + Drop,
     R: Read,
@@ -66,7 +69,7 @@ pub fn perform<
         Call::Table(asked) => {
             let mut run = TableRun::new();
             let ran = run_script(rt.alloc(), &mut run, first, &mut outputs.out);
-            drop(run);
+            forget(run);
             print_end(ran, asked.file.as_str(), &mut outputs.err)
         }
         Call::Run(asked) => perform_run(rt, asked, first, outputs),
@@ -92,7 +95,7 @@ fn perform_run<
             let alloc = rt.alloc();
             let mut run = HostRun::new(alloc);
             let ran = run_script(alloc, &mut run, script, &mut outputs.out);
-            drop(run);
+            forget(run);
             print_end(ran, asked.script.as_str(), &mut outputs.err)
         }
         Some(workers) => perform_pool(rt, workers, &asked.script, script, outputs),
@@ -137,7 +140,7 @@ fn perform_closure<R: Read, W: Write, E: Write>(
         Err(stop) => return print_stop(stop, asked.script.as_str(), &mut outputs.err),
     };
     let answered = answer_closure(alloc, &finished, &asked.subject, asked.format);
-    drop(finished);
+    forget(finished);
     match answered {
         Ok(answer) => print_answer(&answer, outputs),
         Err(_) => print_stop(Stop::NoMemory, "", &mut outputs.err),
@@ -179,8 +182,8 @@ fn perform_compare<R: Read, T: Read, W: Write, E: Write>(
         },
     };
     let answered = answer_compare(alloc, &sides, &asked.subject, asked.explain);
-    drop(second);
-    drop(first);
+    forget(second);
+    forget(first);
     match answered {
         Ok(answer) => print_answer(&answer, outputs),
         Err(_) => print_stop(Stop::NoMemory, "", &mut outputs.err),
@@ -217,8 +220,8 @@ fn perform_crowd<R: Read, T: Read, W: Write, E: Write>(
         second.submission(),
         &asked.subject,
     );
-    drop(second);
-    drop(first);
+    forget(second);
+    forget(first);
     match answered {
         Ok(answer) => print_answer(&answer, outputs),
         Err(_) => print_stop(Stop::NoMemory, "", &mut outputs.err),
@@ -242,7 +245,7 @@ pub fn perform_stream<
         Call::Table(asked) => {
             let mut run = TableRun::new();
             let ran = run_stream(rt.alloc(), &mut run, input, &mut outputs.out);
-            drop(run);
+            forget(run);
             print_end(ran, asked.file.as_str(), &mut outputs.err)
         }
         Call::Run(asked) => perform_run_as_it_comes(rt, asked, input, outputs),
@@ -270,7 +273,7 @@ fn perform_run_as_it_comes<
     }
     let mut run = HostRun::new(rt.alloc());
     let ran = run_stream(rt.alloc(), &mut run, input, &mut outputs.out);
-    drop(run);
+    forget(run);
     print_end(ran, asked.script.as_str(), &mut outputs.err)
 }
 
