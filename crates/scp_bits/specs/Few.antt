@@ -1,11 +1,10 @@
 -- Few places: sets without inner sets whose places are words.
 use Rattle.std.specs.Prelude.{◌≡◌, ℕ, suc, List, [], ◌∷◌}
-use Rattle.std.specs.Arc.{arc_value}
 use Rattle.scp_bits.specs.Met.{has_needed}
 use Rattle.scp_bits.specs.Places.{Compiled, none}
 use Rattle.scp_bits.specs.declared.few.FewPlaces.{FewPlaces}
 use Rattle.scp_bits.specs.declared.form.FormSet.{FormSet}
-use Rattle.scp_bits.specs.declared.form.FormSet.TheVariants.{Few, Shared}
+use Rattle.scp_bits.specs.declared.form.FormSet.TheVariants.{Few, Any}
 use Rattle.scp_bits.specs.declared.mask.Mask.{Mask}
 
 -- the places in words, the first of which has this index
@@ -20,7 +19,7 @@ few_set few = record { needed = few.needed; masks = masks_from 0 few.words; inne
 -- the compiled set of a form
 abbrev pub set_in : FormSet → Compiled
 set_in (Few few) = few_set few
-set_in (Shared set) = arc_value set
+set_in (Any set) = set
 
 -- the same sets of places meet both
 abbrev pub AreMetAlike : Compiled → Compiled → Type 0

@@ -5,7 +5,7 @@ ghost use Rattle.scp_types.specs.Trees.{Slices, names_in};
 ghost use Rattle.scp_spec.specs.Satisfaction.{names};
 ghost use Rattle.scp_spec.specs.Sets.{AreWithin, IsAscending, among, within};
 ghost use Rattle.scp_bits.specs.Asking.{ArePassing};
-ghost use Rattle.scp_bits.specs.Few.{AreMetAlike, few_set};
+ghost use Rattle.scp_bits.specs.Few.{AreMetAlike, set_in};
 ghost use Rattle.scp_bits.specs.Met.{IsCompiled, has_needed};
 ghost use Rattle.scp_bits.specs.Moving.{AreMoved, IsMoved};
 
@@ -24,26 +24,26 @@ use std::sync::Arc;
 #[derive(Drop)]
 pub struct Form {
     number: usize,
-    set: FormSet,
+    set: Arc<FormSet, Global>,
 }
 
-/// The set of a form. Most sets are few places, which lie in one piece: a list of such forms is read from one end to the
-/// other. Copies share any other one.
+/// The set of a form, which copies share. Most sets are few places, which lie in one piece.
 #[derive(Drop)]
 pub(crate) enum FormSet {
     Few(FewPlaces),
-    Shared(Arc<CompiledSet, Global>),
+    Any(CompiledSet),
 }
 
 impl Model for Form {
     ghost use Rattle.scp_bits.specs.Few.{set_in};
     ghost use Rattle.scp_bits.specs.Places.{Numbered, numbered_code};
+    ghost use Rattle.std.specs.Arc.{arc_value};
 
     ghost Value = { Numbered };
 
     ghost coded = { numbered_code };
 
-    ghost view = { λ a. record { number = a.number; set = set_in a.set } };
+    ghost view = { λ a. record { number = a.number; set = set_in (arc_value a.set) } };
 }
 
 impl Form {
@@ -59,7 +59,7 @@ impl Form {
         ensures { IfOk result (λ f. (f.number ≡ number) × IsCompiled false nodes.now set.now f.set) }
     {
         match FewPlaces::compile(set, nodes) {
-            Some(few) => Ok(Form::few(number, few)),
+            Some(few) => Form::with(alloc, number, FormSet::Few(few)),
             None => Form::of(alloc, number, compile(alloc, set, nodes, false)?),
         }
     }
@@ -77,7 +77,8 @@ impl Form {
         ensures within { IfOk result (λ o. IfSome o (λ f. IsTrue (within (names_in set.now.members) (among nodes.now)))) }
     {
         if let Some(few) = FewPlaces::compile(set, nodes) {
-            return Ok(Some(Form::few(number, few)));
+            let form = Form::with(alloc, number, FormSet::Few(few))?;
+            return Ok(Some(form));
         }
         if !has_places(set, nodes) {
             return Ok(None);
@@ -87,35 +88,30 @@ impl Form {
         Ok(Some(form))
     }
 
-    fn few(number: usize, few: FewPlaces) -> Form
-        ensures { result ≡ record { number = number; set = few_set few } }
+    fn with(alloc: Global, number: usize, set: FormSet) -> Result<Form, AllocError>
+        ensures { IfOk result (λ f. f ≡ record { number = number; set = set_in set }) }
     {
-        let set = FormSet::Few(few);
-        Form { number, set }
+        let set = Arc::new(alloc, set)?;
+        Ok(Form { number, set })
     }
 
     /// The form of this number, of a set with which the same places meet it. An error says that it is out of memory.
     fn of(alloc: Global, number: usize, set: CompiledSet) -> Result<Form, AllocError>
         ensures { IfOk result (λ f. (f.number ≡ number) × AreMetAlike set f.set) }
     {
-        let set = match FewPlaces::of(&set) {
-            Some(few) => FormSet::Few(few),
-            None => FormSet::Shared(Arc::new(alloc, set)?),
-        };
-        Ok(Form { number, set })
+        match FewPlaces::of(&set) {
+            Some(few) => Form::with(alloc, number, FormSet::Few(few)),
+            None => Form::with(alloc, number, FormSet::Any(set)),
+        }
     }
 
-    /// A copy. It takes no memory; an error says that a shared set has too many owners.
+    /// A copy, which shares the set. It takes no memory; an error says that the set has too many owners.
     pub fn try_copy(&self) -> Result<Form, AllocError>
         ensures { IfOk result (λ f. f ≡ self.now) }
     {
-        let set = match &self.set {
-            FormSet::Few(few) => FormSet::Few(*few),
-            FormSet::Shared(set) => FormSet::Shared(Arc::try_clone(set)?),
-        };
         Ok(Form {
             number: self.number,
-            set,
+            set: Arc::try_clone(&self.set)?,
         })
     }
 
@@ -142,9 +138,9 @@ impl Form {
     fn moved(&self, alloc: Global, places: &[usize]) -> Result<CompiledSet, AllocError>
         ensures { IfOk result (IsMoved places.now self.now.set) }
     {
-        match &self.set {
+        match &*self.set {
             FormSet::Few(few) => few.relocate(alloc, places),
-            FormSet::Shared(set) => relocate_set(alloc, set, places),
+            FormSet::Any(set) => relocate_set(alloc, set, places),
         }
     }
 
@@ -159,9 +155,9 @@ impl Form {
     pub(crate) fn is_met(&self, places: &[u64]) -> bool
         ensures { result ≡ has_needed self.now.set places.now }
     {
-        match &self.set {
+        match &*self.set {
             FormSet::Few(few) => few.is_met(places),
-            FormSet::Shared(set) => is_met(set, places),
+            FormSet::Any(set) => is_met(set, places),
         }
     }
 
@@ -169,9 +165,9 @@ impl Form {
     pub fn is_met_by<P: Passing>(&self, who: &P) -> bool
         ensures { (ws : List ℕ) → ArePassing (P.passing who.now) ws → result ≡ has_needed self.now.set ws }
     {
-        match &self.set {
+        match &*self.set {
             FormSet::Few(few) => few.is_met_by(who),
-            FormSet::Shared(set) => is_met_by(set, who),
+            FormSet::Any(set) => is_met_by(set, who),
         }
     }
 }
