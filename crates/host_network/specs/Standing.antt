@@ -124,6 +124,10 @@ abbrev pub IsDeliveryThatTakesMemory : List HostedNode → Step → Type 0
 IsDeliveryThatTakesMemory nodes (Delivers u size said) = ((h : ℕ) × (index_of_name nodes u ≡ Some h)) × MayTakeMemory size said
 IsDeliveryThatTakesMemory nodes _ = ⊥
 
+-- the first refusal that applies; or that it is out of memory, if none applies
+abbrev pub IsRightRefusal : Machine → Step → Refusal → Type 0
+IsRightRefusal m e r = ((r ≡ NoMemory) × IsAllowed m e) ⊎ IsFirstRefusal m e r
+
 -- the first refusal that applies; or that it is out of memory, if none applies or bytes were read that may take memory
 abbrev pub IsRefusal : Machine → Step → Refusal → Type 0
 IsRefusal m e r = ((r ≡ NoMemory) × (IsAllowed m e ⊎ IsDeliveryThatTakesMemory m.config.nodes e)) ⊎ IsFirstRefusal m e r

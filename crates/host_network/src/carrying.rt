@@ -14,6 +14,7 @@ ghost use Rattle.scp_spec.specs.Networks.Step.{Delivers};
 ghost use Rattle.scp_spec.specs.Rosters.{Roster as Names};
 ghost use Rattle.node_core.specs.Filings.{IsFiledEvent, event_of};
 ghost use Rattle.scp_types.specs.declared.event.NodeEvent.{NodeEvent};
+ghost use Rattle.scp_types.specs.declared.event.Refusal.TheVariants.{NoMemory};
 ghost use Rattle.host_network.specs.Answers.{IsApplied, IsLeftOrOutOfMemory, IsOutcome};
 ghost use Rattle.host_network.specs.Changes.{IsChangedAt};
 ghost use Rattle.host_network.specs.Charges.{HasReadyNode, HasRoomOnNetwork, IsSlotActed, on_budgets_of, on_opens_of};
@@ -22,7 +23,7 @@ ghost use Rattle.host_network.specs.Deeds.{IsPlan, envelope_to_file, outs_of_dee
 ghost use Rattle.host_network.specs.Doings.{IsDoable, IsDone, marks_after, slots_of};
 ghost use Rattle.host_network.specs.FiledSlots.{AreSlotsFiled, IsInstanceFiled};
 ghost use Rattle.host_network.specs.SlotPlaces.{slot_numbers};
-ghost use Rattle.host_network.specs.Standing.{IsRefusal, machine_of};
+ghost use Rattle.host_network.specs.Standing.{IsAllowed, IsRefusal, IsRightRefusal, machine_of};
 
 use crate::applied::{Given, Outcome};
 use crate::network::Network;
@@ -63,7 +64,7 @@ impl<S: Shelf> Network<S> {
     /// have what was already filed for the delivery.
     pub fn deliver(&mut self, node: &NodeId, said: Reading, size: u64) -> Result<Outcome, Refusal>
         ensures applied { IfOk result (IsApplied self.old (Delivers node.now size (said_by said)) self.new) }
-        ensures err { IfErr result (IsRefusal (machine_of self.old) (Delivers node.now size (said_by said))) }
+        ensures err { IfErr result (IsRightRefusal (machine_of self.old) (Delivers node.now size (said_by said))) }
         ensures same { OnErr result (machine_of self.new ≡ machine_of self.old) }
         ensures left { IfErr result (IsLeftOrOutOfMemory self.old (Delivers node.now size (said_by said)) self.new) }
         ensures config { self.new.config ≡ self.old.config }
@@ -78,7 +79,7 @@ impl<S: Shelf> Network<S> {
     fn carry_out(&mut self, plan: Plan) -> Result<Outcome, Refusal>
         requires { (e : Step) × IsPlan self.old e plan }
         ensures applied { (e : Step) → IsPlan self.old e plan → IfOk result (IsApplied self.old e self.new) }
-        ensures err { (e : Step) → IsPlan self.old e plan → IfErr result (IsRefusal (machine_of self.old) e) }
+        ensures err { (e : Step) → IsPlan self.old e plan → IfErr result (λ r. (r ≡ NoMemory) × IsAllowed (machine_of self.old) e) }
         ensures same { OnErr result (machine_of self.new ≡ machine_of self.old) }
         ensures left { (e : Step) → IsPlan self.old e plan → IfErr result (IsLeftOrOutOfMemory self.old e self.new) }
         ensures config { self.new.config ≡ self.old.config }

@@ -18,7 +18,7 @@ use Rattle.host_network.specs.declared.applied.Given.{Given}
 use Rattle.host_network.specs.declared.emission.Emission.{Emission}
 use Rattle.host_network.specs.Decoding.{step_of}
 use Rattle.host_network.specs.Marks.{marks_in, named, slot_and_node_of}
-use Rattle.host_network.specs.Standing.{IsRefusal, IsDeliveryThatTakesMemory, IsStep, Machine, StandsFor}
+use Rattle.host_network.specs.Standing.{IsRefusal, IsRightRefusal, IsDeliveryThatTakesMemory, IsStep, Machine, StandsFor}
 use Rattle.live_network.specs.Serving.{AreHeard, Hearing, IsServed, IsTried, ToldReply, all_hearings, emissions_by, hearings_of, is_stale, slot_at, step_of_hearing, told_at, told_of, waits_after}
 use Rattle.live_network.specs.Serving.AreHeard.{all_heard, one_heard}
 use Rattle.live_network.specs.Serving.Ending.{IsDone}
@@ -50,6 +50,10 @@ leads-both i front behind old now new more later told next one other = λ net st
     )
 
 -- ---- one step
+-- a refusal that no reading has a part in is a refusal
+pub right_is : (m : Machine) (e : Step) (r : Refusal) → IsRightRefusal m e r → IsRefusal m e r
+right_is m e r h = ⊎_elim (λ short. inl (short.0, inl short.1)) inr h
+
 -- a refusal that is answered is one that the network answers, or memory is wanting
 pub tried-refused : (m : Machine) (net : Net) (e : Step) (r : Refusal) → StandsFor m net → IsRefusal m e r → IsTried net e (Refused r) net
 unfolding net_step

@@ -87,6 +87,7 @@ fn apply<S: Shelf>(
 }
 
 /// Delivers `size` bytes that say this to a node. An error is as that of [`step`].
+#[tactic(auto, using(crate::proofs::Leading::right_is))]
 pub(crate) fn deliver<S: Shelf>(
     network: &mut Network<S>,
     node: &NodeId,

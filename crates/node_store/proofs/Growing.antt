@@ -1,12 +1,12 @@
 -- An archive with one envelope more, and with some let go.
-use Rattle.std.proofs.Common.{◌≡◌, ◌≢◌, ◌⊎◌, inl, inr, ℕ, zero, suc, ◌+◌, ◌<◌, ◌≤◌, Bool, true, false, List, [], ◌∷◌, ◌++◌, get_or, length, map, set, take, drop, Option, Some, None, option_map, is_some, if◌then◌else◌, refl, sym, ◌∙◌, ap, subst, arith}
+use Rattle.std.proofs.Common.{◌≡◌, ◌⊎◌, inl, inr, ℕ, zero, suc, ◌+◌, ◌<◌, ◌≤◌, Bool, true, false, List, [], ◌∷◌, ◌++◌, get_or, length, map, set, take, drop, Option, Some, None, option_map, is_some, if◌then◌else◌, refl, sym, ◌∙◌, ap, subst, arith}
 use Rattle.std.specs.Prelude.{IfSome}
 use Rattle.std.specs.List.{All, slice_get}
 use Rattle.std.proofs.lemmas.List.{set-get_or}
 use Rattle.std.proofs.lemmas.List.Elements.{All-append, All-cons, All-nil, All-set}
 use Rattle.scp_types.specs.Statements.{Sent}
 use Rattle.node_store.specs.declared.filed.Filed.{Filed}
-use Rattle.node_store.specs.Archives.{AreFiled, Archived, IsFiled, Keeps, KeepsBut, only_of, sent_of}
+use Rattle.node_store.specs.Archives.{AreFiled, Archived, IsFiled, Keeps, only_of, sent_of}
 
 -- the same list, or one place more where nothing lies
 abbrev pub IsGrown : {X : Type 0} → List (Option X) → List (Option X) → Type 0
@@ -33,14 +33,6 @@ read-set : {X : Type 0} (xs : List X) (n : ℕ) (y x : X) → slice_get xs n ≡
 read-set [] n y x h = absurd (cc)
 read-set (z ∷ xs) zero y x h = refl
 read-set (z ∷ xs) (suc n) y x h = read-set xs n y x h
-
--- what is another one stays where one is taken away
-kept-taken : {X : Type 0} (xs : List (Option X)) (n k : ℕ) (y x : X) → slice_get xs n ≡ Some (Some y) → slice_get xs k ≡ Some (Some x) → x ≢ y → slice_get (set xs n None) k ≡ Some (Some x)
-kept-taken [] n k y x h q d = absurd (cc)
-kept-taken (z ∷ xs) zero zero y x h q d = absurd (d (cc))
-kept-taken (z ∷ xs) zero (suc k) y x h q d = q
-kept-taken (z ∷ xs) (suc n) zero y x h q d = q
-kept-taken (z ∷ xs) (suc n) (suc k) y x h q d = kept-taken xs n k y x h q d
 
 -- ---- with whole envelopes
 read-map : {X Y : Type 0} (f : X → Y) (xs : List X) (n : ℕ) (x : X) → slice_get xs n ≡ Some x → slice_get (map f xs) n ≡ Some (f x)
@@ -71,10 +63,8 @@ keeps-put f old places n p grown free x h =
     (kept-set (map (option_map f) places) n x.number (Some (f p)) x.put.value (read-map (option_map f) places n None free)
     (read-grown (map (option_map f) old) (map (option_map f) places) x.number (Some x.put.value) (map-grown f old places grown) h))
 
-pub keeps-taken : {P : Type 0} (f : P → Sent) (places : List (Option P)) (x : Filed) → IsFiled (map (option_map f) places) x → KeepsBut (sent_of x) (map (option_map f) places) (map (option_map f) (set places x.number None))
-keeps-taken f places x there y h other =
-    subst (λ (xs : Archived). IsFiled xs y) (sym (map-set (option_map f) places x.number None))
-    (kept-taken (map (option_map f) places) x.number y.number (sent_of x) (sent_of y) there h other)
+pub cleared : {P : Type 0} (f : P → Sent) (archive : Archived) (places : List (Option P)) (n : ℕ) → map (option_map f) places ≡ archive → map (option_map f) (set places n None) ≡ set archive n None
+cleared f archive places n is = map-set (option_map f) places n None ∙ ap (λ (xs : Archived). set xs n None) is
 
 pub all-put : {P : Type 0} (R : P → Type 0) (old places : List (Option P)) (n : ℕ) (p : P) → IsGrown old places → R p → All (λ o. IfSome o R) old → All (λ o. IfSome o R) (set places n (Some p))
 all-put {P} R old places n p grown one all = All-set (λ (o : Option P). IfSome o R) places n (Some p) one (go grown)
@@ -133,9 +123,8 @@ only-none (Some e) h = absurd (cc)
 pub keeps-at : (is_among : ℕ → Bool) (archive : Archived) (n : ℕ) → is_some (only_of is_among (get_or archive n None)) ≡ true → archive ≡ set archive n (only_of is_among (get_or archive n None))
 keeps-at is_among archive n h = sym (ap (set archive n) (only-kept is_among (get_or archive n None) h) ∙ set-get_or archive n None)
 
-pub frees-at : {P : Type 0} (f : P → Sent) (is_among : ℕ → Bool) (archive : Archived) (places : List (Option P)) (n : ℕ) → map (option_map f) places ≡ archive → is_some (only_of is_among (get_or archive n None)) ≡ false
-    → map (option_map f) (set places n None) ≡ set archive n (only_of is_among (get_or archive n None))
-frees-at f is_among archive places n is h = map-set (option_map f) places n None ∙ (λ j. set (is j) n (sym (only-none (only_of is_among (get_or archive n None)) h) j))
+pub frees-at : (is_among : ℕ → Bool) (archive new : Archived) (n : ℕ) → new ≡ set archive n None → is_some (only_of is_among (get_or archive n None)) ≡ false → new ≡ set archive n (only_of is_among (get_or archive n None))
+frees-at is_among archive new n is h = is ∙ ap (set archive n) (sym (only-none (only_of is_among (get_or archive n None)) h))
 
 -- what is of these slots stays
 pub stays-filed : (is_among : ℕ → Bool) (archive : Archived) (f : Filed) → is_among (sent_of f).slot ≡ true → IsFiled archive f → IsFiled (map (only_of is_among) archive) f

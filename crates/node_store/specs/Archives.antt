@@ -29,10 +29,6 @@ AreFiled archive fs = All (IsFiled archive) fs
 abbrev pub Keeps : Archived → Archived → Type 0
 Keeps old new = (f : Filed) → IsFiled old f → IsFiled new f
 
--- all that was filed in the archive before, but for this envelope, is filed still
-abbrev pub KeepsBut : Sent → Archived → Archived → Type 0
-KeepsBut e old new = (f : Filed) → IsFiled old f → sent_of f ≢ e → IsFiled new f
-
 -- what lies at a number, if it is an envelope of one of these slots
 abbrev pub only_of : (ℕ → Bool) → Option Sent → Option Sent
 only_of is_among None = None

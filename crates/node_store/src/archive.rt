@@ -1,7 +1,7 @@
 //! The envelopes of one network, by number.
 
 ghost use Rattle.std.specs.Prelude.{◌≡◌, ◌↔◌, ◌⊎◌, ◌<◌, ◌++◌, ◌∷◌, [], IfOk, IfSome, IsTrue, None, OnErr, Some, is_some, length, map, slice_get, slice_index_or, slice_set, vec_capacity, vec_len};
-ghost use Rattle.node_store.specs.Archives.{IsFiled, Keeps, KeepsBut, filed_slices_at, only_of, sent_of};
+ghost use Rattle.node_store.specs.Archives.{IsFiled, Keeps, filed_slices_at, only_of, sent_of};
 
 use crate::filed::Filed;
 use crate::shelf::{Places, Shelf, Slots};
@@ -89,7 +89,7 @@ impl<S: Places> Archive<S> {
         ensures { IsTrue result ↔ (sent_of one.now).slices ≡ (sent_of other.now).slices }
     {
         self.tells_same_slices(one, other)
-            || self.has_slices_at(one.number, self.read(other).slices())
+            || self.read(one).slices().is_same(self.read(other).slices())
     }
 
     /// Whether numbers tell that both envelopes have the same slices. If they do not, these may still be the same. No
@@ -102,16 +102,21 @@ impl<S: Places> Archive<S> {
         self.told.are_same(one.number, other.number)
     }
 
-    /// Whether an envelope with these slices lies at this number.
-    fn has_slices_at(&self, number: usize, slices: &Nested) -> bool
-        ensures { IsTrue result ↔ filed_slices_at self.now number ≡ Some slices.now }
+    /// The slices at this number, if an envelope with these slices lies there.
+    fn same_slices_at(&self, number: usize, slices: &Nested) -> Option<&Nested>
+        ensures same { IfSome result (λ n. n.now ≡ slices.now) }
+        ensures there { IsTrue (is_some result) ↔ filed_slices_at self.now number ≡ Some slices.now }
     {
-        if self.places.len() <= number {
-            return false;
-        }
-        match &self.places[number] {
-            Some(place) => self.shelf.read(place).slices().is_same(slices),
-            None => false,
+        match self.places.get(number) {
+            Some(Some(place)) => {
+                let there = self.shelf.read(place).slices();
+                if there.is_same(slices) {
+                    Some(there)
+                } else {
+                    None
+                }
+            }
+            _ => None,
         }
     }
 
@@ -120,27 +125,11 @@ impl<S: Places> Archive<S> {
     pub fn with_shared_slices(&self, envelope: Envelope) -> Envelope
         ensures { result ≡ envelope }
     {
-        let head = self.told.head(fingerprint(envelope.slices().set()));
-        match self.copy_of_slices(head, envelope.slices()) {
+        let candidate = self.told.candidate(fingerprint(envelope.slices().set()));
+        let there = self.same_slices_at(candidate, envelope.slices());
+        match there.and_then(|slices| slices.try_copy().ok()) {
             Some(slices) => with_slices(self.alloc, envelope, slices),
             None => envelope,
-        }
-    }
-
-    /// A copy of the slices at this number, if an envelope with these slices lies there.
-    fn copy_of_slices(&self, number: usize, slices: &Nested) -> Option<Nested>
-        ensures { IfSome result (λ n. n ≡ slices.now) }
-    {
-        match self.places.get(number) {
-            Some(Some(place)) => {
-                let there = self.shelf.read(place).slices();
-                if there.is_same(slices) {
-                    there.try_copy().ok()
-                } else {
-                    None
-                }
-            }
-            _ => None,
         }
     }
 
@@ -164,13 +153,13 @@ impl<S: Places> Archive<S> {
         }
     }
 
-    /// Lets go one envelope: its number may be given again. All others stay.
+    /// Lets go one envelope: nothing has its number, which may be given again. Every other number stays as it was, also
+    /// that of an equal envelope.
     pub fn remove(&mut self, filed: Filed)
         requires { IsFiled self.old filed }
-        ensures { KeepsBut (sent_of filed) self.old self.new }
+        ensures { self.new ≡ slice_set self.old filed.number None }
     {
-        self.places[filed.number] = None;
-        let _ = self.free.push(filed.number);
+        self.clear(filed.number);
     }
 
     /// What has this number is let go, if it is not of one of these slots.
@@ -179,9 +168,17 @@ impl<S: Places> Archive<S> {
         ensures { self.new ≡ slice_set self.old number (only_of (T.is_among slots.now) (slice_index_or self.old number None)) }
     {
         if !self.is_kept(number, slots) {
-            self.places[number] = None;
-            let _ = self.free.push(number);
+            self.clear(number);
         }
+    }
+
+    /// Whatever has this number is let go, and the number may be given again.
+    fn clear(&mut self, number: usize)
+        requires { number < length self.old }
+        ensures { self.new ≡ slice_set self.old number None }
+    {
+        self.places[number] = None;
+        let _ = self.free.push(number);
     }
 
     /// Whether an envelope of one of these slots has this number.
@@ -206,8 +203,8 @@ impl<S: Shelf> Archive<S> {
         ensures kept { Keeps self.old self.new }
     {
         let fingerprint = fingerprint(envelope.slices().set());
-        let head = self.told.head(fingerprint);
-        let is_same = self.has_slices_at(head, envelope.slices());
+        let candidate = self.told.candidate(fingerprint);
+        let is_same = self.same_slices_at(candidate, envelope.slices()).is_some();
         if self.places.reserve(1).is_err() {
             drop(envelope);
             // Memory: the list of places has no room.
@@ -220,7 +217,7 @@ impl<S: Shelf> Archive<S> {
         self.places[number] = Some(place);
         self.recent = self.recent.saturating_add(1);
         self.told
-            .note(self.alloc, number, fingerprint, head, is_same);
+            .note(self.alloc, number, fingerprint, candidate, is_same);
         Ok(Filed { number, put })
     }
 }

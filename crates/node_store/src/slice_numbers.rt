@@ -6,16 +6,16 @@ ghost use Rattle.node_store.specs.Archives.{IsNumberFor, IsSameNumber};
 use scp_types::{Member, SliceSet};
 use std::alloc::Global;
 
-/// Room for more fingerprints is made while there are fewer places than this.
-const ENOUGH_HEADS: usize = 1024;
+/// More buckets are made while there are fewer than this.
+const ENOUGH_BUCKETS: usize = 1024;
 
 /// For each number of an archive, the number of the slices of what lies there. Where both are equal and not 0, the
 /// slices are the same. It is 0 where none is told, as behind the end of the list.
 #[derive(Drop)]
 pub(crate) struct SliceNumbers {
     numbers: Vec<usize>,
-    /// For each fingerprint of slices the number of the archive that was noted last with it.
-    heads: Vec<usize>,
+    /// For the fingerprints of each bucket, the number of the archive that was noted last with one of them.
+    buckets: Vec<usize>,
     /// The greatest number of slices that was given.
     last: usize,
 }
@@ -27,7 +27,7 @@ impl SliceNumbers {
     {
         SliceNumbers {
             numbers: Vec::new(alloc),
-            heads: Vec::new(alloc),
+            buckets: Vec::new(alloc),
             last: 0,
         }
     }
@@ -41,11 +41,9 @@ impl SliceNumbers {
     }
 
     /// A number of the archive at which there may be slices of this fingerprint.
-    pub(crate) fn head(&self, fingerprint: u64) -> usize {
-        match self.heads.get(place_in(self.heads.len(), fingerprint)) {
-            Some(head) => *head,
-            None => 0,
-        }
+    pub(crate) fn candidate(&self, fingerprint: u64) -> usize {
+        let bucket = bucket_of(fingerprint, self.buckets.len());
+        self.buckets.get(bucket).copied().unwrap_or(0)
     }
 
     /// Notes slices of this fingerprint, filed at this number. They may be the same as those at another number. If it
@@ -68,7 +66,7 @@ impl SliceNumbers {
             self.last = told;
         }
         tell(&mut self.numbers, number, told);
-        lead(alloc, &mut self.heads, self.last, fingerprint, number);
+        set_bucket(alloc, &mut self.buckets, self.last, fingerprint, number);
     }
 
     /// A number for slices: that of what lies at the other number, if they are the same and it is told, or a new one.
@@ -86,10 +84,7 @@ impl SliceNumbers {
     fn told(&self, number: usize) -> usize
         ensures { result ≡ get_or self.now.numbers.items number 0 }
     {
-        match self.numbers.get(number) {
-            Some(told) => *told,
-            None => 0,
-        }
+        self.numbers.get(number).copied().unwrap_or(0)
     }
 }
 
@@ -105,27 +100,30 @@ fn tell(numbers: &mut Vec<usize>, number: usize, told: usize)
     }
 }
 
-/// Has this number be found by the fingerprint. Room for twice as many fingerprints is made once as many numbers of
-/// slices were given as there are places. Those that were noted before are forgotten then.
-fn lead(alloc: Global, heads: &mut Vec<usize>, given: usize, fingerprint: u64, number: usize) {
-    let room = heads.len();
-    if room <= given && room < ENOUGH_HEADS {
-        if let Ok(more) = vec![in alloc; 0usize; 2 * room + 4] {
-            *heads = more;
+/// Puts this number into the bucket of the fingerprint. More than twice as many buckets are made once as many numbers of
+/// slices were given as there are buckets. What was noted before is forgotten then.
+fn set_bucket(
+    alloc: Global,
+    buckets: &mut Vec<usize>,
+    given: usize,
+    fingerprint: u64,
+    number: usize,
+) {
+    let count = buckets.len();
+    if count <= given && count < ENOUGH_BUCKETS {
+        if let Ok(more) = vec![in alloc; 0usize; 2 * count + 4] {
+            *buckets = more;
         }
     }
-    let place = place_in(heads.len(), fingerprint);
-    if place < heads.len() {
-        heads[place] = number;
+    let bucket = bucket_of(fingerprint, buckets.len());
+    if bucket < buckets.len() {
+        buckets[bucket] = number;
     }
 }
 
-/// Which of so many places is that of a fingerprint.
-fn place_in(room: usize, fingerprint: u64) -> usize {
-    match fingerprint.checked_rem(room as u64) {
-        Some(place) => place as usize,
-        None => 0,
-    }
+/// Which of so many buckets is that of a fingerprint.
+fn bucket_of(fingerprint: u64, count: usize) -> usize {
+    fingerprint.checked_rem(count as u64).unwrap_or(0) as usize
 }
 
 /// A number that is mostly another for other slices.

@@ -205,41 +205,23 @@ impl Table {
         requires { AreFiled archive.now self.now }
         ensures { option_map (λ r. r.now) result ≡ slice_get (sents_of self.now) place }
     {
-        if place < self.rows.len() {
-            Some(archive.read(&self.rows[place]))
-        } else {
-            None
+        match self.filed_at(archive, place) {
+            Some(row) => Some(archive.read(row)),
+            None => None,
         }
     }
 
-    /// Whether the row at this place has the slices of the envelope. Behind the last row there is none. It takes no
-    /// memory.
-    pub fn has_slices_at<S: node_store::Places>(
+    /// The row at this place among all rows as the archive has it, `None` behind the last one. It takes no memory.
+    pub fn filed_at<S: node_store::Places>(
         &self,
         archive: &Archive<S>,
         place: usize,
-        envelope: &Filed,
-    ) -> bool
-        requires rows { AreFiled archive.now self.now }
-        requires envelope { IsFiled archive.now envelope.now }
-        ensures { IsTrue result ↔ option_map (λ e. e.slices) (slice_get (sents_of self.now) place) ≡ Some (sent_of envelope.now).slices }
+    ) -> Option<&Filed>
+        requires { AreFiled archive.now self.now }
+        ensures row { option_map (λ f. sent_of f.now) result ≡ slice_get (sents_of self.now) place }
+        ensures filed { IfSome result (λ f. IsFiled archive.now f.now) }
     {
-        place < self.rows.len() && archive.has_same_slices(&self.rows[place], envelope)
-    }
-
-    /// Whether numbers tell that the row at this place has the slices of the envelope. If they do not, it may still have
-    /// them. No name is compared, and it takes no memory.
-    pub fn tells_slices_at<S: node_store::Places>(
-        &self,
-        archive: &Archive<S>,
-        place: usize,
-        envelope: &Filed,
-    ) -> bool
-        requires rows { AreFiled archive.now self.now }
-        requires envelope { IsFiled archive.now envelope.now }
-        ensures { IsTrue result → option_map (λ e. e.slices) (slice_get (sents_of self.now) place) ≡ Some (sent_of envelope.now).slices }
-    {
-        place < self.rows.len() && archive.tells_same_slices(&self.rows[place], envelope)
+        self.rows.get(place)
     }
 
     /// The senders with a row, in ascending order, each once. It takes no memory.

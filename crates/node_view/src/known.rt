@@ -207,8 +207,10 @@ fn effect_of<S: Places>(
         return Effect::Nothing;
     };
     if let Some(place) = there.row.get() {
-        if table.has_slices_at(row.archive, place, &row.envelope) {
-            return Effect::Nothing;
+        if let Some(old) = table.filed_at(row.archive, place) {
+            if row.archive.has_same_slices(old, &row.envelope) {
+                return Effect::Nothing;
+            }
         }
     }
     let is_as_latest = is_as_latest(&known.region, table, row);
@@ -236,9 +238,12 @@ fn is_as_latest<S: Places>(region: &Region, table: &Table, row: &FiledRow<'_, S>
         return false;
     }
     let kind = row.archive.read(&row.envelope).body().kind();
-    match region.row_there(kind, region.latest).get() {
+    let Some(place) = region.row_there(kind, region.latest).get() else {
+        return false;
+    };
+    match table.filed_at(row.archive, place) {
         None => false,
-        Some(place) => table.tells_slices_at(row.archive, place, &row.envelope),
+        Some(latest) => row.archive.tells_same_slices(latest, &row.envelope),
     }
 }
 

@@ -1,8 +1,7 @@
-mod OpeningLaws
 mod SortingLaws
 mod StandingLaws
-mod WritingLaws
-mod JoiningLaws
-mod HostedSeats
-mod TurnLaws
+mod OpeningLaws
+mod DealingLaws
+mod ErrandLaws
+mod RunningLaws
 mod Crossing

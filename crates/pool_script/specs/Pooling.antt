@@ -1,5 +1,5 @@
--- What becomes of a script whose events are jobs of a pool.
-use Rattle.std.specs.Prelude.{◌≡◌, ◌+◌, ◌++◌, ℕ, List, [], ◌∷◌, length}
+-- What becomes of a script whose events are jobs of workers.
+use Rattle.std.specs.Prelude.{◌≡◌, ◌+◌, ◌++◌, ℕ, List, [], ◌∷◌, length, map}
 use Rattle.std.specs.List.{AllZip}
 use Rattle.scp_types.specs.declared.event.Event.{Event}
 use Rattle.scp_types.specs.declared.event.Event.TheVariants.{OpenSlot}
@@ -11,20 +11,23 @@ use Rattle.pool_queue.specs.Hands.{weigh}
 use Rattle.pool_queue.specs.declared.rule.Job.{Job}
 use Rattle.pool_cell.specs.Sights.{SeatSight}
 use Rattle.pool_workers.specs.NetSights.{NetSight}
-use Rattle.pool_workers.specs.Nets.{AllGrownNets, AreJobsDone, IsClosedNet}
+use Rattle.pool_workers.specs.Alone.{IsRunAlone}
+use Rattle.pool_workers.specs.Nets.{IsClosedNet}
 use Rattle.pool_workers.specs.declared.running.Report.{Report}
-use Rattle.pool_script.specs.Opening.{HaveJoinedWithSlots}
-use Rattle.pool_script.specs.PoolLines.{AreAllDecidedLines, AreDecidedLines, length_line, length_lines, report_line}
+use Rattle.pool_script.specs.Opening.{IsReadyNetwork}
+use Rattle.pool_script.specs.Dealing.{AreNetworkShares, calls_elsewhere}
+use Rattle.pool_script.specs.PoolLines.{AreAllDecidedLines, length_lines, report_line}
+use Rattle.pool_script.specs.declared.dealing.Share.{Share}
 
 -- the event as a job of its network
 abbrev pub job_of : ℕ × Event → Job
 job_of call = record { network = call.0; event = call.1 }
 
--- the slots that events open, with the numbers of their networks, in order
-abbrev pub opens_of : List (ℕ × Event) → List (ℕ × ℕ)
-opens_of [] = []
-opens_of ((g, OpenSlot slot) ∷ calls) = (g, slot) ∷ opens_of calls
-opens_of (call ∷ calls) = opens_of calls
+-- the slots that events open, in order
+abbrev pub slots_opened : List (ℕ × Event) → List ℕ
+slots_opened [] = []
+slots_opened ((g, OpenSlot slot) ∷ calls) = slot ∷ slots_opened calls
+slots_opened (call ∷ calls) = slots_opened calls
 
 -- all other events as jobs, in order
 abbrev pub jobs_of : List (ℕ × Event) → List Job
@@ -32,52 +35,36 @@ jobs_of [] = []
 jobs_of ((g, OpenSlot slot) ∷ calls) = jobs_of calls
 jobs_of (call ∷ calls) = job_of call ∷ jobs_of calls
 
--- the journals of networks, in their order: each is one history of its network's seats, and a run
-abbrev pub AreJournals : List NetSight → List Log → Type 0
-AreJournals ns ls =
-    AllZip (λ n (l : Log). ((seats : List SeatSight) × IsClosedNet n l seats) × Replays l.config l.entries) ns ls
-
--- of one journal more it was written what its nodes have externalized, and how long it is
-abbrev pub AddsJournalLines : Log → Bytes → Bytes → Bytes → Bytes → Type 0
-AddsJournalLines l decided lengths more longer =
-    Replays l.config l.entries
-    × ((lines : Bytes) × AreDecidedLines l lines × (more ≡ decided ++ lines))
-    × (longer ≡ lengths ++ length_line l.config.number (length l.entries))
-
--- what is written of networks: what their nodes have externalized, and how long their journals are
-pub record AreJournalLines (nets : List NetSight) (decided lengths : Bytes) : Type 0 where
-  pub logs : List Log
-  pub journals : AreJournals nets logs
-  pub lines : AreAllDecidedLines logs decided
-  pub long : lengths ≡ length_lines logs
+-- A network of this configuration opened the slots that it is asked to open, and its other events were done as jobs by
+-- its one seat. Then it was closed. Its journal is one history of the seat, and a run.
+pub record IsWorkedOff (config : Config) (calls : List (ℕ × Event)) (log : Log) (report : Report) : Type 0 where
+  pub net : NetSight
+  pub opened : IsReadyNetwork config (slots_opened calls) net
+  pub seats : List SeatSight
+  pub run : IsRunAlone net.cell net.seats seats (jobs_of calls) report
+  pub ended : List SeatSight
+  pub closed : IsClosedNet (record net { seats = seats }) log ended
+  pub replays : Replays log.config log.entries
 
 -- what is printed of networks: what the nodes of each have externalized, then the length of each journal, then the
 -- counts of jobs
-pub record IsTextOfNets (nets : List NetSight) (report : Report) (text : Bytes) : Type 0 where
+pub record IsTextOfLogs (logs : List Log) (applied refused unrun : ℕ) (text : Bytes) : Type 0 where
   pub decided : Bytes
-  pub lengths : Bytes
-  pub written : AreJournalLines nets decided lengths
-  pub parts : text ≡ (decided ++ lengths) ++ report_line report.applied report.refused report.unrun
+  pub lines : AreAllDecidedLines logs decided
+  pub parts : text ≡ (decided ++ length_lines logs) ++ report_line applied refused unrun
 
--- The jobs were done, and what follows from them. However jobs are weighed, two sums are the same. One is of these
--- jobs, and of one for each emission that was gained and each other hosted node of its network. The other is of the
--- events that were gained as receipts and as denials, and of the jobs of networks that are not here. The report has the
--- numbers of these.
-pub record AreDone (jobs : List Job) (ready ended : List NetSight) (report : Report) : Type 0 where
-  pub grown : AllGrownNets ready ended
-  pub done : AreJobsDone ready ended (λ h. weigh h jobs) (λ h. 0) report
-
--- some of the jobs were done, and the others are left
-abbrev pub AreSomeDone : List Job → List Job → List NetSight → List NetSight → Report → Type 0
-AreSomeDone jobs left ready ended report =
-    (put : List Job) × ((h : Job → ℕ) → weigh h put + weigh h left ≡ weigh h jobs) × AreDone put ready ended report
-
--- Networks of these configurations join, each with this many seats and the slots that are to be opened. All other
--- events are jobs. What becomes of them is written.
-pub record IsPoolText (configs : List Config) (calls : List (ℕ × Event)) (workers : ℕ) (text : Bytes) : Type 0 where
-  pub ready : List NetSight
-  pub ended : List NetSight
+-- what a worker made of a network: its journal, and how its jobs ended
+pub record NetworkEnd : Type 0 where
+  pub log : Log
   pub report : Report
-  pub joined : HaveJoinedWithSlots workers (opens_of calls) [] configs ready
-  pub done : AreDone (jobs_of calls) ready ended report
-  pub written : IsTextOfNets ended report text
+
+-- The networks of these configurations were worked off, each with its own events. What became of them is written,
+-- ascending by number. A job of a network that is not declared counts as refused.
+pub record IsPoolText (configs : List Config) (calls : List (ℕ × Event)) (text : Bytes) : Type 0 where
+  pub shares : List Share
+  pub dealt : AreNetworkShares configs calls shares
+  pub ends : List NetworkEnd
+  pub worked : AllZip (λ s (e : NetworkEnd). IsWorkedOff s.config s.calls.items e.log e.report) shares ends
+  pub written : IsTextOfLogs (map (λ (e : NetworkEnd). e.log) ends) (weigh (λ (e : NetworkEnd). e.report.applied) ends)
+      (weigh (λ (e : NetworkEnd). e.report.refused) ends + length (jobs_of (calls_elsewhere configs calls)))
+      (weigh (λ (e : NetworkEnd). e.report.unrun) ends) text

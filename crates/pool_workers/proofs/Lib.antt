@@ -10,3 +10,4 @@ pub mod Crews
 pub mod Offers
 pub mod Handles
 pub mod Hosting
+mod AloneLaws

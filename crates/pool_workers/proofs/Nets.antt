@@ -2,9 +2,9 @@
 use Rattle.std.proofs.Common.{◌≡◌, ◌≤◌, ◌<◌, ◌+◌, nat_lt, ℕ, zero, suc, Bool, true, false, if◌then◌else◌, List, [], ◌∷◌, ◌++◌, length, length-append, get_or, drop, take, map, refl, sym, ap, ◌∙◌, subst, arith, None, inl, inr, reverse}
 use Rattle.std.specs.List.{insert}
 use Rattle.std.proofs.lemmas.Bool.Decides.{nat_tests}
-use Rattle.std.proofs.lemmas.List.{drop-map, length-map, length-reverse, map-append, reverse-append, reverse-reverse, take-append-drop, take-map}
+use Rattle.std.proofs.lemmas.List.{drop-map, length-map, length-reverse, map-append, reverse-append, reverse-reverse, take-map}
 use Rattle.std.proofs.lemmas.List.Edits.{length-insert}
-use Rattle.std.proofs.lemmas.List.Elements.{All-cons, All-from_get_or, All-nil, All-take}
+use Rattle.std.proofs.lemmas.List.Elements.{All-cons, All-from_get_or, All-nil}
 use Rattle.std.proofs.lemmas.List.Sorted.{All-permutation, IsPermutation-insert}
 use Rattle.std.proofs.lemmas.Slice.Zip.{AllZip-long}
 use Rattle.std.proofs.Math.Seq.{drop-append_seam}
@@ -20,7 +20,7 @@ use Rattle.pool_workers.specs.declared.host_state.HostState.{HostState}
 use Rattle.pool_workers.specs.declared.running.Report.{Report}
 use Rattle.pool_workers.specs.Sums.{AllGrown, IsLater, applied_of, heard_of, refused_of, seat_applied, seat_done, seat_heard, seat_refused, job, hears}
 use Rattle.pool_workers.specs.Spares.{AllGrownSpares, HaveAllSeats, HasAllSeats, IsWorked, on_spares}
-use Rattle.pool_workers.specs.HostStates.{AreStateParts, IsNetworkPut, IsRemoved, IsSameHostState, IsTurned}
+use Rattle.pool_workers.specs.HostStates.{IsNetworkPut, IsRemoved, IsSameHostState, IsTurned}
 use Rattle.pool_workers.specs.NetSights.{NetSight}
 use Rattle.pool_workers.specs.Nets.{AllElsewhere, AllGrownNets, AreJobsDone, IsHostState, IsKeptState, IsLeastNumber, IsTurnedState, NoNet, denials_gained, done_since, receipts_gained, heard_since, nets_in, nets_of, nets_with, over_nets, over_seats}
 use Rattle.pool_workers.specs.Joining.{HasNet}
@@ -221,83 +221,6 @@ leaves {S} {H} {P} f g c seats is gone =
       least c seats cs bs (subst (λ (z : ℕ × List ℕ). AllAbove z.0 z.1) (λ i. (first i, others i)) numbered.1.0),
       (λ i. nets_of (cells i) (spares i)) ∙ ap (λ (l : List SeatSight). record { cell = c; seats = l } ∷ nets_of cs bs) gone.own,
     )
-
--- networks part
-
-rising_drop : (k : ℕ) (xs : List ℕ) → IsRising xs → IsRising (drop k xs)
-rising_drop zero xs up = up
-rising_drop (suc k) [] up = up
-rising_drop (suc k) (x ∷ xs) up = rising_drop k xs up.1
-
-rising_take : (k : ℕ) (xs : List ℕ) → IsRising xs → IsRising (take k xs)
-rising_take zero xs up = tt
-rising_take (suc k) [] up = up
-rising_take (suc k) (x ∷ xs) up = (All-take (λ y. x < y) k xs up.0, rising_take k xs up.1)
-
-hosted_drop : {S H P : Type 0} → (k : ℕ) (cs : List CellSight) (bs : List (SpareSeats S H P)) → HaveAllSeats cs bs → HaveAllSeats (drop k cs) (drop k bs)
-hosted_drop zero cs bs all = all
-hosted_drop (suc k) [] [] all = tt
-hosted_drop (suc k) [] (b ∷ bs) all = absurd all
-hosted_drop (suc k) (c ∷ cs) [] all = absurd all
-hosted_drop (suc k) (c ∷ cs) (b ∷ bs) all = hosted_drop k cs bs all.1
-
-hosted_take : {S H P : Type 0} → (k : ℕ) (cs : List CellSight) (bs : List (SpareSeats S H P)) → HaveAllSeats cs bs → HaveAllSeats (take k cs) (take k bs)
-hosted_take zero cs bs all = tt
-hosted_take (suc k) [] [] all = tt
-hosted_take (suc k) [] (b ∷ bs) all = absurd all
-hosted_take (suc k) (c ∷ cs) [] all = absurd all
-hosted_take (suc k) (c ∷ cs) (b ∷ bs) all = (all.0, hosted_take k cs bs all.1)
-
-nets_drop : {S H P : Type 0} → (k : ℕ) (cs : List CellSight) (bs : List (SpareSeats S H P)) → HaveAllSeats cs bs → nets_of (drop k cs) (drop k bs) ≡ drop k (nets_of cs bs)
-nets_drop zero cs bs all = refl
-nets_drop (suc k) [] [] all = refl
-nets_drop (suc k) [] (b ∷ bs) all = absurd all
-nets_drop (suc k) (c ∷ cs) [] all = absurd all
-nets_drop (suc k) (c ∷ cs) (b ∷ bs) all = nets_drop k cs bs all.1
-
-nets_take : {S H P : Type 0} → (k : ℕ) (cs : List CellSight) (bs : List (SpareSeats S H P)) → HaveAllSeats cs bs → nets_of (take k cs) (take k bs) ≡ take k (nets_of cs bs)
-nets_take zero cs bs all = refl
-nets_take (suc k) [] [] all = refl
-nets_take (suc k) [] (b ∷ bs) all = absurd all
-nets_take (suc k) (c ∷ cs) [] all = absurd all
-nets_take (suc k) (c ∷ cs) (b ∷ bs) all = ap (λ l. record { cell = c; seats = b.seats.items } ∷ l) (nets_take k cs bs all.1)
-
--- the state of a host as its lists are said to be
-host_state_by : {S H P : Type 0} → (f : (HostState S H P)) (ns : List ℕ) (cs : List CellSight) (bs : List (SpareSeats S H P)) → f.shared.numbers.items ≡ ns → f.shared.cells.items ≡ cs → f.spares.items ≡ bs
-    → IsNumbered ns cs → HaveAllSeats cs bs → length cs ≤ 4096 → f.shared.queue ≡ None → IsHostState f
-host_state_by {S} {H} {P} f ns cs bs numbers cells spares numbered hosted few closed = record {
-  numbered = subst (λ (z : List ℕ × List CellSight). IsNumbered z.0 z.1) (λ i. (sym numbers i, sym cells i)) numbered;
-  hosted = subst (λ (z : List CellSight × List (SpareSeats S H P)). HaveAllSeats z.0 z.1) (λ i. (sym cells i, sym spares i)) hosted;
-  few = subst (λ (z : List CellSight). length z ≤ 4096) (sym cells) few;
-  closed = closed;
-}
-
-pub parted : {S H P : Type 0} → (f g h : (HostState S H P)) (k : ℕ) → IsHostState f → AreStateParts f k g h
-    → IsHostState g × IsHostState h × (nets_of g.shared.cells.items g.spares.items ≡ take k (nets_of f.shared.cells.items f.spares.items))
-    × (nets_of h.shared.cells.items h.spares.items ≡ drop k (nets_of f.shared.cells.items f.spares.items))
-parted f g h k is parts =
-    let ns = f.shared.numbers.items in
-    let cs = f.shared.cells.items in
-    let bs = f.spares.items in
-    let few = is.few in
-    let both = sym (length-append (take k cs) (drop k cs)) ∙ ap (λ (l : List CellSight). length l) (take-append-drop k cs) in (
-      host_state_by g (take k ns) (take k cs) (take k bs) parts.first_numbers parts.first_cells parts.first_spares
-          (ap (take k) is.numbered.0 ∙ take-map cell_number k cs, rising_take k ns is.numbered.1) (hosted_take k cs bs is.hosted) (omega arith) (parts.queue ∙ is.closed),
-      host_state_by h (drop k ns) (drop k cs) (drop k bs) parts.numbers parts.cells parts.spares
-          (ap (drop k) is.numbered.0 ∙ drop-map cell_number k cs, rising_drop k ns is.numbered.1) (hosted_drop k cs bs is.hosted) (omega arith) parts.none,
-      (λ i. nets_of (parts.first_cells i) (parts.first_spares i)) ∙ nets_take k cs bs is.hosted,
-      (λ i. nets_of (parts.cells i) (parts.spares i)) ∙ nets_drop k cs bs is.hosted,
-    )
-
--- as many as there are networks there are of each
-pub parts_fit : {S H P : Type 0} → (f : (HostState S H P)) (nets : List NetSight) (k : ℕ) → nets_of f.shared.cells.items f.spares.items ≡ nets → IsHostState f → k ≤ length nets
-    → (k ≤ length f.shared.numbers.items) × (k ≤ length f.shared.cells.items) × (k ≤ length f.spares.items)
-parts_fit f nets k view is le =
-    let a = ap (λ (l : List NetSight). length l) view in
-    let m = nets_len f.shared.cells.items f.spares.items is.hosted in
-    let b = AllZip-long _ f.shared.cells.items f.spares.items is.hosted in
-    let n = ap (λ (l : List ℕ). length l) is.numbered.0 ∙ length-map f.shared.cells.items cell_number in
-    (omega arith, omega arith, omega arith)
 
 -- what was gained
 

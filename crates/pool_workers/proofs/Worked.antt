@@ -137,7 +137,7 @@ fresh_sums (w ∷ ws) all =
     let one = all 0 w (omega arith) in
     (omega (arith, r.0, one.0), omega (arith, r.1, one.1))
 
-followed_past : (h : Job → ℕ) (ws : List SeatSight) → AllPast ws → weigh (followed_by h) ws ≡ weigh (λ (s : SeatSight). seat_heard h s.me) ws
+pub followed_past : (h : Job → ℕ) (ws : List SeatSight) → AllPast ws → weigh (followed_by h) ws ≡ weigh (λ (s : SeatSight). seat_heard h s.me) ws
 followed_past h [] all = refl
 followed_past h (w ∷ ws) all =
     let r = followed_past h ws (All-tail IsPast w ws all) in
@@ -205,14 +205,17 @@ grown_at xs ys i s g at =
       (AllZip-get_or IsLater xs ys i s s g lt).number ∙ ap (λ (v : SeatSight). v.me.number) (get_or_from_slice_get xs i s s at),
     )
 
+pub seats_grown : (c : CellSight) (xs ys : List SeatSight) → HasAllSeats c xs → AllGrown xs ys → HasAllSeats c ys
+seats_grown c xs ys h l = record {
+  own = own_grown c xs ys l h.own;
+  some = h.some;
+  all = λ k lt. (let n = h.all k lt in let t = grown_at xs ys n.0 n.1 l n.2 in (n.0, t.0, t.1, t.2 ∙ n.3));
+}
+
 pub hosted_grown : {S H P : Type 0} → (cs : List CellSight) (xs ys : List (SpareSeats S H P)) → HaveAllSeats cs xs → AllGrownSpares xs ys → HaveAllSeats cs ys
 hosted_grown cs xs ys all g =
     zip-then _ _ _
-    (λ (c : CellSight) (x y : SpareSeats _ _ _) (h : HasAllSeats c x.seats.items) (l : AllGrown x.seats.items y.seats.items × (vec_capacity y.seats ≡ vec_capacity x.seats)). record {
-      own = own_grown c x.seats.items y.seats.items l.0 h.own;
-      some = h.some;
-      all = λ k lt. (let n = h.all k lt in let t = grown_at x.seats.items y.seats.items n.0 n.1 l.0 n.2 in (n.0, t.0, t.1, t.2 ∙ n.3));
-    })
+    (λ (c : CellSight) (x y : SpareSeats _ _ _) (h : HasAllSeats c x.seats.items) (l : AllGrown x.seats.items y.seats.items × (vec_capacity y.seats ≡ vec_capacity x.seats)). seats_grown c x.seats.items y.seats.items h l.0)
     cs xs ys all g
 
 -- the workers that a call wrote back stand where they stood

@@ -1,5 +1,5 @@
 -- Networks that join and leave.
-use Rattle.std.specs.Prelude.{◌≡◌, ◌<◌, ℕ, List, [], ◌∷◌, ◌++◌, None, drop, insert, reverse, take, vec_len, vec_capacity}
+use Rattle.std.specs.Prelude.{◌≡◌, ◌<◌, ℕ, List, [], ◌∷◌, ◌++◌, insert, reverse, vec_len, vec_capacity}
 use Rattle.pool_cell.specs.Sights.{CellSight}
 use Rattle.pool_cell.specs.Sights.{SeatSight}
 use Rattle.pool_workers.specs.declared.deal.SpareSeats.{SpareSeats}
@@ -45,14 +45,3 @@ pub record IsRemoved {S H P : Type 0} (a : (HostState S H P)) (c : CellSight) (s
   pub own : spare.seats.items ≡ seats
   pub spares : a.spares.items ≡ b.spares.items ++ spare ∷ []
   pub queue : b.shared.queue ≡ a.shared.queue
-
--- the networks in two parts: the first ones, this many, with the queue, and the others
-pub record AreStateParts {S H P : Type 0} (a : (HostState S H P)) (count : ℕ) (b c : (HostState S H P)) : Type 0 where
-  pub first_numbers : b.shared.numbers.items ≡ take count a.shared.numbers.items
-  pub first_cells : b.shared.cells.items ≡ take count a.shared.cells.items
-  pub first_spares : b.spares.items ≡ take count a.spares.items
-  pub queue : b.shared.queue ≡ a.shared.queue
-  pub numbers : c.shared.numbers.items ≡ drop count a.shared.numbers.items
-  pub cells : c.shared.cells.items ≡ drop count a.shared.cells.items
-  pub spares : c.spares.items ≡ drop count a.spares.items
-  pub none : c.shared.queue ≡ None

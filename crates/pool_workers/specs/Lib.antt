@@ -5,3 +5,4 @@ pub mod NetSights
 pub mod Nets
 pub mod Joining
 pub mod HostStates
+pub mod Alone

@@ -1,6 +1,6 @@
 //! The networks of one host.
 
-ghost use Rattle.std.specs.Prelude.{◌≡◌, ◌<◌, ◌≤◌, [], ◌∷◌, ◌++◌, IfErr, IfOk, IfSome, IfNone, OnOk, drop, length, take, Err};
+ghost use Rattle.std.specs.Prelude.{◌≡◌, ◌<◌, ◌≤◌, [], ◌∷◌, ◌++◌, IfErr, IfSome, IfNone, OnOk, length, Err};
 ghost use Rattle.pool_workers.specs.Spares.{HasAllSeats};
 ghost use Rattle.pool_workers.specs.NetSights.{NetSight};
 ghost use Rattle.pool_workers.specs.Joining.{IsWhyNotJoined};
@@ -27,7 +27,6 @@ pub const MAX_NETWORKS: usize = 4096;
 /// For example, networks that joined as 7, 3 and 5 stand as 3, 5, 7.
 #[derive(Drop)]
 pub struct Host<S: Shelf, H: Wait + Drop> {
-    pub(crate) alloc: Global,
     pub(crate) host_state: HostState<S, H>,
     // Whether the lists of the state stand turned around, the least number last, as when networks are closed.
     pub(crate) is_turned: bool,
@@ -56,7 +55,6 @@ impl<S: Shelf + Drop, H: Wait + Drop> Host<S, H> {
         ensures { result ≡ [] }
     {
         Host {
-            alloc,
             host_state: HostState {
                 shared: Shared {
                     numbers: Vec::new(alloc),
@@ -115,8 +113,7 @@ impl<S: Shelf + Drop, H: Wait + Drop> Host<S, H> {
     /// which have ended: together one history of one thread. `None` says that there is no network left.
     ///
     /// It takes no memory, and only as much time as the seats of this network ask for, however many others the host
-    /// has. But the first of such calls turns the networks around, and a run, `add` or `split_at` behind it turns them
-    /// back.
+    /// has. But the first of such calls turns the networks around, and a run or `add` behind it turns them back.
     pub fn close_next<R: Wait>(&mut self, rt: &R) -> Option<(Journal<S>, Vec<Seat<S, H>>)>
         ensures none { IfNone result ((self.old ≡ []) × (self.new ≡ [])) }
         ensures closed { IfSome result (λ r. (net : NetSight) × (self.old ≡ net ∷ self.new) × IsLeastNumber net self.new × IsClosedNet net r.0 r.1.items) }
@@ -131,40 +128,6 @@ impl<S: Shelf + Drop, H: Wait + Drop> Host<S, H> {
             Ok(done) => Some(done),
             // All seats are there.
             Err(_) => unreachable!(),
-        }
-    }
-
-    /// The first `count` networks, and the others, each part as a host of its own. If it is out of memory, the host is
-    /// handed back as it was.
-    pub fn split_at(self, count: usize) -> Result<(Host<S, H>, Host<S, H>), Host<S, H>>
-        requires { count ≤ length self }
-        ensures ok { IfOk result (λ r. (r.0 ≡ take count self) × (r.1 ≡ drop count self)) }
-        ensures back { IfErr result (λ h. h ≡ self) }
-    {
-        let Host {
-            alloc,
-            mut host_state,
-            is_turned,
-        } = self;
-        host_state.turn_to(is_turned, false);
-        match host_state.split_off(alloc, count) {
-            Ok(others) => Ok((
-                Host {
-                    alloc,
-                    host_state,
-                    is_turned: false,
-                },
-                Host {
-                    alloc,
-                    host_state: others,
-                    is_turned: false,
-                },
-            )),
-            Err(_) => Err(Host {
-                alloc,
-                host_state,
-                is_turned: false,
-            }),
         }
     }
 }

@@ -1,14 +1,13 @@
 //! The cells of a host, and the seats at them.
 
-ghost use Rattle.std.specs.Prelude.{◌≡◌, ◌<◌, ◌≤◌, ◌∷◌, IfOk, OnErr, length, insert, IsTrue, vec_len, vec_capacity};
-ghost use Rattle.pool_workers.specs.HostStates.{AreStateParts, HasRoomForCell, IsNetworkPut, IsRemoved, IsSameHostState, IsTurned};
+ghost use Rattle.std.specs.Prelude.{◌≡◌, ◌<◌, ◌≤◌, ◌∷◌, length, insert, IsTrue, vec_len, vec_capacity};
+ghost use Rattle.pool_workers.specs.HostStates.{HasRoomForCell, IsNetworkPut, IsRemoved, IsSameHostState, IsTurned};
 ghost use Rattle.pool_workers.specs.Nets.{IsKeptState, nets_in};
 
 use crate::deal::SpareSeats;
 use crate::shared::Shared;
 use node_store::Shelf;
 use pool_cell::{Cell, Seat};
-use std::alloc::{AllocError, Global};
 use std::sync::Wait;
 
 /// What workers share, and the seats that they do not have now, in the order of the cells.
@@ -87,40 +86,5 @@ impl<S: Shelf + Drop, H: Wait + Drop> HostState<S, H> {
         };
         let SpareSeats { seats } = spare;
         (cell, seats)
-    }
-
-    /// The networks behind the first `count` leave, without the queue. If it is out of memory, all are as they were.
-    pub(crate) fn split_off(
-        &mut self,
-        alloc: Global,
-        count: usize,
-    ) -> Result<HostState<S, H>, AllocError>
-        requires { (count ≤ length self.old.shared.numbers.items) × (count ≤ length self.old.shared.cells.items) × (count ≤ length self.old.spares.items) }
-        ensures ok { IfOk result (λ r. AreStateParts self.old count self.new r) }
-        ensures err { OnErr result (IsSameHostState self.old self.new) }
-    {
-        let mut numbers = Vec::new(alloc);
-        numbers.extend_from_slice(&self.shared.numbers[count..])?;
-        let mut cells = self.shared.cells.split_off(count)?;
-        match self.spares.split_off(count) {
-            Ok(spares) => {
-                self.shared.numbers.truncate(count);
-                Ok(HostState {
-                    shared: Shared {
-                        numbers,
-                        cells,
-                        queue: None,
-                    },
-                    spares,
-                })
-            }
-            // Memory: the cells go back to where they were; there is room for them.
-            Err(_) => {
-                let Ok(()) = self.shared.cells.append(&mut cells) else {
-                    unreachable!()
-                };
-                Err(AllocError)
-            }
-        }
     }
 }

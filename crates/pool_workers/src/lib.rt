@@ -12,6 +12,7 @@
 //! and is counted so in the [`Report`].
 #![tactic(auto)]
 
+mod alone;
 mod applying;
 mod crew;
 mod deal;
@@ -25,6 +26,7 @@ mod shared;
 mod worker;
 mod workplace;
 
+pub use alone::run_alone;
 pub use crew::Crew;
 pub use gate::Gate;
 pub use host::{Host, MAX_NETWORKS};

@@ -1,5 +1,5 @@
 -- What the commands print.
-use Rattle.std.proofs.Common.{◌≡◌, ℕ, Bool, true, false, Option, inl, subst, sym}
+use Rattle.std.proofs.Common.{◌≡◌, Bool, true, false, Option, inl, subst, sym}
 use Rattle.line_script.specs.Script.{Bytes}
 use Rattle.scp_spec.specs.Hosts.{History}
 use Rattle.line_run.specs.Submitting.{Submitting}
@@ -37,9 +37,9 @@ has-crowded subject one other old new end first second h k a told also e f right
     let right' = subst (λ x. TellsCrowd first.history x subject a) f (subst (λ x. TellsCrowd x k subject a) e right) in
     inl (a, (first, second, told, also, right'), printed)
 
-pub has-pooled : (workers : ℕ) (file old new : Option Bytes) (end : End) (a : Answer) → IsPooled workers file a
-    → IsPrinted a old new end → HasAnswered (IsPooled workers file) (StopsSubmission false file) old new end
-has-pooled workers file old new end a right printed = inl (a, right, printed)
+pub has-pooled : (file old new : Option Bytes) (end : End) (a : Answer) → IsPooled file a
+    → IsPrinted a old new end → HasAnswered (IsPooled file) (StopsSubmission false file) old new end
+has-pooled file old new end a right printed = inl (a, right, printed)
 
 -- a call that is this one is performed as this one is
 pub performed-as : (call one : Call) (first second old new : Option Bytes) (end : End) → call ≡ one

@@ -57,11 +57,11 @@ abbrev pub IsCrowdAnswer : Subject → Option Bytes → Option Bytes → Answer 
 IsCrowdAnswer subject one other a = (first second : Submitting) × IsSubmittedBy true one first × IsSubmittedBy true other second
     × TellsCrowd first.history second.history subject a
 
--- the answer tells what became of the networks of a script whose events were jobs of this many workers
-abbrev pub IsPooled : ℕ → Option Bytes → Answer → Type 0
-IsPooled workers script a =
+-- the answer tells what became of the networks of a script whose events were jobs of workers
+abbrev pub IsPooled : Option Bytes → Answer → Type 0
+IsPooled script a =
     (run : Submitting) × IsSubmittedBy false script run × (a.differs ≡ false)
-    × IsPoolText run.history.configs run.history.calls workers (string_bytes a.text)
+    × IsPoolText run.history.configs run.history.calls (string_bytes a.text)
 
 -- the lines of a script are run in order, from this state on, and what they print is written; it is told how the run
 -- ended
@@ -78,10 +78,10 @@ names_files (Encode asked) = false
 names_files (Decode digits) = false
 names_files _ = true
 
--- what `run` does with a script: its lines are run in order, or they are jobs of this many workers
+-- what `run` does with a script: its lines are run in order, or they are jobs of workers, however many
 abbrev pub IsRunOn : Option ℕ → Option Bytes → Option Bytes → Option Bytes → End → Type 0
 IsRunOn None script old new end = HasRunLines Running.Tells Running.RefusesLine new_hosting script old new end
-IsRunOn (Some workers) script old new end = HasAnswered (IsPooled workers script) (StopsSubmission false script) old new end
+IsRunOn (Some workers) script old new end = HasAnswered (IsPooled script) (StopsSubmission false script) old new end
 
 -- What a call does with its files: it runs the lines of one, prints the answer, or makes one shorter. What is about one
 -- envelope has none, and `serve` is not performed so.
@@ -108,7 +108,7 @@ HasRunAsTheyCome {S = S} tells refuses start input old new end =
     (ran : Result (Unit {0}) Stop) × (last : S) × IsEndOf ran end
     × HasRunStream longest_script tells refuses start input old new ran last
 
--- what `run` does with the standard input: its lines are run as they come, or all of them are jobs of this many workers
+-- what `run` does with the standard input: its lines are run as they come, or all of them are jobs of workers
 abbrev pub IsRunAsItComes : Option ℕ → Option Bytes → Option Bytes → Option Bytes → End → Type 0
 IsRunAsItComes None input old new end = HasRunAsTheyCome Running.Tells Running.RefusesLine new_hosting input old new end
 IsRunAsItComes (Some workers) input old new end = IsRunOn (Some workers) input old new end

@@ -116,7 +116,7 @@ fn perform_pool<
     script: &mut R,
     outputs: &mut Outputs<W, E>,
 ) -> Result<bool, Stop>
-    ensures { HasAnswered (IsPooled workers (R.remaining script.old)) (StopsSubmission false (R.remaining script.old))
+    ensures { HasAnswered (IsPooled (R.remaining script.old)) (StopsSubmission false (R.remaining script.old))
         (W.contents outputs.old.out) (W.contents outputs.new.out) result }
 {
     match answer_pool(rt, script, workers) {

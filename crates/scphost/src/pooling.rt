@@ -1,4 +1,4 @@
-//! A script whose events are jobs of a pool of workers.
+//! A script whose events are jobs of workers.
 
 ghost use Rattle.std.specs.Prelude.{IfErr, IfOk, false};
 ghost use Rattle.scphost.specs.Printing.{IsPooled};
@@ -12,14 +12,14 @@ use std::io::Read;
 use std::sync::Wait;
 use std::thread::Threads;
 
-/// Reads a script whole for its jobs, without running any, and has a pool run them: what became of the networks, as it
+/// Reads a script whole for its jobs, without running any, and has workers run them: what became of the networks, as it
 /// is printed. A bad line ends it before anything is run.
 pub fn answer_pool<A: AllocGlobal + Threads + Wait + Sync + Send + Copy + Drop, R: Read>(
     rt: &A,
     script: &mut R,
     workers: PoolSize,
 ) -> Result<Answer, Stop>
-    ensures pooled { IfOk result (IsPooled workers (R.remaining script.old)) }
+    ensures pooled { IfOk result (IsPooled (R.remaining script.old)) }
     ensures stopped { IfErr result (StopsSubmission false (R.remaining script.old)) }
 {
     let alloc = rt.alloc();

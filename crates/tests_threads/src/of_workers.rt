@@ -194,7 +194,7 @@ fn run_and_close<R: Threads + Wait + Sync + Send + Drop + Copy>(
     let gate = Counting::new();
     let mut host = host_of_networks(rt, alloc, 64, 3, 4)?;
     let said = run_four(rt, alloc, &mut host, &gate);
-    let tally = close_all(rt, alloc, host)?;
+    let tally = close_all(rt, alloc, host);
     let (opened, proposed) = said?;
     Some((opened, proposed, gate.counts(), tally))
 }

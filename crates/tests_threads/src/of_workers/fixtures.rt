@@ -261,25 +261,12 @@ fn count_seats<S: Shelf, H: Wait + Drop>(seats: &[Seat<S, H>], tally: &mut Tally
     }
 }
 
-/// Adds what all journals and seats have.
-fn close_each<R: Wait + Drop>(
-    rt: &R,
-    alloc: Global,
-    host: &mut Host<SharedHandle<R>, R>,
-    tally: &mut Tally,
-) {
-    while let Some((journal, seats)) = host.close_next(rt) {
-        replay(alloc, &journal, tally);
-        count_seats(&seats, tally);
-    }
-}
-
-/// What all journals and seats have; each half of the networks is closed for itself. `None` if it is out of memory.
+/// What all journals and seats have.
 pub(super) fn close_all<R: Wait + Drop>(
     rt: &R,
     alloc: Global,
-    host: Host<SharedHandle<R>, R>,
-) -> Option<Tally> {
+    mut host: Host<SharedHandle<R>, R>,
+) -> Tally {
     let mut tally = Tally {
         unlike: 0,
         entries: 0,
@@ -287,9 +274,9 @@ pub(super) fn close_all<R: Wait + Drop>(
         emissions: 0,
         decisions: 0,
     };
-    let count = host.len() / 2;
-    let (mut first, mut others) = host.split_at(count).ok()?;
-    close_each(rt, alloc, &mut first, &mut tally);
-    close_each(rt, alloc, &mut others, &mut tally);
-    Some(tally)
+    while let Some((journal, seats)) = host.close_next(rt) {
+        replay(alloc, &journal, &mut tally);
+        count_seats(&seats, &mut tally);
+    }
+    tally
 }

@@ -1,4 +1,4 @@
-use Rattle.std.proofs.Common.{◌≡◌, ◌∙◌, Box, IfSome, List, Option, subst, sym}
+use Rattle.std.proofs.Common.{◌≡◌, ◌∙◌, Box, IfSome, List, Option, Some, ap, option_map, subst, sym}
 use Rattle.std.specs.Global.{Global}
 use Rattle.scp_types.specs.Statements.{Sent, kind_of}
 use Rattle.node_store.specs.Archives.{sent_of, sents_of}
@@ -14,12 +14,13 @@ pub returns-in_default-there : goal.returns-in_default-there
 returns-in_default-there g c =
     stranger_keeps c.args.configured.now (sents_of c.args.table.now) (sent_of c.args.row.now.envelope) (region_of (reach_in c.args.known.now)) c.args.there.now c.requires.among c.in_default-there.is
 
-pub returns-then-has_slices_at : goal.returns-then-has_slices_at
-returns-then-has_slices_at g c =
+pub returns-then-has_same_slices : goal.returns-then-has_same_slices
+returns-then-has_same_slices g c =
     let e = sent_of c.args.row.now.envelope in
     let table = sents_of c.args.table.now in
     let there : place_of_row table e.sender (kind_of e.body) ≡ c.in-Some-there.there.row = subst (λ (o : Option Standing). IfSome o (λ s. place_of_row table e.sender (kind_of e.body) ≡ s.row)) c.in-Some-there.is c.requires.row in
-    same_slices_keep c.args.configured.now table e (region_of (reach_in c.args.known.now)) c.in-Some-get.place (there ∙ (sym c.get.ensures ∙ c.in-Some-get.is)) (c.has_slices_at.ensures.0 c.if-has_slices_at.true)
+    same_slices_keep c.args.configured.now table e (region_of (reach_in c.args.known.now)) c.in-Some-get.place (there ∙ (sym c.get.ensures ∙ c.in-Some-get.is))
+    (ap (option_map (λ (x : Sent). x.slices)) (sym c.in-Some-filed_at.ensures.row) ∙ ap (λ s. Some s) (c.has_same_slices.ensures.0 c.if-has_same_slices.true))
 
 pub effect_on-requires-clause-latest : goal.effect_on-requires-clause-latest
 effect_on-requires-clause-latest g c = λ same.

@@ -1,8 +1,8 @@
-use Rattle.std.proofs.Common.{◌≡◌, ◌∙◌, List, true, ap, inl, inr, subst, sym}
+use Rattle.std.proofs.Common.{◌≡◌, ◌∙◌, List, None, true, ap, inl, inr, set, subst, sym}
 use Rattle.scp_spec.specs.Rows.{has_single_rows, table_with_offer}
 use Rattle.node_store.specs.declared.filed.Filed.{Filed}
-use Rattle.node_store.specs.Archives.{KeepsBut, sent_of, sents_of}
-use Rattle.node_table.specs.Puts.{IsPut}
+use Rattle.node_store.specs.Archives.{sent_of, sents_of}
+use Rattle.node_table.specs.Puts.{IsFiledPut, IsPut}
 use Rattle.node_view.proofs.Offers.{table_with_offer-stale, table_with_offer-taken}
 use Rattle.line_table.specs.Listeners.{HeardRows}
 use Rattle.line_table.proofs.GoneRows.{rows-stay}
@@ -16,7 +16,8 @@ invariant_of-self-in-Replaced c =
     let row = c.in-Replaced.row in
     let p = subst (λ p. IsPut old x p new) c.in-Replaced.is c.put-2.ensures.put in
     let single : has_single_rows (sents_of old) ≡ true = subst (λ (fs : List Filed). has_single_rows (sents_of fs) ≡ true) c.table.ensures c.rows-single_rows.ensures.single in
-    rows-stay old new x row c.put.new.self c.remove.new.self single p.0 p.1 p.2 c.put-2.ensures.filed (subst (λ (r : Filed). KeepsBut (sent_of r) c.put.new.self c.remove.new.self) c.in-Replaced.row-is c.remove.ensures)
+    let known = subst (λ p. IsFiledPut c.put.new.self p) c.in-Replaced.is c.put-2.ensures.known in
+    rows-stay old new x row c.put.new.self c.remove.new.self single p.0 p.1 p.2 c.put-2.ensures.filed known (subst (λ (r : Filed). c.remove.new.self ≡ set c.put.new.self r.number None) c.in-Replaced.row-is c.remove.ensures)
 
 pub returns-in-Stale-clause-offered : goal.returns-in-Stale-clause-offered
 returns-in-Stale-clause-offered c =

@@ -1,16 +1,6 @@
-use Rattle.std.proofs.Common.{rules, None}
-use Rattle.std.specs.Prelude.{IfSome}
-use Rattle.std.proofs.lemmas.List.Elements.{All-set}
+use Rattle.std.proofs.Common.{rules}
 use Rattle.node_store.proofs.Growing.{frees-at}
-use Rattle.node_store.proofs.Telling.{told-freed}
 use Rattle.node_store.proofs.archive.Archive.let_go_at.Goals as goal
 
 pub returns-then-not-is_kept : goal.returns-then-not-is_kept
-returns-then-not-is_kept g c = frees-at g.S.Places.put_there (g.T.Slots.is_among c.args.slots.now) _ c.self.inside.places.items c.args.number c.self.view_is (search rules)
-
-pub invariant_of-self : goal.invariant_of-self
-invariant_of-self g c =
-    let inside = c.self.inside in (
-      All-set (λ o. IfSome o (g.S.Places.is_of inside.shelf)) inside.places.items c.args.number None tt c.self.invariant.0,
-      told-freed g.S.Places.put_there inside.places.items c.args.number inside.told.numbers.items inside.told.last c.self.invariant.1,
-    )
+returns-then-not-is_kept g c = frees-at (g.T.Slots.is_among c.args.slots.now) _ _ c.args.number c.clear.ensures (search rules)

@@ -21,15 +21,15 @@ invariant_of-self-2 g c =
     let number = c.vacant-number.result in
     let place = c.in_ok-place.place in
     let told = c.note.new.self in
-    let head = c.head-head.result in
+    let candidate = c.candidate-candidate.result in
     let is : f place ≡ c.args.envelope = search rules in
     let same : map (option_map f) places ≡ c.args.self.now = ap (map (option_map f)) c.reserve.ensures.items ∙ c.self.view_is in
     let slices : c.slices-2.result.now ≡ (f place).slices = c.slices-2.ensures ∙ sym (ap (λ (e : Sent). e.slices) is) in (
       all-put (g.S.Places.is_of c.put.new.self) places grown number place c.vacant-number.ensures.grown (search rules)
           (all-kept (g.S.Places.is_of inside.shelf) (g.S.Places.is_of c.put.new.self) inside.places.items places c.reserve.ensures.items c.put.ensures.kept c.self.invariant.0),
-      told-put f places grown number place inside.told.numbers.items told.numbers.items inside.told.last told.last head c.has_slices_at-is_same.result c.vacant-number.ensures.grown c.vacant-number.ensures.vacant
+      told-put f places grown number place inside.told.numbers.items told.numbers.items inside.told.last told.last candidate c.is_some-is_same.result c.vacant-number.ensures.grown c.vacant-number.ensures.vacant
           (told-kept f inside.places.items places inside.told.numbers.items inside.told.last c.reserve.ensures.items c.self.invariant.1)
-          (λ h. ap (λ (a : Archived). filed_slices_at a head) same ∙ c.has_slices_at-is_same.ensures.0 h ∙ ap (λ x. Some x) slices)
+          (λ h. ap (λ (a : Archived). filed_slices_at a candidate) same ∙ c.same_slices_at.ensures.there.0 (search rules) ∙ ap (λ x. Some x) slices)
           c.note.ensures.others c.note.ensures.number c.note.ensures.within c.note.ensures.last,
     )
 
