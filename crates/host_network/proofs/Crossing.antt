@@ -27,6 +27,8 @@ use Rattle.node_table.specs.contracts.table.Table as Table
 use Rattle.node_view.specs.contracts.configured.Configured as Configured
 use Rattle.node_view.specs.contracts.listener.Listener as Listener
 use Rattle.node_core.specs.contracts.node.Node as Node
+use Rattle.node_leaders.proofs.draws.Hashed.TheSendSync as hashed
+use Rattle.node_leaders.specs.contracts.draws.Draws as Draws
 use Rattle.node_store.specs.contracts.filed.Filed as Filed
 use Rattle.node_store.specs.contracts.archive.Archive as Archive
 use Rattle.host_config.specs.contracts.hosted_node.HostedNode as HostedNode
@@ -150,11 +152,17 @@ instance_sync = search (sendable, crosses, node_sync, log_sync, tallies_sync) de
 instance_send : IsSend (Instance.the_row)
 instance_send = search (sendable, crosses, node_send, log_send, tallies_send) depth 40
 
+draws_sync : IsSync (Draws.the_row)
+draws_sync = search (sendable, crosses, hashed.the_sync) depth 40
+
+draws_send : IsSend (Draws.the_row)
+draws_send = search (sendable, crosses, hashed.the_send) depth 40
+
 slot_sync : IsSync (OpenSlot.the_row)
-slot_sync = search (sendable, crosses, instance_sync) depth 40
+slot_sync = search (sendable, crosses, instance_sync, draws_sync) depth 40
 
 slot_send : IsSend (OpenSlot.the_row)
-slot_send = search (sendable, crosses, instance_send) depth 40
+slot_send = search (sendable, crosses, instance_send, draws_send) depth 40
 
 slot_index_sync : IsSync (SlotIndex.the_row)
 slot_index_sync = search (sendable, crosses, slot_place.the_sync) depth 40

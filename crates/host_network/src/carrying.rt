@@ -53,8 +53,20 @@ impl<S: Shelf> Network<S> {
         ensures config { self.new.config ≡ self.old.config }
         ensures kept { Keeps self.old.archive self.new.archive }
     {
+        self.look_for_sender(event);
         let plan = self.plan(event)?;
         self.carry_out(plan)
+    }
+
+    /// Notes where the node stands whose emission is to be heard, so that it is not searched for at each hearing.
+    fn look_for_sender(&mut self, event: &Event)
+        ensures { self.new ≡ self.old }
+    {
+        if let Event::Hear { from, .. } = event {
+            if let Ok(place) = self.place_from(self.from_node, from) {
+                self.from_node = place;
+            }
+        }
     }
 
     /// Applies the delivery of `size` bytes that say this to a node, as [`Network::apply`] does one whose bytes it reads.

@@ -15,6 +15,7 @@ ghost use Rattle.host_network.specs.EmissionsByKind.{AreByKind, nth_of, places_o
 
 use crate::applied::{Given, Outcome};
 use node_core::{FiledEvent, FiledOut, Node};
+use node_leaders::Draws;
 use node_store::{Archive, Filed, Shelf};
 use scp_types::Kind;
 use std::alloc::{AllocError, Global};
@@ -106,6 +107,7 @@ impl EmissionLog {
     pub(crate) fn advance<S: Shelf>(
         &mut self,
         archive: &mut Archive<S>,
+        draws: &mut Draws,
         node: &mut Node,
         event: FiledEvent,
     ) -> Result<Outcome, AllocError>
@@ -128,7 +130,7 @@ impl EmissionLog {
             drop(event);
             return Err(AllocError);
         };
-        let given_out = node.advance(alloc, archive, event)?;
+        let given_out = node.advance(alloc, archive, draws, event)?;
         log_outs(
             archive,
             &given_out.filed,

@@ -86,8 +86,8 @@ impl<S: Shelf> Network<S> {
         ensures { IsPlannedSurely self.now (Hears slot node.now emission.now.from emission.now.kind emission.now.number) result }
     {
         let _slots = &self.slots;
-        let node_at = self.next_place(node)?;
-        let from_at = self.node_place(&emission.from)?;
+        let node_at = self.place_from(self.next_node, node)?;
+        let from_at = self.place_from(self.from_node, &emission.from)?;
         if *node == emission.from {
             return Err(Refusal::NoSuchNode);
         }

@@ -16,6 +16,7 @@ use crate::emission_log::EmissionLog;
 use crate::plan::Charge;
 use crate::tallies::{Tallies, count};
 use node_core::{FiledEvent, Node};
+use node_leaders::Draws;
 use node_store::{Archive, Filed, Shelf};
 use scp_types::{Kind, Nested, NodeId};
 use std::alloc::{AllocError, Global};
@@ -115,6 +116,7 @@ impl Instance {
     pub(crate) fn act<S: Shelf>(
         &mut self,
         archive: &mut Archive<S>,
+        draws: &mut Draws,
         event: FiledEvent,
         charge: &Charge,
     ) -> Result<Outcome, AllocError>
@@ -137,7 +139,7 @@ impl Instance {
             drop(event);
             return Err(AllocError);
         };
-        let applied = emitted.advance(archive, node, event)?;
+        let applied = emitted.advance(archive, draws, node, event)?;
         node.rows_are_its_table();
         count(own, heard, charge);
         Ok(applied)

@@ -48,6 +48,8 @@ pub struct Network<S: Shelf> {
     pub(crate) opens: u64,
     /// Behind the place of the node that an event came to last: where the next one is looked for first.
     pub(crate) next_node: usize,
+    /// The place of the node whose emission was to be heard last: where the next one's is looked for first.
+    pub(crate) from_node: usize,
 }
 
 impl<S: Shelf> Model for Network<S> {
@@ -79,6 +81,7 @@ impl<S: Shelf> Network<S> {
             bytes: 0,
             opens: 0,
             next_node: 0,
+            from_node: 0,
         }
     }
 
@@ -196,12 +199,12 @@ impl<S: Shelf> Network<S> {
         self.config.place(node).ok_or(Refusal::NoSuchNode)
     }
 
-    /// The place of a hosted node, looked for behind the last one first, or [`Refusal::NoSuchNode`].
-    pub(crate) fn next_place(&self, node: &NodeId) -> Result<usize, Refusal>
+    /// The place of a hosted node, looked for at `first` first, or [`Refusal::NoSuchNode`].
+    pub(crate) fn place_from(&self, first: usize, node: &NodeId) -> Result<usize, Refusal>
         ensures { MatchResult result (λ at. index_of_name self.now.config.nodes node.now ≡ Some at) (λ r. (r ≡ Refusal.NoSuchNode) × (index_of_name self.now.config.nodes node.now ≡ None)) }
     {
         self.config
-            .place_from(self.next_node, node)
+            .place_from(first, node)
             .ok_or(Refusal::NoSuchNode)
     }
 

@@ -16,15 +16,18 @@ use crate::instance::Instance;
 use crate::plan::Charge;
 use host_config::{HostedNode, NetConfig};
 use node_core::FiledEvent;
+use node_leaders::Draws;
 use node_store::{Archive, Shelf};
 use std::alloc::{AllocError, Global};
 use std::marker::Model;
 
-/// An open slot, with the hosted nodes there in the order of the configuration.
+/// An open slot, with the hosted nodes there in the order of the configuration, and hashes that were drawn for leaders
+/// there.
 #[derive(Drop)]
 pub(crate) struct OpenSlot {
     number: u64,
     instances: Vec<Instance>,
+    draws: Draws,
 }
 
 impl Model for OpenSlot {
@@ -53,7 +56,11 @@ impl OpenSlot {
         ensures counts { IfOk result (λ s. All HasDrawnNothing s.instances) }
     {
         let instances = fresh_instances(alloc, number, config.nodes())?;
-        Ok(OpenSlot { number, instances })
+        Ok(OpenSlot {
+            number,
+            instances,
+            draws: Draws::new(alloc),
+        })
     }
 
     /// The number of the slot.
@@ -89,7 +96,12 @@ impl OpenSlot {
         ensures archived { All (IsInstanceFiled archive.new) self.new.instances }
         ensures kept { Keeps archive.old archive.new }
     {
-        self.instances[at].act(archive, event, charge)
+        let OpenSlot {
+            instances,
+            draws,
+            ..
+        } = self;
+        instances[at].act(archive, draws, event, charge)
     }
 }
 

@@ -7,7 +7,7 @@ ghost use Rattle.scp_spec.specs.States.{counter_of};
 ghost use Rattle.node_core.specs.NodeParts.{inputs_in_round};
 
 use crate::outs::is_externalized;
-use node_leaders::leader;
+use node_leaders::{Draws, leader};
 use node_rules::{ballot_at_counter, ballot_is_live, nomination_is_live};
 use node_view::Configured;
 use scp_types::{Inputs, Value, Votes};
@@ -40,6 +40,7 @@ pub(crate) fn is_counter_live(votes: &Votes, counter: u32) -> bool
 /// of memory, or that a value has too many owners.
 pub(crate) fn with_proposal(
     alloc: Global,
+    draws: &mut Draws,
     configured: &Configured,
     inputs: &Inputs,
     votes: &Votes,
@@ -53,7 +54,7 @@ pub(crate) fn with_proposal(
         ..copy
     };
     Ok(Changed {
-        inputs: in_round(configured, inputs, 1)?,
+        inputs: in_round(draws, configured, inputs, 1)?,
         votes: votes.try_copy()?,
     })
 }
@@ -62,6 +63,7 @@ pub(crate) fn with_proposal(
 /// it is out of memory, or that a value has too many owners.
 pub(crate) fn in_next_round(
     alloc: Global,
+    draws: &mut Draws,
     configured: &Configured,
     inputs: &Inputs,
     votes: &Votes,
@@ -71,17 +73,28 @@ pub(crate) fn in_next_round(
     ensures { IfOk result (λ d. d ≡ record { inputs = inputs_in_round configured.now inputs.now (round + 1); votes = votes.now }) }
 {
     Ok(Changed {
-        inputs: in_round(configured, inputs.try_copy(alloc)?, round + 1)?,
+        inputs: in_round(draws, configured, inputs.try_copy(alloc)?, round + 1)?,
         votes: votes.try_copy()?,
     })
 }
 
 /// Begins the round, with its leader; earlier leaders stay.
-fn in_round(configured: &Configured, inputs: Inputs, round: u32) -> Result<Inputs, AllocError>
+fn in_round(
+    draws: &mut Draws,
+    configured: &Configured,
+    inputs: Inputs,
+    round: u32,
+) -> Result<Inputs, AllocError>
     ensures { IfOk result (λ g. g ≡ inputs_in_round configured.now inputs round) }
 {
     let mut inputs = inputs;
-    let leader = leader(configured.slot, round, &configured.name, &configured.slices);
+    let leader = leader(
+        draws,
+        configured.slot,
+        round,
+        &configured.name,
+        &configured.slices,
+    );
     inputs.leaders.push(leader)?;
     inputs.round = round;
     Ok(inputs)

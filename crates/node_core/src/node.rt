@@ -24,6 +24,7 @@ use crate::filed::{FiledEvent, GivenOut};
 use crate::filing::nothing;
 use crate::outs::is_externalized;
 use crate::stirring::{Stirred, put_row};
+use node_leaders::Draws;
 use node_rules::leads;
 use node_store::{Archive, Filed, Places, Shelf};
 use node_table::{Put, Rows, Table};
@@ -197,7 +198,8 @@ impl Node {
     /// envelope.
     ///
     /// The rows of the node, and the envelope that it takes, lie in the archive that is lent. The envelopes that it
-    /// gives out are filed there.
+    /// gives out are filed there. Hashes that were drawn for leaders are lent too, so that a hash that is there is not
+    /// drawn once more.
     ///
     /// What is given out is filed, and is also answered whole: this copy is made before anything changes. So a caller
     /// that has made room beforehand for the outs, at most five, needs no memory afterwards.
@@ -208,6 +210,7 @@ impl Node {
         &mut self,
         alloc: Global,
         archive: &mut Archive<S>,
+        draws: &mut Draws,
         event: FiledEvent,
     ) -> Result<GivenOut, AllocError>
         requires rows { AreFiled archive.old self.old.rows }
@@ -227,8 +230,10 @@ impl Node {
         let changed = match event {
             FiledEvent::Take(envelope) => return self.take(alloc, archive, envelope),
             FiledEvent::Reslice(slices) => return self.reslice(alloc, archive, slices),
-            FiledEvent::Propose(value) => Some(self.changed_by_proposal(alloc, value)?),
-            FiledEvent::NominationTimer(round) => self.changed_by_nomination_timer(alloc, round)?,
+            FiledEvent::Propose(value) => Some(self.changed_by_proposal(alloc, draws, value)?),
+            FiledEvent::NominationTimer(round) => self.changed_by_nomination_timer(
+                alloc, draws, round,
+            )?,
             FiledEvent::BallotTimer(counter) => self.changed_by_ballot_timer(alloc, counter)?,
         };
         self.settle(alloc, archive, changed)
@@ -251,7 +256,7 @@ impl Node {
         ensures kept { Keeps archive.old archive.new }
     {
         let mut node = self.try_copy(alloc, archive)?;
-        match node.advance(alloc, archive, event) {
+        match node.advance(alloc, archive, &mut Draws::new(alloc), event) {
             Ok(given_out) => Ok((node, given_out.outs)),
             Err(error) => {
                 drop(node);
@@ -268,11 +273,17 @@ impl Node {
     }
 
     /// What a proposal changes: it is set, and round 1 begins.
-    fn changed_by_proposal(&self, alloc: Global, value: Value) -> Result<Changed, AllocError>
+    fn changed_by_proposal(
+        &self,
+        alloc: Global,
+        draws: &mut Draws,
+        value: Value,
+    ) -> Result<Changed, AllocError>
         ensures { IfOk result (λ d. ChangesTo self.now.node (NodeEvent.Propose value) (Some d)) }
     {
         let changed = with_proposal(
             alloc,
+            draws,
             self.listener.configuration(),
             &self.inputs,
             &self.votes,
@@ -285,6 +296,7 @@ impl Node {
     fn changed_by_nomination_timer(
         &self,
         alloc: Global,
+        draws: &mut Draws,
         round: u32,
     ) -> Result<Option<Changed>, AllocError>
         ensures changed { IfOk result (ChangesTo self.now.node (NodeEvent.NominationTimer round)) }
@@ -295,6 +307,7 @@ impl Node {
         }
         let changed = in_next_round(
             alloc,
+            draws,
             self.listener.configuration(),
             &self.inputs,
             &self.votes,

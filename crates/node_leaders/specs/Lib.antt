@@ -1,3 +1,4 @@
+pub mod Drawing
 pub mod Leaders
 pub mod Purposes
 pub mod Walk

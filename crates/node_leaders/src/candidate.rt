@@ -4,7 +4,8 @@ ghost use Rattle.std.specs.Prelude.{◌≡◌, ◌&&◌, ◌||◌, ◌==◌, nat
 ghost use Rattle.scp_spec.specs.Leaders.{hash, beats};
 ghost use Rattle.node_leaders.specs.Walk.{better, is_drawn};
 
-use crate::draw::{Draw, Purpose};
+use crate::draw::{Purpose, is_below};
+use crate::draws::Draws;
 use scp_slices::Weight;
 use scp_types::NodeId;
 
@@ -17,12 +18,13 @@ pub(crate) struct Candidate {
 
 impl Candidate {
     /// A node, with its priority in the round.
-    pub(crate) fn new(draw: Draw, node: &NodeId) -> Candidate
+    pub(crate) fn new(draws: &mut Draws, node: &NodeId) -> Candidate
         ensures node { result.node ≡ node.now }
-        ensures priority { result.priority ≡ hash draw.slot 2 draw.round node.now }
+        ensures priority { result.priority ≡ hash draws.old.slot 2 draws.old.round node.now }
+        ensures same { draws.new ≡ draws.old }
     {
         Candidate {
-            priority: draw.hash(Purpose::Priority, node),
+            priority: draws.hash(Purpose::Priority, node),
             node: *node,
         }
     }
@@ -36,17 +38,18 @@ impl Candidate {
     }
 
     /// The better of this candidate and a node of this weight, if that is a neighbour. Whether it is one is asked only
-    /// of a node that would be better: few are, so most nodes are hashed once, and the candidate itself is not.
-    pub(crate) fn or_node(self, draw: Draw, node: &NodeId, weight: Weight) -> Candidate
-        requires { self.priority ≡ hash draw.slot 2 draw.round self.node }
-        ensures node { result.node ≡ better (is_drawn draw.slot draw.round) (beats draw.slot draw.round) node.now weight self.node }
-        ensures priority { result.priority ≡ hash draw.slot 2 draw.round result.node }
+    /// of a node that would be better: few are, so mostly one hash a name is drawn.
+    pub(crate) fn or_node(self, draws: &mut Draws, node: &NodeId, weight: Weight) -> Candidate
+        requires { self.priority ≡ hash draws.old.slot 2 draws.old.round self.node }
+        ensures node { result.node ≡ better (is_drawn draws.old.slot draws.old.round) (beats draws.old.slot draws.old.round) node.now weight self.node }
+        ensures priority { result.priority ≡ hash draws.old.slot 2 draws.old.round result.node }
+        ensures same { draws.new ≡ draws.old }
     {
         if *node == self.node {
             return self;
         }
-        let other = Candidate::new(draw, node);
-        if other.beats(&self) && draw.is_neighbour(node, weight) {
+        let other = Candidate::new(draws, node);
+        if other.beats(&self) && is_below(draws.hash(Purpose::Neighbour, node), weight) {
             other
         } else {
             self

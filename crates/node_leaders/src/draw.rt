@@ -4,7 +4,6 @@ ghost use Rattle.std.specs.Prelude.{◌≡◌, Some, take};
 ghost use Rattle.std.specs.Int.{w64, from_be_bytes};
 ghost use Rattle.scp_spec.specs.Leaders.{hash, is_near};
 ghost use Rattle.node_leaders.specs.Purposes.{tag_of};
-ghost use Rattle.node_leaders.specs.Walk.{is_drawn};
 
 use scp_slices::Weight;
 use scp_types::NodeId;
@@ -33,9 +32,9 @@ impl Purpose {
 
 /// A round of nomination at a slot.
 #[derive(Clone, Copy)]
-pub(crate) struct Draw {
-    pub(crate) slot: u64,
-    pub(crate) round: u32,
+pub struct Draw {
+    pub slot: u64,
+    pub round: u32,
 }
 
 impl Draw {
@@ -54,14 +53,6 @@ impl Draw {
         hasher.update(fourth.to_be_bytes());
         first_word(&hasher.finalize())
     }
-
-    /// Whether a node of this weight is a neighbour.
-    pub(crate) fn is_neighbour(self, node: &NodeId, weight: Weight) -> bool
-        ensures { result ≡ is_drawn self.slot self.round node.now weight }
-    {
-        let hash = self.hash(Purpose::Neighbour, node);
-        is_below(hash, weight)
-    }
 }
 
 /// The first eight bytes of a digest as a big-endian number.
@@ -74,7 +65,7 @@ fn first_word(digest: &[u8; 32]) -> u64
 }
 
 /// Whether a hash lies below a share of all hashes of 64 bits.
-fn is_below(hash: u64, weight: Weight) -> bool
+pub(crate) fn is_below(hash: u64, weight: Weight) -> bool
     ensures { result ≡ is_near (Some weight) hash }
 {
     let scaled_hash = hash as u128 * weight.denominator() as u128;

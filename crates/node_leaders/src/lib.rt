@@ -4,10 +4,12 @@
 
 mod candidate;
 mod draw;
+mod draws;
 mod laws;
 #[cfg(test)]
 mod tests;
 mod walk;
 
+pub use draws::Draws;
 pub use laws::{leaders_are_known, leaders_are_unique, neighbours_are_near};
 pub use walk::leader;

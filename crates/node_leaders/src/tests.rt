@@ -1,7 +1,7 @@
 //! Hashes and leaders that were worked out elsewhere, by tools/leaders.
 
 use crate::draw::{Draw, Purpose};
-use crate::leader;
+use crate::{Draws, leader};
 use scp_types::{Member, Nested, NodeId, SliceSet};
 use std::alloc::{AllocError, Global};
 use std::process::Abort;
@@ -161,12 +161,16 @@ fn hashes(rt: HostRuntime) {
 #[test]
 fn leaders(rt: HostRuntime) -> Result<(), Fail> {
     let alloc = rt.alloc();
+    let mut draws = Draws::new(alloc);
     for (slot, round, letter, number, expected) in LEADERS.iter().copied() {
         let slices = Nested::new(alloc, tree(alloc, number)?)?.expect(
             &rt,
             "slices that keep the rules",
         );
-        assert_eq!(rt; leader(slot, round, &name(letter), &slices), name(expected));
+        assert_eq!(rt;
+            leader(&mut draws, slot, round, &name(letter), &slices),
+            name(expected)
+        );
     }
     Ok(())
 }
@@ -178,8 +182,12 @@ fn a_node_that_names_itself_alone_leads_each_round(rt: HostRuntime) -> Result<()
         &rt,
         "slices that keep the rules",
     );
+    let mut draws = Draws::new(alloc);
     for round in [1u32, 2, 3, 4, 5, 6, 7, 8, 9, 10, 4294967295] {
-        assert_eq!(rt; leader(1, round, &name(b'A'), &slices), name(b'A'));
+        assert_eq!(rt;
+            leader(&mut draws, 1, round, &name(b'A'), &slices),
+            name(b'A')
+        );
     }
     Ok(())
 }

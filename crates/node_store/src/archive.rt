@@ -140,13 +140,12 @@ impl<S: Places> Archive<S> {
         self.recent >= self.places.len() / 2
     }
 
-    /// Lets go what was filed for all slots but these, and what was told of slices. It cannot fail: a number that is not
+    /// Lets go what was filed for all slots but these. It cannot fail: a number that is not
     /// noted as free, because it is out of memory, is found again the next time.
     pub fn let_go<T: Slots>(&mut self, slots: &T)
         ensures { self.new ≡ map (only_of (T.is_among slots.now)) self.old }
     {
         self.recent = 0;
-        self.told = SliceNumbers::new(self.alloc);
         self.free.clear();
         for number in 0..self.places.len() {
             self.let_go_at(number, slots);
@@ -216,8 +215,7 @@ impl<S: Shelf> Archive<S> {
         let number = vacant(&mut self.places, &mut self.free);
         self.places[number] = Some(place);
         self.recent = self.recent.saturating_add(1);
-        self.told
-            .note(self.alloc, number, fingerprint, candidate, is_same);
+        self.told.note(number, fingerprint, candidate, is_same);
         Ok(Filed { number, put })
     }
 }

@@ -1,21 +1,29 @@
 //! Numbers by which slices are told to be the same.
 
-ghost use Rattle.std.specs.Prelude.{◌≡◌, ◌≢◌, ◌⊎◌, ◌≤◌, ℕ, [], IsTrue, get_or};
+ghost use Rattle.std.specs.Prelude.{◌≡◌, ◌≢◌, ◌⊎◌, ◌≤◌, ℕ, [], IsTrue, get_or, length};
+ghost use Rattle.std.specs.List.Sorted.{IsSearchInRange};
 ghost use Rattle.node_store.specs.Archives.{IsNumberFor, IsSameNumber};
 
 use scp_types::{Member, SliceSet};
 use std::alloc::Global;
 
-/// More buckets are made while there are fewer than this.
-const ENOUGH_BUCKETS: usize = 1024;
+/// So many fingerprints are noted at most.
+const MOST_NOTED: usize = 1024;
+
+/// Slices of a fingerprint were filed at this number of the archive.
+#[derive(Clone, Copy)]
+struct Noted {
+    fingerprint: u64,
+    number: usize,
+}
 
 /// For each number of an archive, the number of the slices of what lies there. Where both are equal and not 0, the
 /// slices are the same. It is 0 where none is told, as behind the end of the list.
 #[derive(Drop)]
 pub(crate) struct SliceNumbers {
     numbers: Vec<usize>,
-    /// For the fingerprints of each bucket, the number of the archive that was noted last with one of them.
-    buckets: Vec<usize>,
+    /// Fingerprints, ascending, each with the number of the archive that was noted last with it.
+    noted: Vec<Noted>,
     /// The greatest number of slices that was given.
     last: usize,
 }
@@ -27,7 +35,7 @@ impl SliceNumbers {
     {
         SliceNumbers {
             numbers: Vec::new(alloc),
-            buckets: Vec::new(alloc),
+            noted: Vec::new(alloc),
             last: 0,
         }
     }
@@ -42,20 +50,15 @@ impl SliceNumbers {
 
     /// A number of the archive at which there may be slices of this fingerprint.
     pub(crate) fn candidate(&self, fingerprint: u64) -> usize {
-        let bucket = bucket_of(fingerprint, self.buckets.len());
-        self.buckets.get(bucket).copied().unwrap_or(0)
+        match self.find(fingerprint) {
+            Ok(at) => self.noted[at].number,
+            Err(_) => 0,
+        }
     }
 
     /// Notes slices of this fingerprint, filed at this number. They may be the same as those at another number. If it
     /// is out of memory, none is told.
-    pub(crate) fn note(
-        &mut self,
-        alloc: Global,
-        number: usize,
-        fingerprint: u64,
-        other: usize,
-        is_same: bool,
-    )
+    pub(crate) fn note(&mut self, number: usize, fingerprint: u64, other: usize, is_same: bool)
         ensures others { (k : ℕ) → k ≢ number → get_or self.new.numbers.items k 0 ≡ get_or self.old.numbers.items k 0 }
         ensures number { IsNumberFor self.old.numbers.items self.old.last other is_same (get_or self.new.numbers.items number 0) }
         ensures within { get_or self.new.numbers.items number 0 ≤ self.new.last }
@@ -66,7 +69,35 @@ impl SliceNumbers {
             self.last = told;
         }
         tell(&mut self.numbers, number, told);
-        set_bucket(alloc, &mut self.buckets, self.last, fingerprint, number);
+        self.note_place(fingerprint, number);
+    }
+
+    /// Notes that slices of this fingerprint were filed at this number. Where no more are noted, or there is no room,
+    /// all that was noted before is forgotten.
+    fn note_place(&mut self, fingerprint: u64, number: usize)
+        ensures numbers { self.new.numbers ≡ self.old.numbers }
+        ensures last { self.new.last ≡ self.old.last }
+    {
+        match self.find(fingerprint) {
+            Ok(at) => self.noted[at].number = number,
+            Err(at) => {
+                let noted = Noted {
+                    fingerprint,
+                    number,
+                };
+                if self.noted.len() >= MOST_NOTED || self.noted.insert(at, noted).is_err() {
+                    self.noted.clear();
+                }
+            }
+        }
+    }
+
+    /// Where a fingerprint stands among those that are noted, or where it would.
+    fn find(&self, fingerprint: u64) -> Result<usize, usize>
+        ensures { IsSearchInRange result (length self.now.noted.items) }
+    {
+        self.noted
+            .binary_search_by_key(&fingerprint, |noted| noted.fingerprint)
     }
 
     /// A number for slices: that of what lies at the other number, if they are the same and it is told, or a new one.
@@ -98,32 +129,6 @@ fn tell(numbers: &mut Vec<usize>, number: usize, told: usize)
     } else if number == numbers.len() {
         let _ = numbers.push(told);
     }
-}
-
-/// Puts this number into the bucket of the fingerprint. More than twice as many buckets are made once as many numbers of
-/// slices were given as there are buckets. What was noted before is forgotten then.
-fn set_bucket(
-    alloc: Global,
-    buckets: &mut Vec<usize>,
-    given: usize,
-    fingerprint: u64,
-    number: usize,
-) {
-    let count = buckets.len();
-    if count <= given && count < ENOUGH_BUCKETS {
-        if let Ok(more) = vec![in alloc; 0usize; 2 * count + 4] {
-            *buckets = more;
-        }
-    }
-    let bucket = bucket_of(fingerprint, buckets.len());
-    if bucket < buckets.len() {
-        buckets[bucket] = number;
-    }
-}
-
-/// Which of so many buckets is that of a fingerprint.
-fn bucket_of(fingerprint: u64, count: usize) -> usize {
-    fingerprint.checked_rem(count as u64).unwrap_or(0) as usize
 }
 
 /// A number that is mostly another for other slices.

@@ -9,6 +9,7 @@ ghost use Rattle.node_core.specs.Filings.{IsFiledEvent};
 
 use line_script::{name_of, slices_of, statement_of};
 use node_core::{FiledEvent, Node};
+use node_leaders::Draws;
 use node_store::{Archive, BoxShelf};
 use scp_types::{Envelope, Out, Value};
 use std::alloc::Global;
@@ -42,7 +43,12 @@ fn outs_at(
     ensures { AreFiled archive.new node.new.rows }
 {
     let filed = archive.put(envelope)?;
-    let given_out = node.advance(alloc, archive, FiledEvent::Take(filed))?;
+    let given_out = node.advance(
+        alloc,
+        archive,
+        &mut Draws::new(alloc),
+        FiledEvent::Take(filed),
+    )?;
     Ok(given_out.outs.len())
 }
 
@@ -99,7 +105,7 @@ fn round_at(
     requires event { IsFiledEvent archive.old event }
     ensures { AreFiled archive.new node.new.rows }
 {
-    let given_out = node.advance(alloc, archive, event)?;
+    let given_out = node.advance(alloc, archive, &mut Draws::new(alloc), event)?;
     Ok(round_in(&given_out.outs))
 }
 
@@ -187,7 +193,7 @@ fn decides(alloc: Global, archive: &mut Archive<BoxShelf>, node: &mut Node) -> R
 {
     let x = Value::of(alloc, b"x")?;
     let event = FiledEvent::Propose(x.try_copy()?);
-    let given_out = node.advance(alloc, archive, event)?;
+    let given_out = node.advance(alloc, archive, &mut Draws::new(alloc), event)?;
     Ok(has_decided(&given_out.outs, &x))
 }
 

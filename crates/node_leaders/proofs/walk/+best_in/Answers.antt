@@ -2,7 +2,9 @@ use Rattle.std.proofs.Common.{◌≡◌, refl, sym, subst, ap, ◌∙◌, length
 use Rattle.scp_types.specs.Trees.{weight_of, depth_of, member_count, HaveThresholds}
 use Rattle.scp_types.proofs.Weights.{inner_weighs_less}
 use Rattle.scp_slices.proofs.MemberLaws.{member_count_is, inner_keeps_rules}
+use Rattle.scp_spec.specs.Leaders.{hash}
 use Rattle.scp_spec.specs.Weights.{Fraction}
+use Rattle.node_leaders.specs.declared.draw.Draw.{Draw}
 use Rattle.node_leaders.specs.Walk.{HasRoomForLevels}
 use Rattle.node_leaders.proofs.Room.{has_room, is_small}
 use Rattle.node_leaders.proofs.walk.+best_in.Goals as goal
@@ -23,6 +25,7 @@ loop-member-init t c = record {
       let counted : length c.members-members.result.now ≡ member_count c.args.set.now.members = sym (member_count_is c.members-members.result.now) ∙ ap member_count c.members-members.ensures in
       c.part-weight.ensures ∙ rw (c.threshold.ensures, counted) refl;
   so_far = rw c.members-members.ensures refl;
+  same = refl;
   priority = c.requires.priority;
 }
 
@@ -35,5 +38,6 @@ best_in-best-requires t c =
     let r = inner_keeps_rules members c.loop-member.member-index c.member-item.result c.in-Set.inner c.loop-member-test.true c.member-item.is c.in-Set.is
     (subst HaveThresholds (sym c.members-members.ensures) c.requires.inner_sets) in
     let d = ap depth_of c.members-members.ensures in
+    let drawn = subst (λ (d : Draw). c.loop-member.best.priority ≡ hash d.slot 2 d.round c.loop-member.best.node) (sym c.loop-member.invariant.same) c.loop-member.invariant.priority in
     let room = has_room set.threshold (member_count set.members) (depth_of set.members) (depth_of c.in-Set.inner.members) c.args.outer (omega arith) (omega arith) (omega (arith, r.2, d)) c.requires.room in
-    (omega (arith, w, e, c.decreases), (r.0, (r.1, (subst (λ (f : Fraction). HasRoomForLevels f (depth_of c.in-Set.inner.members)) (sym c.loop-member.invariant.weighs) room, c.loop-member.invariant.priority))))
+    (omega (arith, w, e, c.decreases), (r.0, (r.1, (subst (λ (f : Fraction). HasRoomForLevels f (depth_of c.in-Set.inner.members)) (sym c.loop-member.invariant.weighs) room, drawn))))

@@ -14,7 +14,8 @@ invariant-loop-member l = record {
   shape : members_of l.members ≡ l.set.members;
   weighs : l.weight ≡ part_of l.set.threshold (member_count l.set.members) l.fn.outer;
   so_far :
-      best_among (is_drawn l.draw.slot l.draw.round) (beats l.draw.slot l.draw.round) l.weight (members_of (drop l.member-index l.members)) l.best.node
-      ≡ best_among (is_drawn l.draw.slot l.draw.round) (beats l.draw.slot l.draw.round) l.weight l.set.members l.fn.own.node;
-  priority : l.best.priority ≡ hash l.draw.slot 2 l.draw.round l.best.node;
+      best_among (is_drawn l.fn.draws.slot l.fn.draws.round) (beats l.fn.draws.slot l.fn.draws.round) l.weight (members_of (drop l.member-index l.members)) l.best.node
+      ≡ best_among (is_drawn l.fn.draws.slot l.fn.draws.round) (beats l.fn.draws.slot l.fn.draws.round) l.weight l.set.members l.fn.own.node;
+  same : l.draws ≡ l.fn.draws;
+  priority : l.best.priority ≡ hash l.fn.draws.slot 2 l.fn.draws.round l.best.node;
 }
