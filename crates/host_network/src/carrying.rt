@@ -54,8 +54,10 @@ impl<S: Shelf> Network<S> {
         ensures kept { Keeps self.old.archive self.new.archive }
     {
         self.look_for_sender(event);
-        let plan = self.plan(event)?;
-        self.carry_out(plan)
+        match self.plan(event) {
+            Err(refusal) => Err(refusal),
+            Ok(plan) => self.carry_out(plan),
+        }
     }
 
     /// Notes where the node stands whose emission is to be heard, so that it is not searched for at each hearing.
@@ -82,8 +84,10 @@ impl<S: Shelf> Network<S> {
         ensures config { self.new.config ≡ self.old.config }
         ensures kept { Keeps self.old.archive self.new.archive }
     {
-        let plan = self.plan_read(node, said, size)?;
-        self.carry_out(plan)
+        match self.plan_read(node, said, size) {
+            Err(refusal) => Err(refusal),
+            Ok(plan) => self.carry_out(plan),
+        }
     }
 
     /// Does and counts what was planned, for each event that it is a plan for. An error says that it is out of memory;

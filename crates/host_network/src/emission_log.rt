@@ -130,23 +130,30 @@ impl EmissionLog {
             drop(event);
             return Err(AllocError);
         };
-        let given_out = node.advance(alloc, archive, draws, event)?;
-        log_outs(
-            archive,
-            &given_out.filed,
-            &mut self.emitted,
-            &mut self.places,
-            &mut marks,
-        );
-        let given = Given {
-            outs: given_out.outs,
-            marks: given_or_kept(alloc, marks, &mut self.room),
-        };
-        Ok(Outcome {
-            filed: given_out.filed,
-            given,
-            delivered: None,
-        })
+        match node.advance(alloc, archive, draws, event) {
+            Err(error) => {
+                drop(marks);
+                Err(error)
+            }
+            Ok(given_out) => {
+                log_outs(
+                    archive,
+                    &given_out.filed,
+                    &mut self.emitted,
+                    &mut self.places,
+                    &mut marks,
+                );
+                let given = Given {
+                    outs: given_out.outs,
+                    marks: given_or_kept(alloc, marks, &mut self.room),
+                };
+                Ok(Outcome {
+                    filed: given_out.filed,
+                    given,
+                    delivered: None,
+                })
+            }
+        }
     }
 }
 

@@ -139,9 +139,11 @@ impl Instance {
             drop(event);
             return Err(AllocError);
         };
-        let applied = emitted.advance(archive, draws, node, event)?;
-        node.rows_are_its_table();
-        count(own, heard, charge);
-        Ok(applied)
+        let applied = emitted.advance(archive, draws, node, event);
+        if applied.is_ok() {
+            node.rows_are_its_table();
+            count(own, heard, charge);
+        }
+        applied
     }
 }

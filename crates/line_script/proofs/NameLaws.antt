@@ -1,5 +1,5 @@
 -- Names: the zero bytes at their end, the words that they are printed as, and that these are read back.
-use Rattle.std.proofs.Common.{◌≡◌, ◌≢◌, ◌∙◌, ℕ, zero, suc, ◌+◌, ◌-◌, ◌*◌, ◌/◌, ◌%◌, ◌^◌, ◌<◌, false, [], ◌∷◌, ◌++◌, length, take, drop, get_or, refl, sym, ap, arith, ne_eqb}
+use Rattle.std.proofs.Common.{◌≡◌, ◌≢◌, ◌∙◌, ℕ, zero, suc, ◌+◌, ◌-◌, ◌*◌, ◌^◌, ◌<◌, false, [], ◌∷◌, ◌++◌, length, take, drop, get_or, refl, sym, ap, arith, ne_eqb}
 use Rattle.std.specs.Prelude.{◌==◌, replicate}
 use Rattle.std.specs.Int.{w64, to_be_bytes}
 use Rattle.std.proofs.lemmas.List.{drop-replicate}

@@ -103,10 +103,11 @@ fn push_bytes(text: &mut String, bytes: &[u8; 32]) -> Result<(), AllocError>
 fn without_zeros(bytes: &[u8]) -> &[u8]
     ensures { result.now ≡ short bytes.now }
 {
-    match bytes {
-        [rest @ .., 0] => without_zeros(rest),
-        _ => bytes,
+    let mut front = bytes;
+    while let [rest @ .., 0] = front {
+        front = rest;
     }
+    front
 }
 
 fn bytes_in(name: &NodeId) -> [u8; 32]

@@ -1,5 +1,5 @@
 -- The votes after passes that begin with certain rules, as the code finds them.
-use Rattle.std.proofs.Common.{◌≡◌, ℕ, true, Option, Some, Result, IfOk, if◌then◌else◌, refl, sym, ◌∙◌, ap, subst, inl, inr, ◌-◌}
+use Rattle.std.proofs.Common.{◌≡◌, ℕ, Bool, true, Option, Some, Result, IfOk, if◌then◌else◌, refl, sym, ◌∙◌, ap, subst, inl, inr, ◌-◌}
 use Rattle.std.proofs.lemmas.Bool.{cases_Bool}
 use Rattle.scp_types.specs.declared.state.Inputs.{Inputs}
 use Rattle.scp_types.specs.declared.state.Votes.{Votes}
@@ -11,6 +11,7 @@ use Rattle.scp_spec.specs.Views.{Seen}
 use Rattle.scp_spec.proofs.Equality.Sameness.{same_values-refl, same_values-true, same_votes-refl, same_votes-true}
 use Rattle.node_core.specs.declared.stirring.Stirred.{Stirred}
 use Rattle.node_core.specs.declared.stirring.Stirred.TheVariants.{All, Ballots, Nominations}
+use Rattle.node_core.specs.Differences.{some_if}
 use Rattle.node_core.specs.Stirrings.{Stirs, part_of_pass}
 
 -- ---- after a first pass
@@ -50,26 +51,26 @@ no-arm All v s g w stirs e = sym stirs ∙ after-same s g w (pass v s g w) e ∙
 no-arm Ballots v s g w stirs e = sym stirs ∙ after-same s g w (balloted_in s g w) e ∙ ap {B = Option Votes} Some e
 no-arm Nominations v s g w stirs e = sym stirs ∙ confirms-none v s g w w (sym e) refl
 
-pub all-arm : {E : Type 0} (t : Stirred) (v : ℕ) (s : Seen) (g : Inputs) (w x : Votes) (r : Result (Option Votes) E) → t ≡ All → Stirs t v s g w → (x ≡ part_of_pass t v s g w) × (part_of_pass t v s g w ≡ w → ⊥) → IfOk r (λ o. o ≡ settle (most_passes - 1) (balloted_in s g) x) → IfOk r (λ o. o ≡ settle most_passes (pass v s g) w)
+pub all-arm : {E : Type 0} (t : Stirred) (v : ℕ) (s : Seen) (g : Inputs) (w x y : Votes) (r : Result Bool E) → t ≡ All → Stirs t v s g w → (x ≡ part_of_pass t v s g w) × (part_of_pass t v s g w ≡ w → ⊥) → IfOk r (λ b. some_if b y ≡ settle (most_passes - 1) (balloted_in s g) x) → IfOk r (λ b. some_if b y ≡ settle most_passes (pass v s g) w)
 unfolding settle_all
-all-arm t v s g w x r is stirs made done =
+all-arm t v s g w x y r is stirs made done =
     let stirred : Stirs All v s g w = subst (λ u. Stirs u v s g w) is stirs in
     let next : x ≡ pass v s g w = made.0 ∙ ap (λ u. part_of_pass u v s g w) is in
     let other : x ≡ w → ⊥ = λ e. made.1 (sym made.0 ∙ e) in
-    subst (λ (e : Option Votes). IfOk r (λ o. o ≡ e)) (sym (after-other s g w x other) ∙ ap (settle_after s g w) next ∙ stirred) done
+    subst (λ (e : Option Votes). IfOk r (λ b. some_if b y ≡ e)) (sym (after-other s g w x other) ∙ ap (settle_after s g w) next ∙ stirred) done
 
-pub ballots-arm : {E : Type 0} (t : Stirred) (v : ℕ) (s : Seen) (g : Inputs) (w x : Votes) (r : Result (Option Votes) E) → t ≡ Ballots → Stirs t v s g w → (x ≡ part_of_pass t v s g w) × (part_of_pass t v s g w ≡ w → ⊥) → IfOk r (λ o. o ≡ settle (most_passes - 1) (balloted_in s g) x) → IfOk r (λ o. o ≡ settle most_passes (pass v s g) w)
+pub ballots-arm : {E : Type 0} (t : Stirred) (v : ℕ) (s : Seen) (g : Inputs) (w x y : Votes) (r : Result Bool E) → t ≡ Ballots → Stirs t v s g w → (x ≡ part_of_pass t v s g w) × (part_of_pass t v s g w ≡ w → ⊥) → IfOk r (λ b. some_if b y ≡ settle (most_passes - 1) (balloted_in s g) x) → IfOk r (λ b. some_if b y ≡ settle most_passes (pass v s g) w)
 unfolding settle_ballots
-ballots-arm t v s g w x r is stirs made done =
+ballots-arm t v s g w x y r is stirs made done =
     let stirred : Stirs Ballots v s g w = subst (λ u. Stirs u v s g w) is stirs in
     let next : x ≡ balloted_in s g w = made.0 ∙ ap (λ u. part_of_pass u v s g w) is in
     let other : x ≡ w → ⊥ = λ e. made.1 (sym made.0 ∙ e) in
-    subst (λ (e : Option Votes). IfOk r (λ o. o ≡ e)) (sym (after-other s g w x other) ∙ ap (settle_after s g w) next ∙ stirred) done
+    subst (λ (e : Option Votes). IfOk r (λ b. some_if b y ≡ e)) (sym (after-other s g w x other) ∙ ap (settle_after s g w) next ∙ stirred) done
 
-pub nominations-arm : {E : Type 0} (t : Stirred) (v : ℕ) (s : Seen) (g : Inputs) (w : Votes) (r : Result (Option Votes) E) → t ≡ Nominations → Stirs t v s g w → IfOk r (λ o. o ≡ settle_nominations v s g w) → IfOk r (λ o. o ≡ settle most_passes (pass v s g) w)
-nominations-arm t v s g w r is stirs done =
+pub nominations-arm : {E : Type 0} (t : Stirred) (v : ℕ) (s : Seen) (g : Inputs) (w y : Votes) (r : Result Bool E) → t ≡ Nominations → Stirs t v s g w → IfOk r (λ b. some_if b y ≡ settle_nominations v s g w) → IfOk r (λ b. some_if b y ≡ settle most_passes (pass v s g) w)
+nominations-arm t v s g w y r is stirs done =
     let stirred : Stirs Nominations v s g w = subst (λ u. Stirs u v s g w) is stirs in
-    subst (λ (e : Option Votes). IfOk r (λ o. o ≡ e)) stirred done
+    subst (λ (e : Option Votes). IfOk r (λ b. some_if b y ≡ e)) stirred done
 
 pub nominated-arm : (t : Stirred) (v : ℕ) (s : Seen) (g : Inputs) (w x : Votes) → t ≡ Nominations → x ≡ part_of_pass t v s g w → x ≡ nominated_in v s g w
 nominated-arm t v s g w x is made = made ∙ ap (λ u. part_of_pass u v s g w) is

@@ -1,6 +1,6 @@
 //! What passes make of a node that an event changed.
 
-ghost use Rattle.std.specs.Prelude.{◌≡◌, ℕ, IfOk, IsTrue, Some, is_some, unwrap_or};
+ghost use Rattle.std.specs.Prelude.{◌≡◌, ℕ, IsTrue, OnOk, Some, is_some, unwrap_or};
 ghost use Rattle.scp_spec.specs.Nodes.{settle, most_passes};
 ghost use Rattle.scp_spec.specs.Passes.{pass};
 ghost use Rattle.scp_spec.specs.Views.{Seen};
@@ -8,7 +8,6 @@ ghost use Rattle.node_core.specs.Stirrings.{Stirs};
 ghost use Rattle.scp_types.specs.declared.state.Inputs.{Inputs};
 ghost use Rattle.scp_types.specs.declared.state.Phase.TheVariants.{Externalized};
 
-use crate::filed::GivenOut;
 use crate::passing::PassContext;
 use crate::settling::settle_from;
 use crate::stirring::Stirred;
@@ -37,13 +36,6 @@ pub(crate) struct Start<'a> {
     pub stirred: Stirred,
 }
 
-/// What an event made of a node: the votes, if they changed, and what the node gives out.
-#[derive(Drop)]
-pub(crate) struct Answer {
-    pub votes: Option<Votes>,
-    pub given_out: GivenOut,
-}
-
 /// A law: once a value is externalized the votes are at rest, whatever the node sees, since no rule changes them.
 #[tactic(auto, using(crate::proofs::Settles::over_settles))]
 pub(crate) fn rests(start: &Start<'_>)
@@ -53,24 +45,25 @@ pub(crate) fn rests(start: &Start<'_>)
     let _phase = start.votes.phase;
 }
 
-/// The votes after passes from this start on, by what the node sees; `None` if they stay. An error says that it is out
-/// of memory.
+/// Sets the votes after passes from this start on, by what the node sees; none if they stay. An error says that it is
+/// out of memory.
 pub(crate) fn settled_votes<'a, S: Sight>(
     alloc: Global,
     configured: &'a Configured,
     sight: &'a S,
     start: &'a Start<'a>,
-) -> Result<Option<Votes>, AllocError>
+    settled: &mut Option<Votes>,
+) -> Result<(), AllocError>
     requires stirs { Stirs start.now.stirred configured.now.name (S.seen sight.now) start.now.inputs.now start.now.votes.now }
     requires settles { IsTrue (is_some (settle most_passes (pass configured.now.name (S.seen sight.now) start.now.inputs.now) start.now.votes.now)) }
-    ensures { IfOk result (λ o. settle most_passes (pass configured.now.name (S.seen sight.now) start.now.inputs.now) start.now.votes.now ≡ Some (unwrap_or o start.now.votes.now)) }
+    ensures { OnOk result (settle most_passes (pass configured.now.name (S.seen sight.now) start.now.inputs.now) start.now.votes.now ≡ Some (unwrap_or settled.new start.now.votes.now)) }
 {
     let context = PassContext {
         own: &configured.name,
         sight,
         inputs: start.inputs,
     };
-    settle_from(alloc, &context, start.votes, start.stirred)
+    settle_from(alloc, &context, start.votes, start.stirred, settled)
 }
 
 /// The votes that settled, or those before if they stayed.

@@ -11,7 +11,8 @@ ghost use Rattle.node_core.specs.NodeParts.{node_from_parts};
 ghost use Rattle.scp_types.specs.Statements.{Sent};
 ghost use Rattle.node_view.specs.Knowing.{IsKnown};
 
-use crate::answering::{Answer, Start, State, rests, settled_votes, votes_or};
+use crate::answering::{Start, State, rests, settled_votes, votes_or};
+use crate::filed::GivenOut;
 use crate::filing::{give_out, nothing};
 use crate::outs::is_externalized;
 use crate::stirring::Stirred;
@@ -21,60 +22,54 @@ use node_view::{KnownReach, Listener, Own, View};
 use scp_types::{Phase, Votes};
 use std::alloc::{AllocError, Global};
 
-/// What passes make of a node with these rows from this start on, and what it gives out since the old state. What
-/// contracts see of the listener stays as it was. An error says that it is out of memory.
+/// What a node with these rows gives out since the old state, once passes from this start on have settled. They set the
+/// votes; none if they stay. What contracts see of the listener stays as it was. An error says that it is out of memory.
 pub(crate) fn answer<S: Shelf>(
     alloc: Global,
     archive: &mut Archive<S>,
     listener: &mut Listener,
     old: &State<'_>,
     start: &Start<'_>,
-) -> Result<Answer, AllocError>
+    settled: &mut Option<Votes>,
+) -> Result<GivenOut, AllocError>
     requires rows { AreFiled archive.old listener.old.table }
     requires start { IsStart start.now.stirred (node_of listener.old start.now.inputs.now start.now.votes.now) }
-    ensures votes { IfOk result (λ a. settle most_passes (after_pass (node_of listener.old start.now.inputs.now start.now.votes.now)) start.now.votes.now ≡ Some (unwrap_or a.votes start.now.votes.now)) }
-    ensures outs { IfOk result (λ a. (before after : List Sent) → a.given_out.outs.items ≡ outs (node_from_parts listener.old.configured old.now.inputs.now old.now.votes.now before) (node_from_parts listener.old.configured start.now.inputs.now (unwrap_or a.votes start.now.votes.now) after)) }
+    ensures votes { OnOk result (settle most_passes (after_pass (node_of listener.old start.now.inputs.now start.now.votes.now)) start.now.votes.now ≡ Some (unwrap_or settled.new start.now.votes.now)) }
+    ensures outs { IfOk result (λ a. (before after : List Sent) → a.outs.items ≡ outs (node_from_parts listener.old.configured old.now.inputs.now old.now.votes.now before) (node_from_parts listener.old.configured start.now.inputs.now (unwrap_or settled.new start.now.votes.now) after)) }
     ensures same { listener.new ≡ listener.old }
-    ensures whole { IfOk result (λ a. whole_outs a.given_out.filed.items ≡ a.given_out.outs.items) }
-    ensures filed { IfOk result (λ a. AreFiledOuts archive.new a.given_out.filed.items) }
+    ensures whole { IfOk result (λ a. whole_outs a.filed.items ≡ a.outs.items) }
+    ensures filed { IfOk result (λ a. AreFiledOuts archive.new a.filed.items) }
     ensures kept { Keeps archive.old archive.new }
 {
-    let votes = votes_after(alloc, archive, listener, start)?;
+    votes_after(alloc, archive, listener, start, settled)?;
     let new = State {
         inputs: start.inputs,
-        votes: votes_or(&votes, start.votes),
+        votes: votes_or(settled, start.votes),
     };
-    match give_out(alloc, archive, listener.configuration(), old, &new) {
-        Ok(given_out) => Ok(Answer { votes, given_out }),
-        Err(error) => {
-            drop(votes);
-            Err(error)
-        }
-    }
+    give_out(alloc, archive, listener.configuration(), old, &new)
 }
 
-/// What passes make of a node if only its rows or slices have changed. If the votes stay nothing is compared, since
-/// nothing is given out.
+/// The same if only the node's rows or slices have changed. If the votes stay nothing is compared, since nothing is given
+/// out.
 pub(crate) fn answer_anew<S: Shelf>(
     alloc: Global,
     archive: &mut Archive<S>,
     listener: &mut Listener,
     start: &Start<'_>,
-) -> Result<Answer, AllocError>
+    settled: &mut Option<Votes>,
+) -> Result<GivenOut, AllocError>
     requires rows { AreFiled archive.old listener.old.table }
     requires start { IsStart start.now.stirred (node_of listener.old start.now.inputs.now start.now.votes.now) }
-    ensures votes { IfOk result (λ a. settle most_passes (after_pass (node_of listener.old start.now.inputs.now start.now.votes.now)) start.now.votes.now ≡ Some (unwrap_or a.votes start.now.votes.now)) }
-    ensures outs { IfOk result (λ a. (before after : List Sent) → a.given_out.outs.items ≡ outs (node_from_parts listener.old.configured start.now.inputs.now start.now.votes.now before) (node_from_parts listener.old.configured start.now.inputs.now (unwrap_or a.votes start.now.votes.now) after)) }
+    ensures votes { OnOk result (settle most_passes (after_pass (node_of listener.old start.now.inputs.now start.now.votes.now)) start.now.votes.now ≡ Some (unwrap_or settled.new start.now.votes.now)) }
+    ensures outs { IfOk result (λ a. (before after : List Sent) → a.outs.items ≡ outs (node_from_parts listener.old.configured start.now.inputs.now start.now.votes.now before) (node_from_parts listener.old.configured start.now.inputs.now (unwrap_or settled.new start.now.votes.now) after)) }
     ensures same { listener.new ≡ listener.old }
-    ensures whole { IfOk result (λ a. whole_outs a.given_out.filed.items ≡ a.given_out.outs.items) }
-    ensures filed { IfOk result (λ a. AreFiledOuts archive.new a.given_out.filed.items) }
+    ensures whole { IfOk result (λ a. whole_outs a.filed.items ≡ a.outs.items) }
+    ensures filed { IfOk result (λ a. AreFiledOuts archive.new a.filed.items) }
     ensures kept { Keeps archive.old archive.new }
 {
-    let Some(votes) = votes_after(alloc, archive, listener, start)? else {
-        return Ok(Answer {
-            votes: None,
-            given_out: nothing(alloc),
-        });
+    votes_after(alloc, archive, listener, start, settled)?;
+    let Some(votes) = &*settled else {
+        return Ok(nothing(alloc));
     };
     let old = State {
         inputs: start.inputs,
@@ -82,52 +77,45 @@ pub(crate) fn answer_anew<S: Shelf>(
     };
     let new = State {
         inputs: start.inputs,
-        votes: &votes,
+        votes,
     };
-    match give_out(alloc, archive, listener.configuration(), &old, &new) {
-        Ok(given_out) => Ok(Answer {
-            votes: Some(votes),
-            given_out,
-        }),
-        Err(error) => {
-            drop(votes);
-            Err(error)
-        }
-    }
+    give_out(alloc, archive, listener.configuration(), &old, &new)
 }
 
-/// The votes after passes from this start on, by the rows; `None` if they stay. Once a value is externalized no rule
+/// Sets the votes after passes from this start on, by the rows; none if they stay. Once a value is externalized no rule
 /// reads any row, so what is known of the reach is let go then.
 fn votes_after<S: Places>(
     alloc: Global,
     archive: &Archive<S>,
     listener: &mut Listener,
     start: &Start<'_>,
-) -> Result<Option<Votes>, AllocError>
+    settled: &mut Option<Votes>,
+) -> Result<(), AllocError>
     requires rows { AreFiled archive.now listener.old.table }
     requires start { IsStart start.now.stirred (node_of listener.old start.now.inputs.now start.now.votes.now) }
-    ensures votes { IfOk result (λ o. settle most_passes (after_pass (node_of listener.old start.now.inputs.now start.now.votes.now)) start.now.votes.now ≡ Some (unwrap_or o start.now.votes.now)) }
+    ensures votes { OnOk result (settle most_passes (after_pass (node_of listener.old start.now.inputs.now start.now.votes.now)) start.now.votes.now ≡ Some (unwrap_or settled.new start.now.votes.now)) }
     ensures same { listener.new ≡ listener.old }
 {
     if let Phase::Externalized = start.votes.phase {
         rests(start);
-        return Ok(None);
+        *settled = None;
+        return Ok(());
     }
     let reach = take_reach(alloc, archive, listener, start.stirred)?;
-    let votes = votes_within(alloc, archive, listener, &reach, start);
-    if is_decided(&votes) {
+    let found = votes_within(alloc, archive, listener, &reach, start, settled);
+    if is_decided(settled) {
         drop(reach);
     } else {
         listener.keep_reach(reach);
     }
-    votes
+    found
 }
 
 /// Whether votes have changed, and a value is externalized by them.
-fn is_decided(votes: &Result<Option<Votes>, AllocError>) -> bool {
+fn is_decided(votes: &Option<Votes>) -> bool {
     match votes {
-        Ok(Some(votes)) => is_externalized(votes.phase),
-        Ok(None) | Err(_) => false,
+        None => false,
+        Some(votes) => is_externalized(votes.phase),
     }
 }
 
@@ -179,19 +167,20 @@ fn list_for<S: Places>(
     }
 }
 
-/// The votes after passes from this start on, by the rows of the reached nodes; `None` if they stay. After a nomination
-/// row the rules of balloting hardly ask, so ballot rows are read where they stand.
+/// Sets the votes after passes from this start on, by the rows of the reached nodes; none if they stay. After a
+/// nomination row the rules of balloting hardly ask, so ballot rows are read where they stand.
 fn votes_within<S: Places>(
     alloc: Global,
     archive: &Archive<S>,
     listener: &Listener,
     reach: &KnownReach,
     start: &Start<'_>,
-) -> Result<Option<Votes>, AllocError>
+    settled: &mut Option<Votes>,
+) -> Result<(), AllocError>
     requires rows { AreFiled archive.now listener.now.table }
     requires reach { IsKnownOf listener.now reach.now }
     requires start { IsStart start.now.stirred (node_of listener.now start.now.inputs.now start.now.votes.now) }
-    ensures { IfOk result (λ o. settle most_passes (after_pass (node_of listener.now start.now.inputs.now start.now.votes.now)) start.now.votes.now ≡ Some (unwrap_or o start.now.votes.now)) }
+    ensures { OnOk result (settle most_passes (after_pass (node_of listener.now start.now.inputs.now start.now.votes.now)) start.now.votes.now ≡ Some (unwrap_or settled.new start.now.votes.now)) }
 {
     let configured = listener.configuration();
     let rows = Rows::of(listener.table(), archive);
@@ -200,15 +189,15 @@ fn votes_within<S: Places>(
     match start.stirred {
         Stirred::Nominations => {
             let view = View::in_place(alloc, own, leaders, &rows, reach);
-            let settled = settled_votes(alloc, configured, &view, start);
+            let found = settled_votes(alloc, configured, &view, start, settled);
             drop(view);
-            settled
+            found
         }
         Stirred::All | Stirred::Ballots => {
             let view = View::of(alloc, own, leaders, &rows, reach)?;
-            let settled = settled_votes(alloc, configured, &view, start);
+            let found = settled_votes(alloc, configured, &view, start, settled);
             drop(view);
-            settled
+            found
         }
     }
 }

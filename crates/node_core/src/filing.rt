@@ -17,43 +17,48 @@ use node_view::Configured;
 use scp_types::Out;
 use std::alloc::{AllocError, Global};
 
-/// The outs, each emitted envelope filed. After an error some envelopes may be filed.
+/// Copies of the outs, each emitted envelope filed. After an error some envelopes may be filed.
 fn file_all<S: Shelf>(
     alloc: Global,
     archive: &mut Archive<S>,
-    outs: Vec<Out>,
+    outs: &[Out],
 ) -> Result<Vec<FiledOut>, AllocError>
-    ensures outs { IfOk result (λ v. whole_outs v.items ≡ outs.items) }
+    ensures outs { IfOk result (λ v. whole_outs v.items ≡ outs.now) }
     ensures filed { IfOk result (λ v. AreFiledOuts archive.new v.items) }
     ensures kept { Keeps archive.old archive.new }
 {
-    let mut filed = Vec::new(alloc);
+    let mut filed = Vec::with_capacity(alloc, outs.len())?;
     for out in outs {
-        filed.push(file(archive, out)?)?;
+        filed.push(file(alloc, archive, out)?)?;
     }
     Ok(filed)
 }
 
-/// The out, its envelope filed if it emits one.
-fn file<S: Shelf>(archive: &mut Archive<S>, out: Out) -> Result<FiledOut, AllocError>
-    ensures out { IfOk result (λ o. out_of o ≡ out) }
+/// A copy of the out, its envelope filed if it emits one.
+fn file<S: Shelf>(
+    alloc: Global,
+    archive: &mut Archive<S>,
+    out: &Out,
+) -> Result<FiledOut, AllocError>
+    ensures out { IfOk result (λ o. out_of o ≡ out.now) }
     ensures filed { IfOk result (λ o. IsFiledOut archive.new o) }
     ensures kept { Keeps archive.old archive.new }
 {
     match out {
-        Out::ArmNomination(round) => Ok(FiledOut::ArmNomination(round)),
-        Out::ArmBallot(counter) => Ok(FiledOut::ArmBallot(counter)),
+        Out::ArmNomination(round) => Ok(FiledOut::ArmNomination(*round)),
+        Out::ArmBallot(counter) => Ok(FiledOut::ArmBallot(*counter)),
         Out::Emit(envelope) => {
+            let copy = envelope.try_copy(alloc)?;
             // A law of its type: it keeps its widths and its rules.
-            let _sender = envelope.sender();
-            Ok(FiledOut::Emit(archive.put(envelope)?))
+            let _sender = copy.sender();
+            Ok(FiledOut::Emit(archive.put(copy)?))
         }
-        Out::Externalized(value) => Ok(FiledOut::Externalized(value)),
+        Out::Externalized(value) => Ok(FiledOut::Externalized(value.try_copy()?)),
     }
 }
 
-/// What is given out if an event led from one state to another, whole, and with each emitted envelope filed. The whole
-/// copy is made before anything is filed. After an error some envelopes may be filed.
+/// What is given out if an event led from one state to another, whole, and with each emitted envelope filed. After an
+/// error some envelopes may be filed.
 pub(crate) fn give_out<S: Shelf>(
     alloc: Global,
     archive: &mut Archive<S>,
@@ -68,9 +73,8 @@ pub(crate) fn give_out<S: Shelf>(
     ensures kept { Keeps archive.old archive.new }
 {
     let outs = outs(alloc, configured, old, new)?;
-    let whole = copy_of(alloc, &outs)?;
-    let filed = file_all(alloc, archive, outs)?;
-    Ok(GivenOut { filed, outs: whole })
+    let filed = file_all(alloc, archive, &outs)?;
+    Ok(GivenOut { filed, outs })
 }
 
 /// Nothing is given out. It takes no memory.
@@ -82,14 +86,4 @@ pub(crate) fn nothing(alloc: Global) -> GivenOut
         filed: Vec::new(alloc),
         outs: Vec::new(alloc),
     }
-}
-
-fn copy_of(alloc: Global, outs: &[Out]) -> Result<Vec<Out>, AllocError>
-    ensures { IfOk result (λ v. v.items ≡ outs.now) }
-{
-    let mut copy = Vec::with_capacity(alloc, outs.len())?;
-    for out in outs {
-        copy.push(out.try_copy(alloc)?)?;
-    }
-    Ok(copy)
 }

@@ -15,7 +15,7 @@ ghost use Rattle.scp_types.specs.Statements.{Sent};
 ghost use Rattle.scp_types.specs.declared.event.NodeEvent.{NodeEvent};
 ghost use Rattle.scp_types.specs.declared.event.Out.TheVariants.{Emit};
 
-use crate::answering::{Answer, Start, State, set_settled};
+use crate::answering::{Start, State, set_settled};
 use crate::by_region::{answer, answer_anew};
 use crate::changes::{
     Changed, in_next_round, is_counter_live, is_round_live, with_proposal, with_timeout,
@@ -201,8 +201,8 @@ impl Node {
     /// gives out are filed there. Hashes that were drawn for leaders are lent too, so that a hash that is there is not
     /// drawn once more.
     ///
-    /// What is given out is filed, and is also answered whole: this copy is made before anything changes. So a caller
-    /// that has made room beforehand for the outs, at most five, needs no memory afterwards.
+    /// What is given out is filed, and is also answered whole, before anything changes. So a caller that has made room
+    /// beforehand for the outs, at most five, needs no memory afterwards.
     ///
     /// An error says that it is out of memory, or that a value or slices have too many owners. Then the node is as it
     /// was; some of what it would have given out may be filed.
@@ -227,16 +227,11 @@ impl Node {
         ensures kept { Keeps archive.old archive.new }
     {
         self.comes_of_events();
-        let changed = match event {
-            FiledEvent::Take(envelope) => return self.take(alloc, archive, envelope),
-            FiledEvent::Reslice(slices) => return self.reslice(alloc, archive, slices),
-            FiledEvent::Propose(value) => Some(self.changed_by_proposal(alloc, draws, value)?),
-            FiledEvent::NominationTimer(round) => self.changed_by_nomination_timer(
-                alloc, draws, round,
-            )?,
-            FiledEvent::BallotTimer(counter) => self.changed_by_ballot_timer(alloc, counter)?,
-        };
-        self.settle(alloc, archive, changed)
+        match event {
+            // An envelope, the most frequent event, needs no room for what others change.
+            FiledEvent::Take(envelope) => self.take(alloc, archive, envelope),
+            event => self.turn(alloc, archive, draws, event),
+        }
     }
 
     /// The node after one event, as by [`Node::advance`], and what it gives out; this node stays as it is. An error
@@ -263,6 +258,37 @@ impl Node {
                 Err(error)
             }
         }
+    }
+
+    /// Does one event, as [`Node::advance`] does.
+    fn turn<S: Shelf>(
+        &mut self,
+        alloc: Global,
+        archive: &mut Archive<S>,
+        draws: &mut Draws,
+        event: FiledEvent,
+    ) -> Result<GivenOut, AllocError>
+        requires rows { AreFiled archive.old self.old.rows }
+        requires event { IsFiledEvent archive.old event }
+        ensures node { OnOk result (self.new.node ≡ (step self.old.node (event_of event)).0) }
+        ensures outs { IfOk result (λ v. v.outs.items ≡ (step self.old.node (event_of event)).1) }
+        ensures err { OnErr result (self.new ≡ self.old) }
+        ensures idle { change self.old.node (event_of event) ≡ None → IsTrue (is_ok result) }
+        ensures rows { AreFiled archive.new self.new.rows }
+        ensures whole { IfOk result (λ v. whole_outs v.filed.items ≡ v.outs.items) }
+        ensures filed { IfOk result (λ v. AreFiledOuts archive.new v.filed.items) }
+        ensures kept { Keeps archive.old archive.new }
+    {
+        let changed = match event {
+            FiledEvent::Take(envelope) => return self.take(alloc, archive, envelope),
+            FiledEvent::Reslice(slices) => return self.reslice(alloc, archive, slices),
+            FiledEvent::Propose(value) => Some(self.changed_by_proposal(alloc, draws, value)?),
+            FiledEvent::NominationTimer(round) => self.changed_by_nomination_timer(
+                alloc, draws, round,
+            )?,
+            FiledEvent::BallotTimer(counter) => self.changed_by_ballot_timer(alloc, counter)?,
+        };
+        self.settle(alloc, archive, changed)
     }
 
     /// A law: events led to it.
@@ -354,12 +380,14 @@ impl Node {
             votes: &self.votes,
             stirred: Stirred::All,
         };
-        match answer_anew(alloc, archive, &mut self.listener, &start) {
-            Ok(Answer { votes, given_out }) => {
-                set_settled(&mut self.votes, votes);
+        let mut settled = None;
+        match answer_anew(alloc, archive, &mut self.listener, &start, &mut settled) {
+            Ok(given_out) => {
+                set_settled(&mut self.votes, settled);
                 Ok(given_out)
             }
             Err(error) => {
+                drop(settled);
                 self.listener.exchange_slices(old_slices);
                 Err(error)
             }
@@ -411,14 +439,16 @@ impl Node {
                     votes: &self.votes,
                     stirred,
                 };
-                match answer_anew(alloc, archive, &mut self.listener, &start) {
-                    Ok(Answer { votes, given_out }) => {
+                let mut settled = None;
+                match answer_anew(alloc, archive, &mut self.listener, &start, &mut settled) {
+                    Ok(given_out) => {
                         // The row stays, so the put need not be undone.
                         drop(put);
-                        set_settled(&mut self.votes, votes);
+                        set_settled(&mut self.votes, settled);
                         Ok(given_out)
                     }
                     Err(error) => {
+                        drop(settled);
                         self.listener.undo(archive, put);
                         Err(error)
                     }
@@ -458,18 +488,24 @@ impl Node {
             votes: &changed.votes,
             stirred: Stirred::All,
         };
-        match answer(alloc, archive, &mut self.listener, &old, &start) {
-            Ok(Answer { votes, given_out }) => {
-                let Changed {
-                    inputs,
-                    votes: changed,
-                } = changed;
-                drop(mem::replace(&mut self.votes, changed));
+        let mut settled = None;
+        match answer(
+            alloc,
+            archive,
+            &mut self.listener,
+            &old,
+            &start,
+            &mut settled,
+        ) {
+            Ok(given_out) => {
+                let Changed { inputs, votes } = changed;
+                drop(mem::replace(&mut self.votes, votes));
                 drop(mem::replace(&mut self.inputs, inputs));
-                set_settled(&mut self.votes, votes);
+                set_settled(&mut self.votes, settled);
                 Ok(given_out)
             }
             Err(error) => {
+                drop(settled);
                 drop(changed);
                 Err(error)
             }

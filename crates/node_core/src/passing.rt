@@ -4,15 +4,16 @@
 
 ghost use Rattle.std.specs.Prelude.{◌≡◌, OnOk};
 ghost use Rattle.node_rules.specs.Drafted.{after};
-ghost use Rattle.scp_spec.specs.Passes.{balloting};
+ghost use Rattle.scp_spec.specs.Passes.{balloting, counting, unless_over, voting};
+ghost use Rattle.scp_spec.specs.States.{position};
 ghost use Rattle.node_core.specs.Stirrings.{part_of_pass};
 
 use crate::stirring::Stirred;
 use node_rules::{
-    Draft, accept_commit, accept_prepared, arm, confirm_commit, confirm_prepared, nominate, raise,
-    start,
+    Draft, accept_commit, accept_prepared, arm, confirm_commit, confirm_prepared, nominate,
+    own_position, raise, start,
 };
-use scp_types::{Inputs, NodeId, Phase};
+use scp_types::{Inputs, NodeId, Phase, Statement};
 use scp_voting::Sight;
 use std::alloc::{AllocError, Global};
 
@@ -59,7 +60,6 @@ pub(crate) fn apply_part<S: Sight>(
 
 /// The rules of balloting, in order: the first ballot; then what is prepared and what is committed, each accepted and
 /// then confirmed. Unless a value is externalized by then, counters follow, first raised and then armed.
-#[tactic(auto, unfolding(scp_spec::specs::Passes::voting, scp_spec::specs::Passes::counting))]
 fn balloting<S: Sight>(
     alloc: Global,
     sight: &S,
@@ -69,15 +69,34 @@ fn balloting<S: Sight>(
     ensures { OnOk result (draft.new ≡ after (balloting (S.seen sight.now) inputs.now) draft.old) }
 {
     start(alloc, sight, draft)?;
-    accept_prepared(alloc, sight, draft)?;
-    confirm_prepared(alloc, sight, draft)?;
-    accept_commit(alloc, sight, draft)?;
-    confirm_commit(alloc, sight, draft)?;
+    let mut own = own_position(draft.votes())?;
+    let voted = vote_and_count(alloc, sight, inputs, &mut own, draft);
+    drop(own);
+    voted
+}
+
+/// The rules that follow the first ballot, in order. `own` is the node's own position, which is found anew only if a
+/// rule changes it.
+#[tactic(auto, unfolding(scp_spec::specs::Passes::voting, scp_spec::specs::Passes::counting))]
+fn vote_and_count<S: Sight>(
+    alloc: Global,
+    sight: &S,
+    inputs: &Inputs,
+    own: &mut Option<Statement>,
+    draft: &mut Draft<'_>,
+) -> Result<(), AllocError>
+    requires { own.old ≡ position draft.old.now }
+    ensures { OnOk result (draft.new ≡ after (λ w. unless_over (counting (S.seen sight.now) inputs.now) (voting (S.seen sight.now) w)) draft.old) }
+{
+    accept_prepared(alloc, sight, own, draft)?;
+    confirm_prepared(alloc, sight, own, draft)?;
+    accept_commit(alloc, sight, own, draft)?;
+    confirm_commit(alloc, sight, own, draft)?;
     match draft.votes().phase {
         Phase::Externalized => Ok(()),
         Phase::Preparing | Phase::Committing => {
-            raise(alloc, sight, inputs, draft)?;
-            arm(alloc, sight, draft)
+            raise(alloc, sight, inputs, own, draft)?;
+            arm(alloc, sight, own, draft)
         }
     }
 }

@@ -10,6 +10,7 @@ ghost use Rattle.scp_spec.specs.Candidates.{commits, greatest, lowest};
 ghost use Rattle.scp_spec.specs.Balloting.{accept_commit, confirm_commit, confirmed_commit, enter_commit, externalize, first_committed, next_committed, widen_commit};
 ghost use Rattle.scp_spec.specs.Passes.{on_ballot};
 ghost use Rattle.scp_spec.specs.States.{position};
+ghost use Rattle.scp_types.specs.declared.state.Votes.{Votes};
 ghost use Rattle.scp_voting.specs.declared.claim.Claim.TheVariants.{Commit};
 
 use crate::Draft;
@@ -17,9 +18,9 @@ use crate::checks::Stage;
 use crate::intervals::{CommitConfirmed, CommitUpTo, EntersCommit, WidensCommit};
 use crate::lowest::lowest_of;
 use crate::mentioned_ballots::MentionedBallots;
-use crate::positions::own_position;
+use crate::positions::follow;
 use crate::search::greatest_of;
-use scp_types::{Ballot, Phase, Votes};
+use scp_types::{Ballot, Phase, Statement, Votes};
 use scp_voting::{Mention, Sight};
 use std::alloc::{AllocError, Global};
 
@@ -31,13 +32,16 @@ use std::alloc::{AllocError, Global};
 pub fn accept_commit<S: Sight>(
     alloc: Global,
     sight: &S,
+    own: &mut Option<Statement>,
     draft: &mut Draft<'_>,
 ) -> Result<(), AllocError>
-    ensures { OnOk result (draft.new ≡ after (on_ballot (λ b w. accept_commit w.phase (S.seen sight.now) b w)) draft.old) }
+    requires { own.old ≡ position draft.old.now }
+    ensures draft { OnOk result (draft.new ≡ after (on_ballot (λ b w. accept_commit w.phase (S.seen sight.now) b w)) draft.old) }
+    ensures position { OnOk result (own.new ≡ position draft.new.now) }
 {
     match draft.votes().phase {
-        Phase::Preparing => enter_commit(alloc, sight, draft),
-        Phase::Committing => widen_commit(alloc, sight, draft),
+        Phase::Preparing => enter_commit(alloc, sight, own, draft),
+        Phase::Committing => widen_commit(alloc, sight, own, draft),
         Phase::Externalized => Ok(()),
     }
 }
@@ -48,17 +52,14 @@ pub fn accept_commit<S: Sight>(
 fn first_committed<S: Sight>(
     alloc: Global,
     sight: &S,
+    own: &Option<Statement>,
     votes: &Votes,
 ) -> Result<Option<Ballot>, AllocError>
+    requires { own.now ≡ position votes.now }
     ensures { IfOk result (λ t. t ≡ first_committed (S.seen sight.now) votes.now) }
 {
-    let own = own_position(votes)?;
-    let candidates = MentionedBallots { sight, own: &own };
-    let test = EntersCommit {
-        sight,
-        own: &own,
-        votes,
-    };
+    let candidates = MentionedBallots { sight, own };
+    let test = EntersCommit { sight, own, votes };
     greatest_of(alloc, Mention::Committed, &candidates, &test)
 }
 
@@ -67,16 +68,17 @@ fn first_committed<S: Sight>(
 fn next_committed<S: Sight>(
     alloc: Global,
     sight: &S,
+    own: &Option<Statement>,
     ballot: &Ballot,
     votes: &Votes,
 ) -> Result<Option<Ballot>, AllocError>
+    requires { own.now ≡ position votes.now }
     ensures { IfOk result (λ t. t ≡ next_committed (S.seen sight.now) ballot.now votes.now) }
 {
-    let own = own_position(votes)?;
-    let candidates = MentionedBallots { sight, own: &own };
+    let candidates = MentionedBallots { sight, own };
     let test = WidensCommit {
         sight,
-        own: &own,
+        own,
         value: &ballot.value,
         high: votes.high,
     };
@@ -89,17 +91,16 @@ fn interval_from<S: Sight>(
     alloc: Global,
     stage: Stage,
     sight: &S,
-    votes: &Votes,
+    own: &Option<Statement>,
     end: &Ballot,
 ) -> Result<u32, AllocError>
-    ensures { IfOk result (λ n. n ≡ lowest (λ low. has_come_to stage (S.seen sight.now) (position votes.now) (Commit end.now.value low end.now.counter)) end.now.value end.now.counter (commits (S.seen sight.now) votes.now)) }
+    ensures { (w : Votes) → own.now ≡ position w → IfOk result (λ n. n ≡ lowest (λ low. has_come_to stage (S.seen sight.now) (position w) (Commit end.now.value low end.now.counter)) end.now.value end.now.counter (commits (S.seen sight.now) w)) }
 {
-    let own = own_position(votes)?;
-    let candidates = MentionedBallots { sight, own: &own };
+    let candidates = MentionedBallots { sight, own };
     let test = CommitUpTo {
         stage,
         sight,
-        own: &own,
+        own,
         high: end.counter,
     };
     lowest_of(alloc, Mention::Committed, &candidates, &test, end)
@@ -108,37 +109,53 @@ fn interval_from<S: Sight>(
 /// The phase becomes [`scp_types::Phase::Committing`], with the interval up to the first counter, if there is one. The
 /// ballot, the highest accepted and the highest confirmed one are then not below that.
 #[tactic(auto, unfolding(scp_spec::specs::Balloting::enter_commit, scp_spec::specs::Balloting::accepted_from))]
-fn enter_commit<S: Sight>(alloc: Global, sight: &S, draft: &mut Draft<'_>) -> Result<(), AllocError>
-    ensures { OnOk result (draft.new ≡ after (on_ballot (λ b w. enter_commit (S.seen sight.now) b w (first_committed (S.seen sight.now) w))) draft.old) }
+fn enter_commit<S: Sight>(
+    alloc: Global,
+    sight: &S,
+    own: &mut Option<Statement>,
+    draft: &mut Draft<'_>,
+) -> Result<(), AllocError>
+    requires { own.old ≡ position draft.old.now }
+    ensures draft { OnOk result (draft.new ≡ after (on_ballot (λ b w. enter_commit (S.seen sight.now) b w (first_committed (S.seen sight.now) w))) draft.old) }
+    ensures position { OnOk result (own.new ≡ position draft.new.now) }
 {
     let Some(_) = &draft.votes().ballot else {
         return Ok(());
     };
-    let Some(first) = first_committed(alloc, sight, draft.votes())? else {
+    let Some(first) = first_committed(alloc, sight, own, draft.votes())? else {
         return Ok(());
     };
-    let low = interval_from(alloc, Stage::Accepted, sight, draft.votes(), &first)?;
+    let low = interval_from(alloc, Stage::Accepted, sight, own, &first)?;
     move_interval(draft, &first, low)?;
     let confirmed_prepared = greater(&draft.votes().confirmed_prepared, &first)?;
     draft.set_confirmed_prepared(confirmed_prepared)?;
-    draft.set_phase(Phase::Committing)
+    draft.set_phase(Phase::Committing)?;
+    follow(own, draft.votes())
 }
 
 /// The interval goes up to the next counter, if there is one, with the ballot's counter and the highest accepted
 /// ballot.
 #[tactic(auto, unfolding(scp_spec::specs::Balloting::widen_commit, scp_spec::specs::Balloting::accepted_from))]
-fn widen_commit<S: Sight>(alloc: Global, sight: &S, draft: &mut Draft<'_>) -> Result<(), AllocError>
-    ensures { OnOk result (draft.new ≡ after (on_ballot (λ b w. widen_commit (S.seen sight.now) b w (next_committed (S.seen sight.now) b w))) draft.old) }
+fn widen_commit<S: Sight>(
+    alloc: Global,
+    sight: &S,
+    own: &mut Option<Statement>,
+    draft: &mut Draft<'_>,
+) -> Result<(), AllocError>
+    requires { own.old ≡ position draft.old.now }
+    ensures draft { OnOk result (draft.new ≡ after (on_ballot (λ b w. widen_commit (S.seen sight.now) b w (next_committed (S.seen sight.now) b w))) draft.old) }
+    ensures position { OnOk result (own.new ≡ position draft.new.now) }
 {
     let votes = draft.votes();
     let Some(ballot) = &votes.ballot else {
         return Ok(());
     };
-    let Some(next) = next_committed(alloc, sight, ballot, votes)? else {
+    let Some(next) = next_committed(alloc, sight, own, ballot, votes)? else {
         return Ok(());
     };
-    let low = interval_from(alloc, Stage::Accepted, sight, votes, &next)?;
-    move_interval(draft, &next, low)
+    let low = interval_from(alloc, Stage::Accepted, sight, own, &next)?;
+    move_interval(draft, &next, low)?;
+    follow(own, draft.votes())
 }
 
 /// The interval that is accepted as committed goes from `low` to the counter of `end`. The node's ballot has the value
@@ -179,12 +196,15 @@ fn greater(there: &Option<Ballot>, ballot: &Ballot) -> Result<Ballot, AllocError
 pub fn confirm_commit<S: Sight>(
     alloc: Global,
     sight: &S,
+    own: &mut Option<Statement>,
     draft: &mut Draft<'_>,
 ) -> Result<(), AllocError>
-    ensures { OnOk result (draft.new ≡ after (on_ballot (λ b w. confirm_commit w.phase (S.seen sight.now) b w)) draft.old) }
+    requires { own.old ≡ position draft.old.now }
+    ensures draft { OnOk result (draft.new ≡ after (on_ballot (λ b w. confirm_commit w.phase (S.seen sight.now) b w)) draft.old) }
+    ensures position { OnOk result (own.new ≡ position draft.new.now) }
 {
     match draft.votes().phase {
-        Phase::Committing => externalize(alloc, sight, draft),
+        Phase::Committing => externalize(alloc, sight, own, draft),
         Phase::Preparing | Phase::Externalized => Ok(()),
     }
 }
@@ -194,16 +214,17 @@ pub fn confirm_commit<S: Sight>(
 fn confirmed_commit<S: Sight>(
     alloc: Global,
     sight: &S,
+    own: &Option<Statement>,
     ballot: &Ballot,
     votes: &Votes,
 ) -> Result<Option<Ballot>, AllocError>
+    requires { own.now ≡ position votes.now }
     ensures { IfOk result (λ t. t ≡ confirmed_commit (S.seen sight.now) ballot.now votes.now) }
 {
-    let own = own_position(votes)?;
-    let candidates = MentionedBallots { sight, own: &own };
+    let candidates = MentionedBallots { sight, own };
     let test = CommitConfirmed {
         sight,
-        own: &own,
+        own,
         value: &ballot.value,
     };
     greatest_of(alloc, Mention::Committed, &candidates, &test)
@@ -212,17 +233,25 @@ fn confirmed_commit<S: Sight>(
 /// The phase becomes [`scp_types::Phase::Externalized`], with the confirmed interval up to the last counter, if there is
 /// one.
 #[tactic(auto, unfolding(scp_spec::specs::Balloting::externalize))]
-fn externalize<S: Sight>(alloc: Global, sight: &S, draft: &mut Draft<'_>) -> Result<(), AllocError>
-    ensures { OnOk result (draft.new ≡ after (on_ballot (λ b w. externalize (S.seen sight.now) w (confirmed_commit (S.seen sight.now) b w))) draft.old) }
+fn externalize<S: Sight>(
+    alloc: Global,
+    sight: &S,
+    own: &mut Option<Statement>,
+    draft: &mut Draft<'_>,
+) -> Result<(), AllocError>
+    requires { own.old ≡ position draft.old.now }
+    ensures draft { OnOk result (draft.new ≡ after (on_ballot (λ b w. externalize (S.seen sight.now) w (confirmed_commit (S.seen sight.now) b w))) draft.old) }
+    ensures position { OnOk result (own.new ≡ position draft.new.now) }
 {
     let votes = draft.votes();
     let Some(ballot) = &votes.ballot else {
         return Ok(());
     };
-    let Some(last) = confirmed_commit(alloc, sight, ballot, votes)? else {
+    let Some(last) = confirmed_commit(alloc, sight, own, ballot, votes)? else {
         return Ok(());
     };
-    let low = interval_from(alloc, Stage::Confirmed, sight, votes, &last)?;
+    let low = interval_from(alloc, Stage::Confirmed, sight, own, &last)?;
     draft.set_phase(Phase::Externalized)?;
-    draft.set_interval(low, last.counter)
+    draft.set_interval(low, last.counter)?;
+    follow(own, draft.votes())
 }

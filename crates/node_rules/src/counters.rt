@@ -9,7 +9,7 @@ ghost use Rattle.scp_spec.specs.States.{position};
 ghost use Rattle.scp_spec.specs.Candidates.{combine, greatest_value, least_from};
 ghost use Rattle.scp_voting.specs.Searching.{next_counter};
 
-use crate::positions::own_position;
+use crate::positions::follow;
 use crate::{Draft, cap};
 use scp_types::{Ballot, Inputs, LentBallot, Phase, SharedValues, Statement, Value, Votes};
 use scp_voting::{Position, Question, Sight, counter_by, lesser};
@@ -24,20 +24,24 @@ pub fn raise<S: Sight>(
     alloc: Global,
     sight: &S,
     inputs: &Inputs,
+    own: &mut Option<Statement>,
     draft: &mut Draft<'_>,
 ) -> Result<(), AllocError>
-    ensures { OnOk result (draft.new ≡ after (on_ballot (raise (S.seen sight.now) inputs.now)) draft.old) }
+    requires { own.old ≡ position draft.old.now }
+    ensures draft { OnOk result (draft.new ≡ after (on_ballot (raise (S.seen sight.now) inputs.now)) draft.old) }
+    ensures position { OnOk result (own.new ≡ position draft.new.now) }
 {
     let votes = draft.votes();
     let Some(ballot) = &votes.ballot else {
         return Ok(());
     };
-    let counter = counter_after_raise(alloc, sight, inputs, votes, ballot)?;
+    let counter = counter_after_raise(alloc, sight, inputs, own, votes, ballot)?;
     if counter == ballot.counter {
         return Ok(());
     }
     let higher = ballot_at_counter(votes, ballot, counter).try_copy()?;
-    draft.set_ballot(higher)
+    draft.set_ballot(higher)?;
+    follow(own, draft.votes())
 }
 
 /// The counter to which the ballot is raised. `ballot` is the node's.
@@ -46,14 +50,15 @@ fn counter_after_raise<S: Sight>(
     alloc: Global,
     sight: &S,
     inputs: &Inputs,
+    own: &Option<Statement>,
     votes: &Votes,
     ballot: &Ballot,
 ) -> Result<u32, AllocError>
+    requires { own.now ≡ position votes.now }
     ensures { IfOk result (λ n. n ≡ counter_after_raise (S.seen sight.now) inputs.now ballot.now votes.now) }
 {
-    let position = own_position(votes)?;
     let most = cap(inputs.ballot_timeouts);
-    let counter = counter_to_raise_to(alloc, sight, &position, ballot.counter, most)?;
+    let counter = counter_to_raise_to(alloc, sight, own, ballot.counter, most)?;
     Ok(counter)
 }
 
@@ -119,7 +124,13 @@ fn next_counter<S: Sight>(sight: &S, position: &Option<Statement>, above: u32) -
 /// at least that (after the Stellar Consensus Protocol draft). Without a ballot nothing changes, and no quorum is
 /// searched for if the timer was last armed for that counter.
 #[tactic(auto, unfolding(scp_spec::specs::Passes::arm))]
-pub fn arm<S: Sight>(alloc: Global, sight: &S, draft: &mut Draft<'_>) -> Result<(), AllocError>
+pub fn arm<S: Sight>(
+    alloc: Global,
+    sight: &S,
+    own: &Option<Statement>,
+    draft: &mut Draft<'_>,
+) -> Result<(), AllocError>
+    requires { own.now ≡ position draft.old.now }
     ensures { OnOk result (draft.new ≡ after (on_ballot (arm (S.seen sight.now))) draft.old) }
 {
     let votes = draft.votes();
@@ -130,7 +141,7 @@ pub fn arm<S: Sight>(alloc: Global, sight: &S, draft: &mut Draft<'_>) -> Result<
     if counter == votes.armed {
         return Ok(());
     }
-    if is_quorum_at(alloc, sight, votes, counter)? {
+    if is_quorum_at(alloc, sight, own, counter)? {
         draft.set_armed(counter)
     } else {
         Ok(())
@@ -141,15 +152,13 @@ pub fn arm<S: Sight>(alloc: Global, sight: &S, draft: &mut Draft<'_>) -> Result<
 fn is_quorum_at<S: Sight>(
     alloc: Global,
     sight: &S,
-    votes: &Votes,
+    own: &Option<Statement>,
     least: u32,
 ) -> Result<bool, AllocError>
-    ensures { IfOk result (λ b. b ≡ (S.seen sight.now).quorum Kind.Ballot (passes (has_counter least) (position votes.now)) (has_counter least)) }
+    ensures { IfOk result (λ b. b ≡ (S.seen sight.now).quorum Kind.Ballot (passes (has_counter least) own.now) (has_counter least)) }
 {
     let question = Question::HasCounter(least);
-    let own_passes = own_position(votes)?.passes(&question);
-    let is_quorum = sight.quorum(alloc, own_passes, &question)?;
-    Ok(is_quorum)
+    sight.quorum(alloc, own.passes(&question), &question)
 }
 
 /// The node's ballot at this counter. Its value is chosen anew only if that is another counter: in

@@ -170,8 +170,14 @@ fn copy_once(own: &mut Option<Votes>, lent: &Votes) -> Result<(), AllocError>
     ensures ok { OnOk result (own.new ≡ Some (unwrap_or own.old lent.now)) }
     ensures err { OnErr result (own.new ≡ own.old) }
 {
-    if own.is_none() {
-        *own = Some(lent.try_copy()?);
+    if own.is_some() {
+        return Ok(());
     }
-    Ok(())
+    match lent.try_copy() {
+        Err(error) => Err(error),
+        Ok(copy) => {
+            *own = Some(copy);
+            Ok(())
+        }
+    }
 }

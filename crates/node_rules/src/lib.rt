@@ -5,6 +5,10 @@
 //! Each rule is one function of what the node sees and of its votes, which it changes in a [`Draft`]. An error
 //! of one says that it is out of memory, or that values have too many owners; the node's own votes are then as they
 //! were.
+//!
+//! The rules of balloting that follow the first ballot ask the node's own position, `own`. They are lent that of the
+//! votes before them ([`own_position`]). A rule that changes votes has it follow, so that it is copied once a pass, and
+//! not once a rule.
 #![tactic(auto)]
 
 mod checks;
@@ -28,7 +32,7 @@ pub use committed::{accept_commit, confirm_commit};
 pub use counters::{arm, ballot_at_counter, raise};
 pub use draft::Draft;
 pub use first::start;
-pub use positions::{counter_of, position};
+pub use positions::{counter_of, own_position, position};
 pub use prepared::{accept_prepared, confirm_prepared};
 pub use rules::{leads, nominate};
 pub use sent::sent_vote;

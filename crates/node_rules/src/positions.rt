@@ -1,6 +1,6 @@
 //! The node's own position in balloting.
 
-ghost use Rattle.std.specs.Prelude.{◌≡◌, IfOk};
+ghost use Rattle.std.specs.Prelude.{◌≡◌, IfOk, OnOk};
 ghost use Rattle.scp_spec.specs.States.{commit_counter, counter_of, high_counter, position};
 
 use scp_types::{Ballot, LentBallot, LentStatement, Phase, Statement, Votes, statement_of};
@@ -38,10 +38,19 @@ pub fn position<'a>(votes: &'a Votes) -> Option<LentStatement<'a>>
 
 /// The position as a statement of its own. It takes no memory; an error says that a value has too many
 /// owners.
-pub(crate) fn own_position(votes: &Votes) -> Result<Option<Statement>, AllocError>
+pub fn own_position(votes: &Votes) -> Result<Option<Statement>, AllocError>
     ensures { IfOk result (λ o. o ≡ position votes.now) }
 {
     statement_of(&position(votes))
+}
+
+/// The own position becomes that of these votes.
+pub(crate) fn follow(own: &mut Option<Statement>, votes: &Votes) -> Result<(), AllocError>
+    ensures { OnOk result (own.new ≡ position votes.now) }
+{
+    let position = own_position(votes)?;
+    *own = position;
+    Ok(())
 }
 
 /// The ballot that is there, if one is.

@@ -7,16 +7,16 @@ ghost use Rattle.scp_types.specs.Orders.{bytes_cmp};
 ghost use Rattle.scp_types.specs.Votes.{same_value};
 ghost use Rattle.node_rules.specs.Drafted.{after};
 ghost use Rattle.scp_spec.specs.Candidates.{greatest, named_ballots};
-ghost use Rattle.scp_spec.specs.States.{Under, below};
+ghost use Rattle.scp_spec.specs.States.{Under, below, position};
 ghost use Rattle.scp_spec.specs.Balloting.{aborted_by, accept_prepared, or_confirmed_ballot, unless_aborted, confirm_prepared, follow_confirmed_prepared, is_aborted, is_accepted, is_confirmed, is_overtaken, may_be_prepared, raise_confirmed_prepared, set_commit};
 ghost use Rattle.scp_spec.specs.Passes.{in_prepare, on_ballot};
 
 use crate::Draft;
 use crate::checks::{MayBePrepared, PrepareAt, Stage};
 use crate::mentioned_ballots::MentionedBallots;
-use crate::positions::{high_counter, own_position};
+use crate::positions::{follow, high_counter};
 use crate::search::greatest_above;
-use scp_types::{Ballot, LentBallot, Phase, Votes};
+use scp_types::{Ballot, LentBallot, Phase, Statement, Votes};
 use scp_voting::{Mention, Sight};
 use std::alloc::{AllocError, Global};
 
@@ -27,38 +27,44 @@ use std::alloc::{AllocError, Global};
 pub fn accept_prepared<S: Sight>(
     alloc: Global,
     sight: &S,
+    own: &mut Option<Statement>,
     draft: &mut Draft<'_>,
 ) -> Result<(), AllocError>
-    ensures { OnOk result (draft.new ≡ after (on_ballot (accept_prepared (S.seen sight.now))) draft.old) }
+    requires { own.old ≡ position draft.old.now }
+    ensures draft { OnOk result (draft.new ≡ after (on_ballot (accept_prepared (S.seen sight.now))) draft.old) }
+    ensures position { OnOk result (own.new ≡ position draft.new.now) }
 {
     let votes = draft.votes();
     let Some(ballot) = &votes.ballot else {
         return Ok(());
     };
-    let Some(prepared) = higher_prepared(alloc, sight, votes, ballot)? else {
+    let Some(prepared) = higher_prepared(alloc, sight, own, votes, ballot)? else {
         return Ok(());
     };
     let aborted = aborted_by(&votes.prepared, &prepared, votes.aborted);
     draft.set_prepared(prepared)?;
-    draft.set_aborted(aborted)
+    draft.set_aborted(aborted)?;
+    follow(own, draft.votes())
 }
 
 /// The highest accepted ballot, if it is above the one that was. `ballot` is the node's.
+#[tactic(auto, unfolding(scp_spec::specs::Candidates::named_ballots))]
 fn higher_prepared<'a, S: Sight>(
     alloc: Global,
     sight: &'a S,
+    own: &'a Option<Statement>,
     votes: &'a Votes,
     ballot: &'a Ballot,
 ) -> Result<Option<Ballot>, AllocError>
+    requires { own.now ≡ position votes.now }
     ensures { IfOk result (λ o. option_or o votes.now.prepared ≡ greatest votes.now.prepared (filter (λ t. may_be_prepared votes.now.phase ballot.now.value t && is_accepted (S.seen sight.now) votes.now t) (named_ballots (S.seen sight.now) votes.now))) }
 {
-    let own = own_position(votes)?;
-    let candidates = MentionedBallots { sight, own: &own };
+    let candidates = MentionedBallots { sight, own };
     let check = MayBePrepared {
         prepare: PrepareAt {
             stage: Stage::Accepted,
             sight,
-            own: &own,
+            own,
         },
         phase: votes.phase,
         value: &ballot.value,
@@ -104,12 +110,15 @@ fn first_kept(old: &Ballot, new: &Ballot) -> u32
 pub fn confirm_prepared<S: Sight>(
     alloc: Global,
     sight: &S,
+    own: &mut Option<Statement>,
     draft: &mut Draft<'_>,
 ) -> Result<(), AllocError>
-    ensures { OnOk result (draft.new ≡ after (in_prepare (on_ballot (confirm_prepared (S.seen sight.now)))) draft.old) }
+    requires { own.old ≡ position draft.old.now }
+    ensures draft { OnOk result (draft.new ≡ after (in_prepare (on_ballot (confirm_prepared (S.seen sight.now)))) draft.old) }
+    ensures position { OnOk result (own.new ≡ position draft.new.now) }
 {
     match draft.votes().phase {
-        Phase::Preparing => confirm_on_ballot(alloc, sight, draft),
+        Phase::Preparing => confirm_on_ballot(alloc, sight, own, draft),
         Phase::Committing | Phase::Externalized => Ok(()),
     }
 }
@@ -119,16 +128,19 @@ pub fn confirm_prepared<S: Sight>(
 fn confirm_on_ballot<S: Sight>(
     alloc: Global,
     sight: &S,
+    own: &mut Option<Statement>,
     draft: &mut Draft<'_>,
 ) -> Result<(), AllocError>
-    ensures { OnOk result (draft.new ≡ after (on_ballot (confirm_prepared (S.seen sight.now))) draft.old) }
+    requires { own.old ≡ position draft.old.now }
+    ensures draft { OnOk result (draft.new ≡ after (on_ballot (confirm_prepared (S.seen sight.now))) draft.old) }
+    ensures position { OnOk result (own.new ≡ position draft.new.now) }
 {
     let Some(_) = &draft.votes().ballot else {
         return Ok(());
     };
-    raise_confirmed_prepared(alloc, sight, draft)?;
-    follow_confirmed_prepared(draft)?;
-    set_commit(draft)
+    raise_confirmed_prepared(alloc, sight, own, draft)?;
+    follow_confirmed_prepared(own, draft)?;
+    set_commit(own, draft)
 }
 
 /// The highest confirmed ballot becomes the greatest of itself and the named ballots whose prepare is
@@ -137,30 +149,38 @@ fn confirm_on_ballot<S: Sight>(
 fn raise_confirmed_prepared<S: Sight>(
     alloc: Global,
     sight: &S,
+    own: &mut Option<Statement>,
     draft: &mut Draft<'_>,
 ) -> Result<(), AllocError>
-    ensures { OnOk result (draft.new ≡ after (raise_confirmed_prepared (S.seen sight.now)) draft.old) }
+    requires { own.old ≡ position draft.old.now }
+    ensures draft { OnOk result (draft.new ≡ after (raise_confirmed_prepared (S.seen sight.now)) draft.old) }
+    ensures position { OnOk result (own.new ≡ position draft.new.now) }
 {
-    match higher_confirmed(alloc, sight, draft.votes())? {
+    match higher_confirmed(alloc, sight, own, draft.votes())? {
         None => Ok(()),
-        Some(confirmed_prepared) => draft.set_confirmed_prepared(confirmed_prepared),
+        Some(confirmed_prepared) => {
+            draft.set_confirmed_prepared(confirmed_prepared)?;
+            follow(own, draft.votes())
+        }
     }
 }
 
 /// The highest confirmed ballot, if it is above the one that was.
+#[tactic(auto, unfolding(scp_spec::specs::Candidates::named_ballots))]
 fn higher_confirmed<'a, S: Sight>(
     alloc: Global,
     sight: &'a S,
+    own: &'a Option<Statement>,
     votes: &'a Votes,
 ) -> Result<Option<Ballot>, AllocError>
+    requires { own.now ≡ position votes.now }
     ensures { IfOk result (λ o. option_or o votes.now.confirmed_prepared ≡ greatest votes.now.confirmed_prepared (filter (is_confirmed (S.seen sight.now) votes.now) (named_ballots (S.seen sight.now) votes.now))) }
 {
-    let own = own_position(votes)?;
-    let candidates = MentionedBallots { sight, own: &own };
+    let candidates = MentionedBallots { sight, own };
     let check = PrepareAt {
         stage: Stage::Confirmed,
         sight,
-        own: &own,
+        own,
     };
     greatest_above(
         alloc,
@@ -172,12 +192,20 @@ fn higher_confirmed<'a, S: Sight>(
 }
 
 /// The ballot becomes the highest confirmed one if that is above it.
-fn follow_confirmed_prepared(draft: &mut Draft<'_>) -> Result<(), AllocError>
-    ensures { OnOk result (draft.new ≡ after (on_ballot follow_confirmed_prepared) draft.old) }
+fn follow_confirmed_prepared(
+    own: &mut Option<Statement>,
+    draft: &mut Draft<'_>,
+) -> Result<(), AllocError>
+    requires { own.old ≡ position draft.old.now }
+    ensures draft { OnOk result (draft.new ≡ after (on_ballot follow_confirmed_prepared) draft.old) }
+    ensures position { OnOk result (own.new ≡ position draft.new.now) }
 {
     match high_above_ballot(draft.votes())? {
         None => Ok(()),
-        Some(confirmed_prepared) => draft.set_ballot(confirmed_prepared),
+        Some(confirmed_prepared) => {
+            draft.set_ballot(confirmed_prepared)?;
+            follow(own, draft.votes())
+        }
     }
 }
 
@@ -197,16 +225,20 @@ fn high_above_ballot(votes: &Votes) -> Result<Option<Ballot>, AllocError>
 /// The ballot whose commit is voted for is reset if it is aborted. If there is none then, it becomes the ballot once
 /// that is confirmed as prepared and is not aborted.
 #[tactic(auto, unfolding(scp_spec::specs::Balloting::set_commit))]
-fn set_commit(draft: &mut Draft<'_>) -> Result<(), AllocError>
-    ensures { OnOk result (draft.new ≡ after set_commit draft.old) }
+fn set_commit(own: &mut Option<Statement>, draft: &mut Draft<'_>) -> Result<(), AllocError>
+    requires { own.old ≡ position draft.old.now }
+    ensures draft { OnOk result (draft.new ≡ after set_commit draft.old) }
+    ensures position { OnOk result (own.new ≡ position draft.new.now) }
 {
     if keeps_commit(draft.votes()) {
         return Ok(());
     }
-    match ballot_to_commit(draft.votes())? {
-        None => reset_commit(draft),
-        Some(ballot) => draft.set_commit(Some(ballot)),
+    let commit = ballot_to_commit(draft.votes())?;
+    if commit.is_none() && draft.votes().commit.is_none() {
+        return Ok(());
     }
+    draft.set_commit(commit)?;
+    follow(own, draft.votes())
 }
 
 /// Whether there is a ballot whose commit is voted for, and it is not aborted.
@@ -235,15 +267,6 @@ fn ballot_to_commit(votes: &Votes) -> Result<Option<Ballot>, AllocError>
                 Ok(None)
             }
         }
-    }
-}
-
-fn reset_commit(draft: &mut Draft<'_>) -> Result<(), AllocError>
-    ensures { OnOk result (draft.new ≡ after (λ w. record w { commit = None }) draft.old) }
-{
-    match draft.votes().commit {
-        None => Ok(()),
-        Some(_) => draft.set_commit(None),
     }
 }
 

@@ -22,8 +22,8 @@ use Rattle.scp_bits.specs.Searching.{AreCompiled, met_at}
 use Rattle.node_view.specs.declared.region.RegionEntry.{RegionEntry}
 use Rattle.node_view.specs.declared.region.Region.{Region}
 use Rattle.node_table.specs.Places.{place_of_row}
-use Rattle.node_view.specs.Forms.{AreBelow, Fits, IsFoundWithin, MayJoin}
-use Rattle.node_view.specs.Regions.{IsCopy, IsEntry, IsRegion, forms_of, row_places}
+use Rattle.node_view.specs.Forms.{AreBelow, Fits, IsFoundInEither, IsFoundWithin, MayJoin}
+use Rattle.node_view.specs.Regions.{IsCopy, IsEntry, IsRegion, forms_of, other_kind, row_places}
 use Rattle.node_view.proofs.FormLaws.{agreed_set, below_more, below_set}
 use Rattle.node_view.proofs.PlaceLaws.{place_set, places_kept}
 
@@ -41,8 +41,8 @@ apart us i j up a b other = ne_eqb (get_or us i 0) (get_or us j 0) (λ e. elim (
 other_node : (k : Kind) (e : Sent) (u : ℕ) → (e.sender == u) ≡ false → is_row_of u k e ≡ false
 other_node k e u h = ap (λ b. b && is_kind k (kind_of e.body)) h
 
-other_kind : (k : Kind) (e : Sent) (u : ℕ) → is_kind k (kind_of e.body) ≡ false → is_row_of u k e ≡ false
-other_kind k e u h = go (e.sender == u)
+of_other_kind : (k : Kind) (e : Sent) (u : ℕ) → is_kind k (kind_of e.body) ≡ false → is_row_of u k e ≡ false
+of_other_kind k e u h = go (e.sender == u)
   where
     go : (b : Bool) → (b && is_kind k (kind_of e.body)) ≡ false
     go true = h
@@ -124,13 +124,13 @@ module _ (table : List Sent) (e : Sent) (r : Region) (own : ℕ) (configured : S
 
     -- and those of the other kind
     rows_of_other_kind : (k : Kind) → is_kind k (kind_of e.body) ≡ false → row_places table k r.nodes.items ≡ row_places (with_row e table) k r.nodes.items
-    rows_of_other_kind k another_kind = places_kept table e k r.nodes.items (λ i h. inl (other_kind k e (get_or r.nodes.items i 0) another_kind))
+    rows_of_other_kind k another_kind = places_kept table e k r.nodes.items (λ i h. inl (of_other_kind k e (get_or r.nodes.items i 0) another_kind))
 
     -- its form may join those of its kind
-    joining : (k : Kind) → k ≡ kind_of e.body → AreCompiled r.nodes.items (slices_by own configured table k) (forms_of k r) → AreBelow r.numbers (forms_of k r)
-        → MayJoin r.nodes.items (forms_of k r) x.numbers e.slices x.slices
+    joining : (k : Kind) → k ≡ kind_of e.body → AreCompiled r.nodes.items (slices_by own configured table (other_kind k)) (forms_of (other_kind k) r)
+        → AreCompiled r.nodes.items (slices_by own configured table k) (forms_of k r) → AreBelow r.numbers (forms_of k r) → MayJoin r.nodes.items (forms_of k r) x.numbers e.slices x.slices
     joining k same =
-        subst (λ (j : Kind). AreCompiled r.nodes.items (slices_by own configured table j) (forms_of j r) → AreBelow r.numbers (forms_of j r) → MayJoin r.nodes.items (forms_of j r) x.numbers e.slices x.slices)
+        subst (λ (j : Kind). AreCompiled r.nodes.items (slices_by own configured table (other_kind j)) (forms_of (other_kind j) r) → AreCompiled r.nodes.items (slices_by own configured table j) (forms_of j r) → AreBelow r.numbers (forms_of j r) → MayJoin r.nodes.items (forms_of j r) x.numbers e.slices x.slices)
         (sym same) entry.form
 
     pub ballot_set : x.kind ≡ Kind.Ballot → (v : Vec (Option Numbered) Global) → (x.place < length r.ballots.items → v.items ≡ set r.ballots.items x.place (Some x.slices))
@@ -141,7 +141,7 @@ module _ (table : List Sent) (e : Sent) (r : Region) (own : ℕ) (configured : S
         let row_is_now = row_now (omega (arith, entry.within, ap (λ (os : List (Option ℕ)). length os) is.ballot_rows, length-map r.nodes.items (λ u. place_of_row table u Kind.Ballot))) in
         let k : Kind.Ballot ≡ kind_of e.body = sym kind ∙ entry.kind in
         let room : x.place < length r.ballots.items = omega (arith, entry.within, is.ballots.as_many) in
-        let joins : MayJoin r.nodes.items r.ballots.items x.numbers e.slices x.slices = joining Kind.Ballot k is.ballots is.ballot_numbers in
+        let joins : MayJoin r.nodes.items r.ballots.items x.numbers e.slices x.slices = joining Kind.Ballot k is.nominations is.ballots is.ballot_numbers in
         record {
           reach = reach;
           within = is.within;
@@ -149,7 +149,7 @@ module _ (table : List Sent) (e : Sent) (r : Region) (own : ℕ) (configured : S
           blocking = is.blocking;
           ballots = subst (λ (cs : List (Option Numbered)). AreCompiled r.nodes.items (slices_by own configured (with_row e table) Kind.Ballot) cs) (sym is_now)
               (set_compiled own configured table e Kind.Ballot r.nodes.items r.ballots.items x.place x.slices is.reach.ascending entry.within entry.sender another (ap (is_kind Kind.Ballot) (sym k)) joins.compiled joins.fits is.ballots);
-          nominations = same_compiled own configured table e Nomination r.nodes.items r.nominations.items (λ i h. inr (other_kind Nomination e (get_or r.nodes.items i 0) (ap (is_kind Nomination) (sym k)))) is.nominations;
+          nominations = same_compiled own configured table e Nomination r.nodes.items r.nominations.items (λ i h. inr (of_other_kind Nomination e (get_or r.nodes.items i 0) (ap (is_kind Nomination) (sym k)))) is.nominations;
           ballot_rows = row_is_now ∙ ap (λ (os : List (Option ℕ)). set os x.place x.row) is.ballot_rows ∙ row_set Kind.Ballot k;
           nomination_rows = is.nomination_rows ∙ rows_of_other_kind Nomination (ap (is_kind Nomination) (sym k));
           ballot_numbers = subst (λ (cs : List (Option Numbered)). AreBelow x.numbers cs) (sym is_now) (below_set r.ballots.items x.place x.slices r.numbers x.numbers room entry.numbers joins.below is.ballot_numbers);
@@ -164,13 +164,13 @@ module _ (table : List Sent) (e : Sent) (r : Region) (own : ℕ) (configured : S
         let row_is_now = row_now (omega (arith, entry.within, ap (λ (os : List (Option ℕ)). length os) is.nomination_rows, length-map r.nodes.items (λ u. place_of_row table u Nomination))) in
         let k : Nomination ≡ kind_of e.body = sym kind ∙ entry.kind in
         let room : x.place < length r.nominations.items = omega (arith, entry.within, is.nominations.as_many) in
-        let joins : MayJoin r.nodes.items r.nominations.items x.numbers e.slices x.slices = joining Nomination k is.nominations is.nomination_numbers in
+        let joins : MayJoin r.nodes.items r.nominations.items x.numbers e.slices x.slices = joining Nomination k is.ballots is.nominations is.nomination_numbers in
         record {
           reach = reach;
           within = is.within;
           itself = is.itself;
           blocking = is.blocking;
-          ballots = same_compiled own configured table e Kind.Ballot r.nodes.items r.ballots.items (λ i h. inr (other_kind Kind.Ballot e (get_or r.nodes.items i 0) (ap (is_kind Kind.Ballot) (sym k)))) is.ballots;
+          ballots = same_compiled own configured table e Kind.Ballot r.nodes.items r.ballots.items (λ i h. inr (of_other_kind Kind.Ballot e (get_or r.nodes.items i 0) (ap (is_kind Kind.Ballot) (sym k)))) is.ballots;
           nominations = subst (λ (cs : List (Option Numbered)). AreCompiled r.nodes.items (slices_by own configured (with_row e table) Nomination) cs) (sym is_now)
               (set_compiled own configured table e Nomination r.nodes.items r.nominations.items x.place x.slices is.reach.ascending entry.within entry.sender another (ap (is_kind Nomination) (sym k)) joins.compiled joins.fits is.nominations);
           ballot_rows = is.ballot_rows ∙ rows_of_other_kind Kind.Ballot (ap (is_kind Kind.Ballot) (sym k));
@@ -186,6 +186,11 @@ pub names_in_reach : (own : ℕ) (configured : Slices) (table : List Sent) (k : 
 names_in_reach own configured table k us fs n q f (inl twin) is =
     let w = get_or us twin.place 0 in is.closed k w q (list_any_at (λ y. y == w) us twin.place 0 twin.listed (eq-eqb w w refl)) twin.same
 names_in_reach own configured table k us fs n q f (inr new) is = λ u inside. within-at (names q) (among us) u new.2 inside
+
+pub names_by_either : (own : ℕ) (configured : Slices) (table : List Sent) (k j : Kind) (us : List ℕ) (fs others : List (Option Numbered)) (n : ℕ) (q : Slices) (f : Numbered)
+    → IsFoundInEither us (slices_by own configured table k) fs (slices_by own configured table j) others n q f → IsReach own configured table us → AreWithin (among (names q)) (among us)
+names_by_either own configured table k j us fs others n q f (inl found) is = names_in_reach own configured table k us fs n q f found is
+names_by_either own configured table k j us fs others n q f (inr new) is = names_in_reach own configured table j us others n q new.1.0 (inl new.1.1) is
 
 -- ---- a copy
 pub copied : (old new : Region) → IsCopy old new → (own : ℕ) (configured : Slices) (table : List Sent) → IsRegion own configured table old → IsRegion own configured table new

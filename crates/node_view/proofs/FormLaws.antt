@@ -8,10 +8,10 @@ use Rattle.scp_types.specs.Trees.{Slices}
 use Rattle.scp_spec.specs.Sets.{AreWithin, among}
 use Rattle.scp_spec.specs.Satisfaction.{names, sat}
 use Rattle.scp_spec.specs.Quorums.{is_satisfied}
-use Rattle.scp_bits.specs.Places.{Numbered}
+use Rattle.scp_bits.specs.Places.{Compiled, Numbered}
 use Rattle.scp_bits.specs.Met.{IsCompiled, nodes_at}
 use Rattle.scp_bits.specs.Searching.{AreAgreed, AreCompiled, met_at}
-use Rattle.node_view.specs.Forms.{AreAllForms, AreBelow, ArePart, Fits, IsFormer, IsFound, IsFoundWithin, IsTwin, MayJoin}
+use Rattle.node_view.specs.Forms.{AreAllForms, AreBelow, ArePart, Fits, IsFormer, IsFound, IsFoundInEither, IsFoundWithin, IsTwin, MayJoin}
 
 same_form : (f g : Numbered) → Some f ≡ Some g → f ≡ g
 same_form f g h = ap (λ (o : Option Numbered). unwrap_or o f) h
@@ -41,6 +41,16 @@ module _ (us : List ℕ) (slices_at : ℕ → Option Slices) (fs : List (Option 
   pub found_of : (n : ℕ) → IsFoundWithin us slices_at fs n q f → IsFound us slices_at fs n q f
   found_of n (inl t) = inl t
   found_of n (inr new) = inr (new.0, new.1)
+
+-- a form that was found in either of two lists may join the first
+pub either_joins : (us : List ℕ) (slices_at : ℕ → Option Slices) (fs : List (Option Numbered)) (other_at : ℕ → Option Slices) (others : List (Option Numbered)) (q : Slices) (f : Numbered) (n m : ℕ)
+    → n < m → IsFoundInEither us slices_at fs other_at others n q f → AreCompiled us other_at others → AreCompiled us slices_at fs → AreBelow n fs → MayJoin us fs m q f
+either_joins us slices_at fs other_at others q f n m room (inl found) others_are are below = found_joins us slices_at fs q f n m room (found_of us slices_at fs q f n found) are below
+either_joins us slices_at fs other_at others q f n m room (inr new) others_are are below =
+    let g = new.1.0 in
+    let its : IsCompiled false us q g.set = twin_compiled us other_at others q g (λ i h. others_are.each i (omega (arith, h, others_are.as_many))) new.1.1 in
+    let compiled : IsCompiled false us q f.set = subst (λ (c : Compiled). IsCompiled false us q c) (sym new.1.2) its in
+    found_joins us slices_at fs q f n m room (inr (new.0, compiled)) are below
 
 -- ---- one form more
 -- a form of the longer list is one of the shorter, or the last

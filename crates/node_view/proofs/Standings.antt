@@ -18,7 +18,7 @@ use Rattle.node_view.specs.declared.region.Region.{Region}
 use Rattle.node_view.specs.Knowing.{is_of_another}
 use Rattle.node_view.specs.Listening.{KnowsReach, KnowsRegion, region_of}
 use Rattle.node_view.specs.declared.standing.Standing.{Standing}
-use Rattle.node_view.specs.Regions.{IsAsLatest, IsFoundAmong, IsRegion, row_places, rows_of}
+use Rattle.node_view.specs.Regions.{HasSlicesAt, IsFoundAmong, IsRegion, row_places, rows_of}
 use Rattle.node_view.proofs.EntryLaws.{apart}
 use Rattle.node_view.proofs.ReachKept.{KeepsReach, reach_kept}
 use Rattle.node_view.proofs.ReachKept.KeepsReach.{stranger, same_slices}
@@ -72,27 +72,27 @@ pub region_known : (c : Configured) (table : List Sent) (o : Option KnownReach) 
 region_known c table None knows = tt
 region_known c table (Some k) knows = knows.region
 
--- ---- the node whose row was set last
+-- ---- the slices of a row that a region keeps
 -- the rows of a kind that a region keeps are those of its nodes
 rows_are : (k : Kind) (r : Region) (own : ℕ) (configured : Slices) (table : List Sent) → IsRegion own configured table r → rows_of k r ≡ row_places table k r.nodes.items
 rows_are Nomination r own configured table is = is.nomination_rows
 rows_are Kind.Ballot r own configured table is = is.ballot_rows
 
--- it has the envelope's slices if its row does, and it is another than the node itself
-pub as_latest : (own : ℕ) (configured : Slices) (table : List Sent) (e : Sent) (r : Region) (k : Kind) (p : ℕ) → r.latest ≢ r.place → k ≡ kind_of e.body → get_or (rows_of k r) r.latest None ≡ Some p
-    → option_map (λ (x : Sent). x.slices) (slice_get table p) ≡ Some e.slices → IsRegion own configured table r → IsAsLatest own configured table e r
-as_latest own configured table e r k p other kind there same is =
+-- a node has the envelope's slices if its row does, and it is another than the node itself
+pub has_slices : (own : ℕ) (configured : Slices) (table : List Sent) (e : Sent) (r : Region) (k : Kind) (n p : ℕ) → n ≢ r.place → get_or (rows_of k r) n None ≡ Some p
+    → option_map (λ (x : Sent). x.slices) (slice_get table p) ≡ Some e.slices → IsRegion own configured table r → HasSlicesAt own configured table e r k n
+has_slices own configured table e r k n p other there same is =
     let us = r.nodes.items in
     let find = λ (u : ℕ). place_of_row table u k in
-    let found : get_or (map find us) r.latest None ≡ Some p = ap (λ (os : List (Option ℕ)). get_or os r.latest None) (sym (rows_are k r own configured table is)) ∙ there in
-    elim (cases_lt r.latest (length us)) [
+    let found : get_or (map find us) n None ≡ Some p = ap (λ (os : List (Option ℕ)). get_or os n None) (sym (rows_are k r own configured table is)) ∙ there in
+    elim (cases_lt n (length us)) [
       | inl within ↦
-          let u = get_or us r.latest 0 in
-          let at : place_of_row table u k ≡ Some p = sym (get_or-map find us r.latest 0 None within) ∙ found in
-          let another : (own == u) ≡ false = (λ i. sym is.itself i == u) ∙ apart us r.place r.latest is.reach.ascending is.within within (λ one. other (sym one)) in
+          let u = get_or us n 0 in
+          let at : place_of_row table u k ≡ Some p = sym (get_or-map find us n 0 None within) ∙ found in
+          let another : (own == u) ≡ false = (λ i. sym is.itself i == u) ∙ apart us r.place n is.reach.ascending is.within within (λ one. other (sym one)) in
           let its : slices_by own configured table k u ≡ Some e.slices = ap (λ b. if b then Some configured else option_map (λ (x : Sent). x.slices) (row table u k)) another ∙ ap (option_map (λ (x : Sent). x.slices)) (sym (row-at_place table u k p at)) ∙ same in
-          (within, subst (λ (j : Kind). slices_by own configured table j u ≡ Some e.slices) kind its)
+          (within, its)
       | inr past ↦
-          let none : None ≡ Some p = sym (get_or_past (map find us) r.latest None (omega (arith, past, length-map us find))) ∙ found in
+          let none : None ≡ Some p = sym (get_or_past (map find us) n None (omega (arith, past, length-map us find))) ∙ found in
           cc
     ]

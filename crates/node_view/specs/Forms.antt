@@ -48,6 +48,13 @@ abbrev pub IsFoundWithin : List ℕ → (ℕ → Option Slices) → List (Option
 IsFoundWithin us slices_at fs n q f =
     IsTwin us slices_at fs q f ⊎ ((f.number ≡ n) × IsCompiled false us q f.set × IsTrue (within (names q) (among us)))
 
+-- the form of these slices is found so, or it has this number and the set of a form of another list, at a node with the
+-- same slices there
+abbrev pub IsFoundInEither : List ℕ → (ℕ → Option Slices) → List (Option Numbered) → (ℕ → Option Slices) → List (Option Numbered) → ℕ → Slices → Numbered → Type 0
+IsFoundInEither us slices_at fs other_at others n q f =
+    IsFoundWithin us slices_at fs n q f
+    ⊎ ((f.number ≡ n) × ((g : Numbered) × IsTwin us other_at others q g × (f.set ≡ g.set)))
+
 -- the form is of these slices, may join the list, and its number is below this one
 pub record MayJoin (us : List ℕ) (fs : List (Option Numbered)) (n : ℕ) (q : Slices) (f : Numbered) : Type 0 where
   pub compiled : IsCompiled false us q f.set

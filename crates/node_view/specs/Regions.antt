@@ -1,5 +1,5 @@
 -- The nodes that a node reaches, and slices compiled against them.
-use Rattle.std.specs.Prelude.{◌≡◌, ◌≢◌, ℕ, ◌<◌, List, Option, Some, None, get_or, length, map, true, false, ⊤}
+use Rattle.std.specs.Prelude.{◌≡◌, ◌≢◌, ℕ, ◌<◌, IsTrue, List, Option, Some, None, get_or, length, map, true, false, ⊤}
 use Rattle.scp_types.specs.Trees.{Slices}
 use Rattle.scp_types.specs.Statements.{Sent, kind_of}
 use Rattle.scp_types.specs.declared.kind.Kind.{Kind}
@@ -24,6 +24,7 @@ use Rattle.node_view.specs.declared.region.FormerRegion.{FormerRegion}
 use Rattle.node_view.specs.declared.region.KindPlaces.{KindPlaces}
 use Rattle.node_view.specs.declared.region.Placed.{Placed}
 use Rattle.node_view.specs.declared.region.Region.{Region}
+use Rattle.node_view.specs.declared.region.ToldSame.{ToldSame}
 use Rattle.node_view.specs.declared.standing.Standing.{Standing}
 
 -- where the rows of a kind that these nodes have stand in a table, in the order of the nodes
@@ -60,11 +61,22 @@ abbrev pub IsFoundAmong : List ℕ → ℕ → Option Standing → Type 0
 IsFoundAmong nodes u None = among nodes u ≡ false
 IsFoundAmong nodes u (Some s) = (s.node < length nodes) × (get_or nodes s.node 0 ≡ u)
 
--- the node whose row was set last has, by its row of the envelope's kind, the envelope's slices
-abbrev pub IsAsLatest : ℕ → Slices → List Sent → Sent → Region → Type 0
-IsAsLatest own configured table e r =
-    (r.latest < length r.nodes.items)
-    × (slices_by own configured table (kind_of e.body) (get_or r.nodes.items r.latest 0) ≡ Some e.slices)
+-- the kind that is not this one
+abbrev pub other_kind : Kind → Kind
+other_kind Nomination = Kind.Ballot
+other_kind Kind.Ballot = Nomination
+
+-- the node at a place has, by its row of a kind, the envelope's slices
+abbrev pub HasSlicesAt : ℕ → Slices → List Sent → Sent → Region → Kind → ℕ → Type 0
+HasSlicesAt own configured table e r k n =
+    (n < length r.nodes.items) × (slices_by own configured table k (get_or r.nodes.items n 0) ≡ Some e.slices)
+
+-- what is told is so: of the row of the envelope's kind that was set last, and of the row of the other kind that the
+-- node at a place has
+pub record AreToldSame (own : ℕ) (configured : Slices) (table : List Sent) (e : Sent) (r : Region) (n : ℕ) (t : ToldSame)
+    : Type 0 where
+  pub latest : IsTrue t.latest → HasSlicesAt own configured table e r (kind_of e.body) r.latest
+  pub other : IsTrue t.other → HasSlicesAt own configured table e r (other_kind (kind_of e.body)) n
 
 -- what the configuration and the table give: the reach, the node's own place, what blocks it, and of all that are
 -- reached the slices, in forms whose numbers are below those to come, and where their rows stand
@@ -101,7 +113,8 @@ pub record IsEntry (own : ℕ) (configured : Slices) (table : List Sent) (e : Se
   pub kind : x.kind ≡ kind_of e.body
   pub another : x.place ≢ r.place
   pub numbers : r.numbers < x.numbers
-  pub form : AreCompiled r.nodes.items (slices_by own configured table (kind_of e.body)) (forms_of (kind_of e.body) r)
+  pub form : AreCompiled r.nodes.items (slices_by own configured table (other_kind (kind_of e.body))) (forms_of (other_kind (kind_of e.body)) r)
+      → AreCompiled r.nodes.items (slices_by own configured table (kind_of e.body)) (forms_of (kind_of e.body) r)
       → AreBelow r.numbers (forms_of (kind_of e.body) r)
       → MayJoin r.nodes.items (forms_of (kind_of e.body) r) x.numbers e.slices x.slices
   pub row : place_of_row (with_row e table) e.sender (kind_of e.body) ≡ x.row

@@ -14,14 +14,15 @@ ghost use Rattle.node_table.specs.Places.{place_of_row};
 ghost use Rattle.node_view.specs.declared.standing.Standing.{Standing};
 ghost use Rattle.scp_types.specs.Statements.{Sent, kind_of};
 ghost use Rattle.node_view.specs.Knowing.{IsKnown, IsTaken};
-ghost use Rattle.node_view.specs.Regions.{IsAsLatest, IsFoundAmong, IsKeptRegion, IsOfExtent};
+ghost use Rattle.node_view.specs.Regions.{AreToldSame, HasSlicesAt, IsFoundAmong, IsKeptRegion, IsOfExtent};
 
 use crate::configured::Configured;
+use crate::region::{ToldSame, other_kind};
 use crate::standing::Standing;
 use crate::{Change, Extent, KnownReach, NewReach, Region, RegionEntry, Taken};
 use node_store::{Archive, Filed, Places};
 use node_table::{Put, Rows, Table};
-use scp_types::Envelope;
+use scp_types::{Envelope, Kind};
 use std::alloc::{AllocError, Global};
 
 /// What a row does to the region that is known.
@@ -213,42 +214,44 @@ fn effect_of<S: Places>(
             }
         }
     }
-    let is_as_latest = is_as_latest(&known.region, table, row);
+    let kind = row.archive.read(&row.envelope).body().kind();
+    let region = &known.region;
+    let told = ToldSame {
+        latest: has_slices_at(region, table, row, kind, region.latest),
+        other: has_slices_at(region, table, row, other_kind(kind), there.node),
+    };
     let rows = Rows::of(table, row.archive);
     let envelope = row.archive.read(&row.envelope);
-    effect_on(
-        alloc,
-        configured,
-        &known.region,
-        &rows,
-        envelope,
-        *there,
-        is_as_latest,
-    )
+    effect_on(alloc, configured, region, &rows, envelope, *there, told)
 }
 
-/// Whether the row that was set last is another node's, and numbers tell that its row of the envelope's kind has the
+/// Whether the node at this place is another than the node itself, and numbers tell that its row of this kind has the
 /// envelope's slices. It takes no memory.
-fn is_as_latest<S: Places>(region: &Region, table: &Table, row: &FiledRow<'_, S>) -> bool
+fn has_slices_at<S: Places>(
+    region: &Region,
+    table: &Table,
+    row: &FiledRow<'_, S>,
+    kind: Kind,
+    node: usize,
+) -> bool
     requires rows { AreFiled row.now.archive.now table.now }
     requires envelope { IsFiled row.now.archive.now row.now.envelope }
-    ensures { IsTrue result → (c : Configured) → KnowsRegion c (sents_of table.now) (Some region.now) → IsAsLatest c.name c.slices (sents_of table.now) (sent_of row.now.envelope) region.now }
+    ensures { IsTrue result → (c : Configured) → KnowsRegion c (sents_of table.now) (Some region.now) → HasSlicesAt c.name c.slices (sents_of table.now) (sent_of row.now.envelope) region.now kind node }
 {
-    if region.latest == region.place {
+    if node == region.place {
         return false;
     }
-    let kind = row.archive.read(&row.envelope).body().kind();
-    let Some(place) = region.row_there(kind, region.latest).get() else {
+    let Some(place) = region.row_there(kind, node).get() else {
         return false;
     };
     match table.filed_at(row.archive, place) {
         None => false,
-        Some(latest) => row.archive.tells_same_slices(latest, &row.envelope),
+        Some(filed) => row.archive.tells_same_slices(filed, &row.envelope),
     }
 }
 
-/// What an envelope does to a region, if its sender stands there. Its slices may be any; those of the node whose row was
-/// set last are not compared if they are known to be the same.
+/// What an envelope does to a region, if its sender stands there. Its slices may be any; those that are told to be the
+/// same are not compared.
 fn effect_on<S: Places>(
     alloc: Global,
     configured: &Configured,
@@ -256,15 +259,15 @@ fn effect_on<S: Places>(
     rows: &Rows<'_, S>,
     envelope: &Envelope,
     there: Standing,
-    is_as_latest: bool,
+    told: ToldSame,
 ) -> Effect
     requires ascending { IsAscending region.now.nodes.items }
     requires among { IsFoundAmong region.now.nodes.items envelope.now.sender (Some there) }
     requires row { place_of_row rows.now envelope.now.sender (kind_of envelope.now.body) ≡ there.row }
-    requires latest { IsTrue is_as_latest → IsAsLatest configured.now.name configured.now.slices rows.now envelope.now region.now }
+    requires told { AreToldSame configured.now.name configured.now.slices rows.now envelope.now region.now there.node told }
     ensures { IsEffect configured.now rows.now envelope.now (Some region.now) result }
 {
-    match region.change_at(alloc, configured.own(), rows, envelope, there, is_as_latest) {
+    match region.change_at(alloc, configured.own(), rows, envelope, there, told) {
         Ok(Change::Sets(entry)) => Effect::Sets(entry),
         Ok(Change::Reach(extent)) => Effect::Reach(extent),
         Err(_) => Effect::Forgets,

@@ -10,8 +10,8 @@ ghost use Rattle.scp_spec.specs.Rows.{with_row};
 ghost use Rattle.scp_spec.specs.Sets.{IsAscending, among};
 ghost use Rattle.scp_bits.specs.Searching.{AreCompiled};
 ghost use Rattle.node_table.specs.Places.{place_of_row};
-ghost use Rattle.node_view.specs.Forms.{AreAllForms, IsFormerOf, IsFoundWithin};
-ghost use Rattle.node_view.specs.Regions.{AreRowPlaces, IsAsLatest, IsChange, IsCopy, IsEntry, IsFormerRegion, IsPlaced, IsRegion, forms_of, row_places, row_places_of_kind, rows_of};
+ghost use Rattle.node_view.specs.Forms.{AreAllForms, IsFormerOf, IsFoundInEither};
+ghost use Rattle.node_view.specs.Regions.{AreRowPlaces, AreToldSame, IsChange, IsCopy, IsEntry, IsFormerRegion, IsPlaced, IsRegion, forms_of, other_kind, row_places, row_places_of_kind, rows_of};
 
 use crate::changing::Extent;
 use crate::forms::{Candidates, Former, SlicesInReach, form_in};
@@ -54,6 +54,25 @@ pub struct RegionEntry {
     slices: Form,
     row: RowPlace,
     numbers: usize,
+}
+
+/// Of which rows numbers tell that they have an envelope's slices. What is not told may be so too.
+#[derive(Clone, Copy)]
+pub(crate) struct ToldSame {
+    /// The row of the envelope's kind that the node has whose row was set last.
+    pub latest: bool,
+    /// The row of the other kind that the sender has.
+    pub other: bool,
+}
+
+/// The kind that is not this one.
+pub(crate) fn other_kind(kind: Kind) -> Kind
+    ensures { result ≡ other_kind kind }
+{
+    match kind {
+        Kind::Nomination => Kind::Ballot,
+        Kind::Ballot => Kind::Nomination,
+    }
 }
 
 /// What a row of another reached node changes in a region.
@@ -154,11 +173,15 @@ impl Region {
             return Ok(Change::Reach(Extent::Other));
         };
         let row = table.place(sender, envelope.body().kind());
-        self.change_at(alloc, own, table, envelope, Standing { node, row }, false)
+        let told = ToldSame {
+            latest: false,
+            other: false,
+        };
+        self.change_at(alloc, own, table, envelope, Standing { node, row }, told)
     }
 
-    /// What the envelope changes, as [`Region::change_by`] says, if it is known where its sender stands. No slices are
-    /// compared if they are known to be those of the node whose row was set last.
+    /// What the envelope changes, as [`Region::change_by`] says, if it is known where its sender stands. Slices that are
+    /// told to be the same are not compared.
     pub(crate) fn change_at<S: Places>(
         &self,
         alloc: Global,
@@ -166,13 +189,13 @@ impl Region {
         table: &Rows<'_, S>,
         envelope: &Envelope,
         there: Standing,
-        is_as_latest: bool,
+        told: ToldSame,
     ) -> Result<Change, AllocError>
         requires ascending { IsAscending self.now.nodes.items }
         requires within { there.node < length self.now.nodes.items }
         requires sender { get_or self.now.nodes.items there.node 0 ≡ envelope.now.sender }
         requires row { place_of_row table.now envelope.now.sender (kind_of envelope.now.body) ≡ there.row }
-        requires latest { IsTrue is_as_latest → IsAsLatest own.name.now own.slices.now table.now envelope.now self.now }
+        requires told { AreToldSame own.name.now own.slices.now table.now envelope.now self.now there.node told }
         ensures { IfOk result (IsChange own.entry.name.now own.entry.slices.now table.now envelope.now self.now) }
     {
         if there.node == self.place {
@@ -185,7 +208,7 @@ impl Region {
         let Some(numbers) = self.numbers.checked_add(1) else {
             return Ok(Change::Reach(Extent::Other));
         };
-        let found = self.form_for(alloc, own, table, envelope, is_as_latest)?;
+        let found = self.form_for(alloc, own, table, envelope, there.node, told)?;
         let Some(form) = found else {
             return Ok(Change::Reach(Extent::Wider));
         };
@@ -199,24 +222,32 @@ impl Region {
     }
 
     /// The compiled form of the envelope's slices, for the list of its kind, if they name only reached nodes. It is
-    /// that of the node itself or of the row that was set last if their slices are the same, or else a new one. If
-    /// they are known to be the latter's, none are compared. An error says that it is out of memory.
+    /// that of the row that was set last if that is told to have them. Else, if the sender's row of the other kind is
+    /// told to, it has the set of that row's form. Else it is that of the node itself or of the row that was set last
+    /// if their slices are the same, or a new one. An error says that it is out of memory.
     fn form_for<S: Places>(
         &self,
         alloc: Global,
         own: Own<'_>,
         table: &Rows<'_, S>,
         envelope: &Envelope,
-        is_as_latest: bool,
+        node: usize,
+        told: ToldSame,
     ) -> Result<Option<Form>, AllocError>
         requires ascending { IsAscending self.now.nodes.items }
-        requires latest { IsTrue is_as_latest → IsAsLatest own.name.now own.slices.now table.now envelope.now self.now }
-        ensures { IfOk result (λ o. IfSome o (IsFoundWithin self.now.nodes.items (slices_by own.entry.name.now own.entry.slices.now table.now (kind_of envelope.now.body)) (forms_of (kind_of envelope.now.body) self.now) self.now.numbers envelope.now.slices)) }
+        requires told { AreToldSame own.name.now own.slices.now table.now envelope.now self.now node told }
+        ensures { IfOk result (λ o. IfSome o (IsFoundInEither self.now.nodes.items (slices_by own.entry.name.now own.entry.slices.now table.now (kind_of envelope.now.body)) (forms_of (kind_of envelope.now.body) self.now) (slices_by own.entry.name.now own.entry.slices.now table.now (other_kind (kind_of envelope.now.body))) (forms_of (other_kind (kind_of envelope.now.body)) self.now) self.now.numbers envelope.now.slices)) }
     {
         let kind = envelope.body().kind();
-        if is_as_latest {
+        if told.latest {
             if let Some(form) = form_in(self.forms(kind), self.latest) {
                 let form = form.try_copy()?;
+                return Ok(Some(form));
+            }
+        }
+        if told.other {
+            if let Some(form) = form_in(self.forms(other_kind(kind)), node) {
+                let form = form.with_number(self.numbers)?;
                 return Ok(Some(form));
             }
         }

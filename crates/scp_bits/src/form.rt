@@ -109,8 +109,15 @@ impl Form {
     pub fn try_copy(&self) -> Result<Form, AllocError>
         ensures { IfOk result (λ f. f ≡ self.now) }
     {
+        self.with_number(self.number)
+    }
+
+    /// A form of this number, which shares the set. It takes no memory; an error says that the set has too many owners.
+    pub fn with_number(&self, number: usize) -> Result<Form, AllocError>
+        ensures { IfOk result (λ f. f ≡ record { number = number; set = self.now.set }) }
+    {
         Ok(Form {
-            number: self.number,
+            number,
             set: Arc::try_clone(&self.set)?,
         })
     }

@@ -7,4 +7,4 @@ use Rattle.node_core.proofs.settling.settle_on.Given as goal
 abbrev pub invariant-loop-number : goal.invariant-loop-number
 invariant-loop-number g l =
     let f = balloted_in (g.S.Sight.seen l.context.sight.now) l.context.inputs.now in
-    settle (most_passes - l.number) f l.settled ≡ settle (most_passes - 1) f l.fn.votes
+    settle (most_passes - l.number) f l.votes ≡ settle (most_passes - 1) f l.initial.votes

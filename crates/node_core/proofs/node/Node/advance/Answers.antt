@@ -1,51 +1,10 @@
-use Rattle.std.proofs.Common.{◌∙◌, ap, option_map, sym}
-use Rattle.scp_types.specs.declared.event.NodeEvent.TheVariants.{Take, Reslice}
+use Rattle.std.proofs.Common.{◌∙◌, ap, sym}
+use Rattle.scp_types.specs.declared.event.NodeEvent.TheVariants.{Take}
 use Rattle.node_store.specs.Archives.{sent_of}
-use Rattle.scp_spec.specs.Nodes.{change}
-use Rattle.node_core.specs.declared.filed.FiledEvent.{FiledEvent}
 use Rattle.node_core.specs.Filings.{event_of}
-use Rattle.node_core.specs.NodeParts.{ChangesTo, with_changed}
 use Rattle.node_core.proofs.Answered.{quiet-after}
-use Rattle.node_core.proofs.Idle.{propose-changes, reslice-changes}
 use Rattle.node_core.proofs.Sendings.{emitted-own}
-use Rattle.node_core.proofs.node.Node.advance.Given.{Over}
-use Rattle.node_core.proofs.node.Node.advance.Goals.{Joined-event, in-Propose+in_ok-changed_by_proposal-in-Propose, in-NominationTimer+in_ok-changed-in-NominationTimer, in-BallotTimer+in_ok-changed-in-BallotTimer}
 use Rattle.node_core.proofs.node.Node.advance.Goals as goal
-
--- what the event itself changes
-own : (g : Over) (c : Joined-event g) → ChangesTo c.args.self.now.node (event_of c.args.event) c.match-event.changed
-own g c = elim c.match-event.branch [
-  | in-Propose+in_ok-changed_by_proposal-in-Propose w ↦ ap (λ (x : FiledEvent). change c.args.self.now.node (event_of x)) w.in-Propose.is ∙ w.in_ok-changed_by_proposal-in-Propose.ensures ∙ ap (option_map (with_changed c.args.self.now.node)) (sym w.changed-is)
-  | in-NominationTimer+in_ok-changed-in-NominationTimer w ↦ ap (λ (x : FiledEvent). change c.args.self.now.node (event_of x)) w.in-NominationTimer.is ∙ w.in_ok-changed-in-NominationTimer.ensures.changed ∙ ap (option_map (with_changed c.args.self.now.node)) (sym w.changed-is)
-  | in-BallotTimer+in_ok-changed-in-BallotTimer w ↦ ap (λ (x : FiledEvent). change c.args.self.now.node (event_of x)) w.in-BallotTimer.is ∙ w.in_ok-changed-in-BallotTimer.ensures.changed ∙ ap (option_map (with_changed c.args.self.now.node)) (sym w.changed-is)
-]
-
-pub settle-requires-clause-change : goal.settle-requires-clause-change
-settle-requires-clause-change g c = (event_of c.args.event, own g (goal.at.settle-requires-clause-change g c).Joined-event)
-
-pub returns-clause-node : goal.returns-clause-node
-returns-clause-node g c = c.settle.ensures.node (event_of c.args.event) (own g (goal.at.returns-clause-node g c).Joined-event)
-
-pub returns-clause-outs : goal.returns-clause-outs
-returns-clause-outs g c = c.settle.ensures.outs (event_of c.args.event) (own g (goal.at.returns-clause-outs g c).Joined-event)
-
-pub returns-clause-idle : goal.returns-clause-idle
-returns-clause-idle g c = c.settle.ensures.idle (event_of c.args.event) (own g (goal.at.returns-clause-idle g c).Joined-event)
-
-pub returns-clause-quiet : goal.returns-clause-quiet
-returns-clause-quiet g c =
-    let at = own g (goal.at.returns-clause-quiet g c).Joined-event in
-    let event = event_of c.args.event in
-    quiet-after c.args.self.now.node c.settle.new.self.node event c.settle.result c.comes_of_events.ensures (c.settle.ensures.node event at) (c.settle.ensures.outs event at)
-
-pub returns-clause-emitted : goal.returns-clause-emitted
-returns-clause-emitted g c =
-    let at = own g (goal.at.returns-clause-emitted g c).Joined-event in
-    let event = event_of c.args.event in
-    emitted-own c.args.self.now.node c.settle.new.self.node c.settle.new.archive event c.settle.result (c.settle.ensures.node event at) (c.settle.ensures.outs event at) c.settle.ensures.whole c.settle.ensures.filed
-
-pub returns-in_err-changed_by_proposal-in-Propose-clause-idle : goal.returns-in_err-changed_by_proposal-in-Propose-clause-idle
-returns-in_err-changed_by_proposal-in-Propose-clause-idle g c = λ e. absurd (propose-changes c.args.self.now.node c.in-Propose.value (ap (λ (x : FiledEvent). change c.args.self.now.node (event_of x)) (sym c.in-Propose.is) ∙ e))
 
 pub returns-in-Take-clause-quiet : goal.returns-in-Take-clause-quiet
 returns-in-Take-clause-quiet g c =
@@ -54,8 +13,8 @@ returns-in-Take-clause-quiet g c =
 pub returns-in-Take-clause-emitted : goal.returns-in-Take-clause-emitted
 returns-in-Take-clause-emitted g c = emitted-own c.args.self.now.node c.take.new.self.node c.take.new.archive (Take (sent_of c.in-Take.envelope)) c.take.result c.take.ensures.node c.take.ensures.outs c.take.ensures.whole c.take.ensures.filed
 
-pub returns-in-Reslice-clause-emitted : goal.returns-in-Reslice-clause-emitted
-returns-in-Reslice-clause-emitted g c = emitted-own c.args.self.now.node c.reslice.new.self.node c.reslice.new.archive (Reslice c.in-Reslice.slices) c.reslice.result c.reslice.ensures.node c.reslice.ensures.outs c.reslice.ensures.whole c.reslice.ensures.filed
+pub returns-in_default-clause-quiet : goal.returns-in_default-clause-quiet
+returns-in_default-clause-quiet g c = quiet-after c.args.self.now.node c.turn.new.self.node (event_of c.args.event) c.turn.result c.comes_of_events.ensures c.turn.ensures.node c.turn.ensures.outs
 
-pub returns-in-Reslice-clause-idle : goal.returns-in-Reslice-clause-idle
-returns-in-Reslice-clause-idle g c = λ e. absurd (reslice-changes c.args.self.now.node c.in-Reslice.slices (ap (λ (x : FiledEvent). change c.args.self.now.node (event_of x)) (sym c.in-Reslice.is) ∙ e))
+pub returns-in_default-clause-emitted : goal.returns-in_default-clause-emitted
+returns-in_default-clause-emitted g c = emitted-own c.args.self.now.node c.turn.new.self.node c.turn.new.archive (event_of c.args.event) c.turn.result c.turn.ensures.node c.turn.ensures.outs c.turn.ensures.whole c.turn.ensures.filed

@@ -30,19 +30,19 @@ pub invariant_of-self : goal.invariant_of-self
 invariant_of-self g c =
     let i = c.self.inside in
     let d = changed g (goal.at.invariant_of-self g c).After-exchange_slices-old_slices in
-    reached-after c.exchange_slices-old_slices.new.self i.inputs i.votes d c.answer_anew.new.listener c.set_settled.new.votes (unwrap_or c.in-Ok.field-0.votes i.votes) c.in-Ok.ensures.votes c.answer_anew.ensures.same c.set_settled.ensures
+    reached-after c.exchange_slices-old_slices.new.self i.inputs i.votes d c.answer_anew.new.listener c.set_settled.new.votes (unwrap_or c.answer_anew.new.settled i.votes) c.in-Ok.ensures.votes c.answer_anew.ensures.same c.set_settled.ensures
 
 pub returns-in-Ok-clause-node : goal.returns-in-Ok-clause-node
 returns-in-Ok-clause-node g c =
     let i = c.self.inside in
     let d = changed g (goal.at.returns-in-Ok-clause-node g c).After-exchange_slices-old_slices in
-    node-after c.exchange_slices-old_slices.new.self i.inputs i.votes d c.answer_anew.new.listener c.set_settled.new.votes (unwrap_or c.in-Ok.field-0.votes i.votes) c.in-Ok.ensures.votes c.answer_anew.ensures.same c.set_settled.ensures
+    node-after c.exchange_slices-old_slices.new.self i.inputs i.votes d c.answer_anew.new.listener c.set_settled.new.votes (unwrap_or c.answer_anew.new.settled i.votes) c.in-Ok.ensures.votes c.answer_anew.ensures.same c.set_settled.ensures
 
 pub returns-in-Ok-clause-outs : goal.returns-in-Ok-clause-outs
 returns-in-Ok-clause-outs g c =
     let i = c.self.inside in
     let d = changed g (goal.at.returns-in-Ok-clause-outs g c).After-exchange_slices-old_slices in
-    outs-after c.exchange_slices-old_slices.new.self i.inputs i.votes d i.listener i.inputs i.votes (unwrap_or c.in-Ok.field-0.votes i.votes) _ c.in-Ok.ensures.votes (ap node_in c.self.view_is) c.in-Ok.ensures.outs
+    outs-after c.exchange_slices-old_slices.new.self i.inputs i.votes d i.listener i.inputs i.votes (unwrap_or c.answer_anew.new.settled i.votes) _ c.in-Ok.ensures.votes (ap node_in c.self.view_is) c.in-Ok.ensures.outs
 
 pub returns-in-Ok-clause-rows : goal.returns-in-Ok-clause-rows
 returns-in-Ok-clause-rows g c =

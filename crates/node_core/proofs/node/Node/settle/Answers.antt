@@ -26,7 +26,7 @@ answer-requires-clause-start g c = start-all _ (changed g (goal.at.answer-requir
 pub invariant_of-self : goal.invariant_of-self
 invariant_of-self g c =
     let d = changed g (goal.at.invariant_of-self g c).After-self c.requires.change.0 c.requires.change.1 in
-    subst (λ (x : Inputs). ComesOfEvents (node_of c.answer.new.listener x c.set_settled.new.votes)) (sym c.replace-in-Ok.ensures.after) (reached-after c.self.inside.listener c.in-Some.changed.inputs c.in-Some.changed.votes d c.answer.new.listener c.set_settled.new.votes (unwrap_or c.in-Ok.field-0.votes c.in-Some.changed.votes) c.in-Ok.ensures.votes c.answer.ensures.same (c.set_settled.ensures ∙ ap (unwrap_or c.in-Ok.field-0.votes) c.replace.ensures.after))
+    subst (λ (x : Inputs). ComesOfEvents (node_of c.answer.new.listener x c.set_settled.new.votes)) (sym c.replace-in-Ok.ensures.after) (reached-after c.self.inside.listener c.in-Some.changed.inputs c.in-Some.changed.votes d c.answer.new.listener c.set_settled.new.votes (unwrap_or c.answer.new.settled c.in-Some.changed.votes) c.in-Ok.ensures.votes c.answer.ensures.same (c.set_settled.ensures ∙ ap (unwrap_or c.answer.new.settled) c.replace.ensures.after))
 
 pub returns-in_default-clause-node : goal.returns-in_default-clause-node
 returns-in_default-clause-node g c = λ event made. sym (ap (λ (p : Node × List Out). p.0) (step-none c.args.self.now.node event c.args.changed c.in_default.is made))
@@ -37,13 +37,13 @@ returns-in_default-clause-outs g c = λ event made. c.nothing.ensures.outs ∙ s
 pub returns-in-Ok-clause-node : goal.returns-in-Ok-clause-node
 returns-in-Ok-clause-node g c = λ event made.
     let d = changed g (goal.at.returns-in-Ok-clause-node g c).After-self event made in
-    ap (λ (x : Inputs). node_of c.answer.new.listener x c.set_settled.new.votes) c.replace-in-Ok.ensures.after ∙ node-after c.self.inside.listener c.in-Some.changed.inputs c.in-Some.changed.votes d c.answer.new.listener c.set_settled.new.votes (unwrap_or c.in-Ok.field-0.votes c.in-Some.changed.votes) c.in-Ok.ensures.votes c.answer.ensures.same (c.set_settled.ensures ∙ ap (unwrap_or c.in-Ok.field-0.votes) c.replace.ensures.after)
+    ap (λ (x : Inputs). node_of c.answer.new.listener x c.set_settled.new.votes) c.replace-in-Ok.ensures.after ∙ node-after c.self.inside.listener c.in-Some.changed.inputs c.in-Some.changed.votes d c.answer.new.listener c.set_settled.new.votes (unwrap_or c.answer.new.settled c.in-Some.changed.votes) c.in-Ok.ensures.votes c.answer.ensures.same (c.set_settled.ensures ∙ ap (unwrap_or c.answer.new.settled) c.replace.ensures.after)
 
 pub returns-in-Ok-clause-outs : goal.returns-in-Ok-clause-outs
 returns-in-Ok-clause-outs g c = λ event made.
     let i = c.self.inside in
     let d = changed g (goal.at.returns-in-Ok-clause-outs g c).After-self event made in
-    outs-after i.listener c.in-Some.changed.inputs c.in-Some.changed.votes d i.listener i.inputs i.votes (unwrap_or c.in-Ok.field-0.votes c.in-Some.changed.votes) _ c.in-Ok.ensures.votes (ap node_in c.self.view_is) c.in-Ok.ensures.outs
+    outs-after i.listener c.in-Some.changed.inputs c.in-Some.changed.votes d i.listener i.inputs i.votes (unwrap_or c.answer.new.settled c.in-Some.changed.votes) _ c.in-Ok.ensures.votes (ap node_in c.self.view_is) c.in-Ok.ensures.outs
 
 pub returns-in-Ok-clause-rows : goal.returns-in-Ok-clause-rows
 returns-in-Ok-clause-rows g c =

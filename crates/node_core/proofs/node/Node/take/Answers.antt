@@ -71,7 +71,7 @@ pub invariant_of-self-in-Ok : goal.invariant_of-self-in-Ok
 invariant_of-self-in-Ok g c =
     let i = c.self.inside in
     let d = changed g (goal.at.invariant_of-self-in-Ok g c).In-Added in
-    reached-after c.put_row-put.new.listener i.inputs i.votes d c.answer_anew.new.listener c.set_settled.new.votes (unwrap_or c.in-Ok.field-0.votes i.votes) c.in-Ok.ensures.votes c.answer_anew.ensures.same c.set_settled.ensures
+    reached-after c.put_row-put.new.listener i.inputs i.votes d c.answer_anew.new.listener c.set_settled.new.votes (unwrap_or c.answer_anew.new.settled i.votes) c.in-Ok.ensures.votes c.answer_anew.ensures.same c.set_settled.ensures
 
 pub returns-in-Stale-clause-node : goal.returns-in-Stale-clause-node
 returns-in-Stale-clause-node g c =
@@ -87,13 +87,13 @@ pub returns-in-Ok-clause-node : goal.returns-in-Ok-clause-node
 returns-in-Ok-clause-node g c =
     let i = c.self.inside in
     let d = changed g (goal.at.returns-in-Ok-clause-node g c).In-Added in
-    node-after c.put_row-put.new.listener i.inputs i.votes d c.answer_anew.new.listener c.set_settled.new.votes (unwrap_or c.in-Ok.field-0.votes i.votes) c.in-Ok.ensures.votes c.answer_anew.ensures.same c.set_settled.ensures
+    node-after c.put_row-put.new.listener i.inputs i.votes d c.answer_anew.new.listener c.set_settled.new.votes (unwrap_or c.answer_anew.new.settled i.votes) c.in-Ok.ensures.votes c.answer_anew.ensures.same c.set_settled.ensures
 
 pub returns-in-Ok-clause-outs : goal.returns-in-Ok-clause-outs
 returns-in-Ok-clause-outs g c =
     let i = c.self.inside in
     let d = changed g (goal.at.returns-in-Ok-clause-outs g c).In-Added in
-    outs-after c.put_row-put.new.listener i.inputs i.votes d i.listener i.inputs i.votes (unwrap_or c.in-Ok.field-0.votes i.votes) _ c.in-Ok.ensures.votes (ap node_in c.self.view_is) c.in-Ok.ensures.outs
+    outs-after c.put_row-put.new.listener i.inputs i.votes d i.listener i.inputs i.votes (unwrap_or c.answer_anew.new.settled i.votes) _ c.in-Ok.ensures.votes (ap node_in c.self.view_is) c.in-Ok.ensures.outs
 
 pub returns-in-NoMemory-clause-idle : goal.returns-in-NoMemory-clause-idle
 returns-in-NoMemory-clause-idle g c = λ idle.

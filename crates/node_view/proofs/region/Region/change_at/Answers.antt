@@ -2,10 +2,10 @@ use Rattle.std.proofs.Common.{rules, ◌<◌, IsTrue, arith}
 use Rattle.scp_types.specs.Statements.{kind_of}
 use Rattle.scp_spec.specs.Backing.{slices_by}
 use Rattle.scp_spec.specs.Sets.{among}
-use Rattle.node_view.specs.Forms.{IsFoundWithin}
-use Rattle.node_view.specs.Regions.{forms_of}
-use Rattle.node_view.proofs.EntryLaws.{names_in_reach}
-use Rattle.node_view.proofs.FormLaws.{found_joins, found_of}
+use Rattle.node_view.specs.Forms.{IsFoundInEither}
+use Rattle.node_view.specs.Regions.{forms_of, other_kind}
+use Rattle.node_view.proofs.EntryLaws.{names_by_either}
+use Rattle.node_view.proofs.FormLaws.{either_joins}
 use Rattle.node_view.proofs.KeptLaws.{kept_region}
 use Rattle.node_view.proofs.Standings.{among_there}
 use Rattle.node_view.proofs.region.Region.change_at.Goals as goal
@@ -19,15 +19,17 @@ returns g c =
     let f = c.in-Some-found.form in
     let slices_at = slices_by c.args.own.name.now c.args.own.slices.now c.args.table.now k in
     let more : r.numbers < c.in-Some.numbers = omega (arith, c.in-Some.ensures) in
-    let found : IsFoundWithin us slices_at (forms_of k r) r.numbers e.slices f = search rules in
+    let j = other_kind k in
+    let other_at = slices_by c.args.own.name.now c.args.own.slices.now c.args.table.now j in
+    let found : IsFoundInEither us slices_at (forms_of k r) other_at (forms_of j r) r.numbers e.slices f = search rules in
     record {
-      reach = λ is. c.in_ok-drops_none.ensures.stays c.if-not-drops_none.false us (names_in_reach c.args.own.name.now c.args.own.slices.now c.args.table.now k us (forms_of k r) r.numbers e.slices f found is) is;
+      reach = λ is. c.in_ok-drops_none.ensures.stays c.if-not-drops_none.false us (names_by_either c.args.own.name.now c.args.own.slices.now c.args.table.now k j us (forms_of k r) (forms_of j r) r.numbers e.slices f found is) is;
       within = search rules;
       sender = search rules;
       kind = search rules;
       another = search rules;
       numbers = more;
-      form = found_joins us slices_at (forms_of k r) e.slices f r.numbers c.in-Some.numbers more (found_of us slices_at (forms_of k r) e.slices f r.numbers found);
+      form = either_joins us slices_at (forms_of k r) other_at (forms_of j r) e.slices f r.numbers c.in-Some.numbers more found;
       row = c.row_place.ensures e c.requires.row;
     }
 

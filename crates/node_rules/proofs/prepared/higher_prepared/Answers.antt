@@ -1,6 +1,0 @@
-use Rattle.scp_spec.specs.Candidates.{named_ballots}
-use Rattle.node_rules.proofs.prepared.higher_prepared.Goals as goal
-
-pub returns : goal.returns
-unfolding named_ballots
-returns g c = simp c.in_ok-own.ensures at c.greatest_above.ensures
