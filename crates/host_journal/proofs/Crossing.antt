@@ -15,6 +15,8 @@ use Rattle.host_journal.specs.contracts.event_room.EventRoom as EventRoom
 use Rattle.host_journal.specs.contracts.kept.KeptEvent as KeptEvent
 use Rattle.host_journal.specs.contracts.kept.StoredEntry as StoredEntry
 use Rattle.host_journal.specs.contracts.outs_list.EntryOuts as EntryOuts
+use Rattle.host_journal.specs.declared.keeping.Keeping.{Ghosts as Keeps}
+use Rattle.host_journal.specs.contracts.kept_entries.Kept as Kept
 use Rattle.host_journal.specs.contracts.journal.Journal as Journal
 
 out_sync : IsSync (FiledOut.the_row)
@@ -53,9 +55,15 @@ room_sync = search (sendable, crosses, event_sync) depth 40
 room_send : IsSend (EventRoom.the_field.row)
 room_send = search (sendable, crosses, event_send) depth 40
 
-module _ (S P : RattleType) (g : Ghosts S.Denot P.Denot) where
-  pub journal_sync : IsSync S → IsSync P → IsSync (Journal.the_row S P g)
-  journal_sync s p = let a = network_sync S P g s p in search (sendable, crosses, kept_sync, entry_outs_sync, room_sync) depth 40
+pub kept_entries_sync : IsSync (Kept.the_row)
+kept_entries_sync = search (sendable, crosses, kept_sync, entry_outs_sync, room_sync) depth 40
 
-  pub journal_send : IsSend S → IsSend P → IsSend (Journal.the_row S P g)
-  journal_send s p = let a = network_send S P g s p in search (sendable, crosses, kept_send, entry_outs_send, room_send) depth 40
+pub kept_entries_send : IsSend (Kept.the_row)
+kept_entries_send = search (sendable, crosses, kept_send, entry_outs_send, room_send) depth 40
+
+module _ (S K P : RattleType) (g : Ghosts S.Denot P.Denot) (k : Keeps K.Denot) where
+  pub journal_sync : IsSync S → IsSync K → IsSync P → IsSync (Journal.the_row S K P g k)
+  journal_sync s h p = let a = network_sync S P g s p in search (sendable, crosses) depth 40
+
+  pub journal_send : IsSend S → IsSend K → IsSend P → IsSend (Journal.the_row S K P g k)
+  journal_send s h p = let a = network_send S P g s p in search (sendable, crosses) depth 40

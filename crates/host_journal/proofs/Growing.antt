@@ -22,13 +22,14 @@ use Rattle.node_core.specs.Filings.{AreFiledOuts, IsFiledOut, whole_outs}
 use Rattle.node_core.specs.declared.filed.FiledOut.{FiledOut}
 use Rattle.host_network.specs.Answers.{IsApplied}
 use Rattle.host_network.specs.declared.applied.Outcome.{Outcome}
-use Rattle.host_network.specs.Standing.{IsStep, FiledMachine, StandsFor, machine_of}
+use Rattle.host_network.specs.Standing.{IsStep, FiledMachine, Machine, StandsFor, machine_of}
 use Rattle.host_journal.specs.declared.kept.StoredEntry.{StoredEntry}
 use Rattle.host_journal.specs.declared.outs_list.EntryOuts.{EntryOuts}
 use Rattle.host_journal.specs.Giving.{kept_outs, listed_at, with_outs}
 use Rattle.host_journal.specs.declared.kept.KeptEvent.{KeptEvent}
 use Rattle.host_journal.specs.declared.kept.KeptEvent.TheVariants as events
 use Rattle.host_journal.specs.Hosting.{NamesNodes}
+use Rattle.host_journal.specs.KeptStay.{IsKeptIn}
 use Rattle.host_journal.specs.Keeping.{AreKept, AreOutsListed, IsKeptEvent, IsReadable, entry_of, step_in}
 use Rattle.host_journal.proofs.Listing.{AreEarlier, put-behind}
 use Rattle.host_journal.specs.Logs.{IsEntered, IsJournal, Log, marks_of, with_entry}
@@ -129,28 +130,6 @@ journal-grows old new es e os h step same = record {
 abbrev pub OutsLists : Type 0
 OutsLists = List EntryOuts
 
-event-stays : (nodes : List HostedNode) (old new : Archived) (x : KeptEvent) → Keeps old new → IsKeptEvent nodes old x → IsKeptEvent nodes new x
-event-stays nodes old new (events.OpenSlot i) kept h = tt
-event-stays nodes old new (events.CloseSlot i) kept h = tt
-event-stays nodes old new (events.Deliver u size f) kept h = (h.0, kept f h.1, h.2)
-event-stays nodes old new (events.Hear u from kind i k) kept h = h
-event-stays nodes old new (events.NominationTimer u r i) kept h = h
-event-stays nodes old new (events.BallotTimer u n i) kept h = h
-event-stays nodes old new (events.Large b) kept h = h
-
-out-stays : (old new : Archived) (x : FiledOut) → Keeps old new → IsFiledOut old x → IsFiledOut new x
-out-stays old new (FiledOut.ArmNomination r) kept h = tt
-out-stays old new (FiledOut.ArmBallot n) kept h = tt
-out-stays old new (FiledOut.Emit f) kept h = (kept f h.0, h.1)
-out-stays old new (FiledOut.Externalized x) kept h = tt
-
-abbrev pub IsKeptIn : List HostedNode → Archived → StoredEntry → Type 0
-IsKeptIn nodes archive x = IsKeptEvent nodes archive x.event × AreFiledOuts archive (kept_outs x.outs)
-
-kept-still : (nodes : List HostedNode) (old new : Archived) (xs : List StoredEntry) → Keeps old new → All (IsKeptIn nodes old) xs → All (IsKeptIn nodes new) xs
-kept-still nodes old new xs kept all =
-    λ k d l. (event-stays nodes old new (get_or xs k d).event kept (all k d l).0, λ j c m. out-stays old new (get_or (kept_outs (get_or xs k d).outs) j c) kept ((all k d l).1 j c m))
-
 below_or_last : (k n : ℕ) → k < suc n → (k < n) ⊎ (k ≡ n)
 below_or_last k n l = elim (cases_Bool (nat_lt k n)) [
   | inl less ↦ inl (grind (arith, nat_tests, less))
@@ -173,62 +152,64 @@ listed-more before xs x outs h gave =
           (below_or_last k (length xs) within);
     }
 
-pub kept-more : (nodes : List HostedNode) (old new : Archived) (before : OutsLists) (xs : List StoredEntry) (x : StoredEntry) (outs : Vec FiledOut Global) → Keeps old new → AreKept nodes old before xs
-    → IsKeptEvent nodes new x.event → kept_outs x.outs ≡ outs.items → AreFiledOuts new (kept_outs x.outs) → AreKept nodes new (with_outs (length xs) outs before) (xs ++ x ∷ [])
-kept-more nodes old new before xs x outs kept all event gave filed = (
-  All-append (IsKeptIn nodes new) xs (x ∷ []) (kept-still nodes old new xs kept all.0) (All-cons (IsKeptIn nodes new) x [] (event, filed) (All-nil (IsKeptIn nodes new))),
+pub kept-more : (nodes : List HostedNode) (archive : Archived) (before : OutsLists) (xs : List StoredEntry) (x : StoredEntry) (outs : Vec FiledOut Global) → AreKept nodes archive before xs
+    → IsKeptEvent nodes archive x.event → kept_outs x.outs ≡ outs.items → AreFiledOuts archive (kept_outs x.outs) → AreKept nodes archive (with_outs (length xs) outs before) (xs ++ x ∷ [])
+kept-more nodes archive before xs x outs all event gave filed = (
+  All-append (IsKeptIn nodes archive) xs (x ∷ []) all.0 (All-cons (IsKeptIn nodes archive) x [] (event, filed) (All-nil (IsKeptIn nodes archive))),
   listed-more before xs x outs all.1 gave,
 )
-
--- ---- an event that is entered
--- the entries are a run that leads to the machine, and the hosted nodes, the archive and the lists have what they keep
-abbrev pub Stands : FiledMachine → OutsLists → List StoredEntry → Type 0
-Stands m lists xs = IsJournal (machine_of m) (map entry_of xs) × AreKept m.config.nodes m.archive lists xs
-
-abbrev pub log_of : FiledMachine → List StoredEntry → Log
-log_of m xs = record { config = m.config; entries = map entry_of xs }
-
-next-of : (old new : FiledMachine) (lists : OutsLists) (xs : List StoredEntry) (e : Step) (a : Outcome) → Stands old lists xs → IsApplied old e new a → IsNext old.config (map entry_of xs) (record { event = e; outs = a.given.outs.items })
-next-of old new lists xs e a h d = applied-next old new (map entry_of xs) e a.given.outs.items h.0 d.step
-
-pub is-readable : (old new : FiledMachine) (lists : OutsLists) (xs : List StoredEntry) (e : Step) (a : Outcome) → Stands old lists xs → IsApplied old e new a → IsReadable e
-is-readable old new lists xs e a h d = readable (state_of old.config (map entry_of xs)) e (next-of old new lists xs e a h d).0
-
-pub names-nodes : (old new : FiledMachine) (config : Config) (lists : OutsLists) (xs : List StoredEntry) (e : Step) (a : Outcome) → Stands old lists xs → IsApplied old e new a → config ≡ new.config → new.config ≡ old.config → NamesNodes config.nodes e
-names-nodes old new config lists xs e a h d is same =
-    let net = state_of old.config (map entry_of xs) in
-    subst (λ (k : Config). NamesNodes k.nodes e) (sym (is ∙ same)) (subst (λ (n : Net). NamesNodes n.nodes e) h.0.state.is (all-hosted net e (next-of old new lists xs e a h d).0))
-
-pub entered : (l : Log) (old new : FiledMachine) (lists : OutsLists) (xs : List StoredEntry) (e : Step) (a : Outcome) → log_of old xs ≡ l → Stands old lists xs → IsApplied old e new a → IsEntered l e a.given.outs.items
-entered l old new lists xs e a is h d = subst (λ (k : Log). IsEntered k e a.given.outs.items) is (next-of old new lists xs e a h d)
-
-pub marks-named : (l : Log) (old new : FiledMachine) (lists : OutsLists) (xs : List StoredEntry) (e : Step) (a : Outcome) → log_of old xs ≡ l → Stands old lists xs → IsApplied old e new a → a.given.marks.items ≡ marks_of l.config l.entries e
-marks-named l old new lists xs e a is h d = subst (λ (k : Log). a.given.marks.items ≡ marks_of k.config k.entries e) is (d.marks (state_of old.config (map entry_of xs)) h.0.state)
 
 -- what an entry more is made of: the event, and what was given out
 pub record IsEntryFor (e : Step) (outs : List FiledOut) (x : StoredEntry) : Type 0 where
   pub step : step_in x.event ≡ e
   pub gave : kept_outs x.outs ≡ outs
 
-more : (xs ys zs : List StoredEntry) (x : StoredEntry) (e : Step) (a : Outcome) → ys ≡ xs → zs ≡ ys ++ x ∷ [] → IsEntryFor e a.filed.items x → whole_outs a.filed.items ≡ a.given.outs.items → map entry_of zs ≡ map entry_of xs ++ record { event = e; outs = a.given.outs.items } ∷ []
-more xs ys zs x e a same is entry whole =
-    ap (map entry_of) (is ∙ ap (λ (l : List StoredEntry). l ++ x ∷ []) same) ∙ map-append entry_of xs (x ∷ [])
+pub more-kept : (xs zs : List StoredEntry) (x : StoredEntry) (e : Step) (outs : List FiledOut) → zs ≡ xs ++ x ∷ [] → IsEntryFor e outs x → map entry_of zs ≡ map entry_of xs ++ record { event = e; outs = whole_outs outs } ∷ []
+more-kept xs zs x e outs is entry =
+    ap (map entry_of) is ∙ map-append entry_of xs (x ∷ [])
     ∙ ap (λ (s : Step). map entry_of xs ++ record { event = s; outs = whole_outs (kept_outs x.outs) } ∷ []) entry.step
-    ∙ ap (λ (os : List Out). map entry_of xs ++ record { event = e; outs = os } ∷ []) (ap whole_outs entry.gave ∙ whole)
+    ∙ ap (λ (os : List FiledOut). map entry_of xs ++ record { event = e; outs = whole_outs os } ∷ []) entry.gave
 
-pub stands-more : (old new : FiledMachine) (hosting : Config) (before middle after : OutsLists) (n : ℕ) (xs ys zs : List StoredEntry) (x : StoredEntry) (e : Step) (a : Outcome) → Stands old before xs → IsApplied old e new a → hosting ≡ new.config → new.config ≡ old.config
-    → Keeps old.archive new.archive → middle ≡ before → n ≡ length ys → after ≡ with_outs n a.filed middle → ys ≡ xs → zs ≡ ys ++ x ∷ [] → IsEntryFor e a.filed.items x → IsKeptEvent hosting.nodes new.archive x.event → Stands new after zs
-stands-more old new hosting before middle after n xs ys zs x e a h d there config kept stays counted put same is entry filed =
-    let earlier : AreKept new.config.nodes old.archive before xs = subst (λ (k : Config). AreKept k.nodes old.archive before xs) (sym config) h.1 in
-    let mine : IsKeptEvent new.config.nodes new.archive x.event = subst (λ (k : Config). IsKeptEvent k.nodes new.archive x.event) there filed in
-    let outs : AreFiledOuts new.archive (kept_outs x.outs) = subst (λ (os : List FiledOut). AreFiledOuts new.archive os) (sym entry.gave) d.filed in
-    let lists : after ≡ with_outs (length xs) a.filed before = put ∙ ap₂ (λ (i : ℕ) (l : OutsLists). with_outs i a.filed l) (counted ∙ ap length same) stays in (
-      subst (λ (es : List Entry). IsJournal (machine_of new) es) (sym (more xs ys zs x e a same is entry d.whole)) (journal-grows old new (map entry_of xs) e a.given.outs.items h.0 d.step config),
-      subst (λ (l : OutsLists × List StoredEntry). AreKept new.config.nodes new.archive l.0 l.1) (λ i. (sym lists i, sym (is ∙ ap (λ (l : List StoredEntry). l ++ x ∷ []) same) i)) (kept-more new.config.nodes old.archive new.archive before xs x a.filed kept earlier mine entry.gave outs),
-    )
+pub kept-with : (nodes : List HostedNode) (archive : Archived) (before after : OutsLists) (n : ℕ) (xs zs : List StoredEntry) (x : StoredEntry) (outs : Vec FiledOut Global) → AreKept nodes archive before xs → n ≡ length xs → after ≡ with_outs n outs before → zs ≡ xs ++ x ∷ []
+    → IsKeptEvent nodes archive x.event → kept_outs x.outs ≡ outs.items → AreFiledOuts archive outs.items → AreKept nodes archive after zs
+kept-with nodes archive before after n xs zs x outs all counted put is event gave filed =
+    let lists : after ≡ with_outs (length xs) outs before = put ∙ ap (λ (i : ℕ). with_outs i outs before) counted in
+    subst (λ (l : OutsLists × List StoredEntry). AreKept nodes archive l.0 l.1) (λ i. (sym lists i, sym is i))
+    (kept-more nodes archive before xs x outs all event gave (subst (λ (os : List FiledOut). AreFiledOuts archive os) (sym gave) filed))
 
-pub log-grows : (l : Log) (old new : FiledMachine) (xs ys zs : List StoredEntry) (x : StoredEntry) (e : Step) (a : Outcome) → log_of old xs ≡ l → IsApplied old e new a → new.config ≡ old.config
-    → ys ≡ xs → zs ≡ ys ++ x ∷ [] → IsEntryFor e a.filed.items x → log_of new zs ≡ with_entry l e a.given.outs.items
-log-grows l old new xs ys zs x e a of d config same is entry =
-    subst (λ (k : Log). log_of new zs ≡ with_entry k e a.given.outs.items) of
-    (λ i. record { config = config i; entries = more xs ys zs x e a same is entry d.whole i })
+-- ---- an event that is entered
+abbrev pub log_of : FiledMachine → List Entry → Log
+log_of m es = record { config = m.config; entries = es }
+
+next-of : (old new : FiledMachine) (es : List Entry) (e : Step) (a : Outcome) → IsJournal (machine_of old) es → IsApplied old e new a → IsNext old.config es (record { event = e; outs = a.given.outs.items })
+next-of old new es e a h d = applied-next old new es e a.given.outs.items h d.step
+
+pub is-readable : (old new : FiledMachine) (es : List Entry) (e : Step) (a : Outcome) → IsJournal (machine_of old) es → IsApplied old e new a → IsReadable e
+is-readable old new es e a h d = readable (state_of old.config es) e (next-of old new es e a h d).0
+
+pub names-nodes : (old new : FiledMachine) (config : Config) (es : List Entry) (e : Step) (a : Outcome) → IsJournal (machine_of old) es → IsApplied old e new a → config ≡ new.config → new.config ≡ old.config → NamesNodes config.nodes e
+names-nodes old new config es e a h d is same =
+    let net = state_of old.config es in
+    subst (λ (k : Config). NamesNodes k.nodes e) (sym (is ∙ same)) (subst (λ (n : Net). NamesNodes n.nodes e) h.state.is (all-hosted net e (next-of old new es e a h d).0))
+
+pub entered : (l : Log) (old new : FiledMachine) (es : List Entry) (e : Step) (a : Outcome) → log_of old es ≡ l → IsJournal (machine_of old) es → IsApplied old e new a → IsEntered l e a.given.outs.items
+entered l old new es e a is h d = subst (λ (k : Log). IsEntered k e a.given.outs.items) is (next-of old new es e a h d)
+
+pub marks-named : (l : Log) (old new : FiledMachine) (es : List Entry) (e : Step) (a : Outcome) → log_of old es ≡ l → IsJournal (machine_of old) es → IsApplied old e new a → a.given.marks.items ≡ marks_of l.config l.entries e
+marks-named l old new es e a is h d = subst (λ (k : Log). a.given.marks.items ≡ marks_of k.config k.entries e) is (d.marks (state_of old.config es) h.state)
+
+-- the entries grow by an event that was applied, with what it gave out
+more : (es room after : List Entry) (e : Step) (a : Outcome) → room ≡ es → after ≡ room ++ record { event = e; outs = whole_outs a.filed.items } ∷ [] → whole_outs a.filed.items ≡ a.given.outs.items → after ≡ es ++ record { event = e; outs = a.given.outs.items } ∷ []
+more es room after e a same is whole =
+    is ∙ ap₂ (λ (l : List Entry) (os : List Out). l ++ record { event = e; outs = os } ∷ []) same whole
+
+pub journal-more : (old new tidy : FiledMachine) (es room after : List Entry) (e : Step) (a : Outcome) → IsJournal (machine_of old) es → IsApplied old e new a → new.config ≡ old.config → machine_of tidy ≡ machine_of new
+    → room ≡ es → after ≡ room ++ record { event = e; outs = whole_outs a.filed.items } ∷ [] → IsJournal (machine_of tidy) after
+journal-more old new tidy es room after e a h d config stays same is =
+    subst (λ (j : Machine × List Entry). IsJournal j.0 j.1) (λ i. (sym stays i, sym (more es room after e a same is d.whole) i)) (journal-grows old new es e a.given.outs.items h d.step config)
+
+pub log-grows : (l : Log) (old new tidy : FiledMachine) (es room after : List Entry) (e : Step) (a : Outcome) → log_of old es ≡ l → IsApplied old e new a → new.config ≡ old.config → tidy.config ≡ new.config
+    → room ≡ es → after ≡ room ++ record { event = e; outs = whole_outs a.filed.items } ∷ [] → log_of tidy after ≡ with_entry l e a.given.outs.items
+log-grows l old new tidy es room after e a of d config stays same is =
+    subst (λ (k : Log). log_of tidy after ≡ with_entry k e a.given.outs.items) of
+    (λ i. record { config = (stays ∙ config) i; entries = more es room after e a same is d.whole i })

@@ -6,3 +6,5 @@ pub mod Keeping
 pub mod Externalized
 pub mod Lending
 pub mod Deciding
+pub mod Past
+pub mod KeptStay

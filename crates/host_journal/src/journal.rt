@@ -10,12 +10,12 @@ ghost use Rattle.host_journal.specs.Externalized.{externalized_at};
 ghost use Rattle.host_journal.specs.Lending.{lent_step, outs_of_entry};
 ghost use Rattle.host_journal.specs.Deciding.{decided_by, decisions_at};
 
-use crate::event_room::EventRoom;
 use crate::externalized::externalized_by;
-use crate::kept::{StoredEntry, entry_at, kept_event, near_last, push_whole_outs, whole_event};
+use crate::keeping::Keeping;
+use crate::kept::{entry_at, push_whole_outs, whole_event};
+use crate::kept_entries::Kept;
 use crate::lent_decision::{LentDecision, lent_decision};
 use crate::lent_event::{LentEvent, lent_event};
-use crate::outs_list::{EntryOuts, KeptOuts};
 use host_config::NetConfig;
 use host_network::{Given, Network, Outcome};
 use node_store::Shelf;
@@ -23,7 +23,8 @@ use scp_types::{Event, Nested, NodeId, Out, Refusal, Value};
 use std::alloc::{AllocError, Global};
 use std::marker::Model;
 
-/// A network with the events that were applied to it and what they gave out, numbered from 0.
+/// A network with the events that were applied to it and what they gave out, numbered from 0. They are kept to be read
+/// again ([`Kept`]), or only in contracts ([`Unkept`](crate::Unkept)).
 ///
 /// Contracts see it as its configuration and its entries, with whole envelopes. By its type these are a run of that
 /// configuration: each entry is an event that was not refused after the entries before it, with what that event gives
@@ -32,20 +33,15 @@ use std::marker::Model;
 /// For example, the first entry may open slot 1, and the second be a proposal there; no journal begins with the
 /// proposal, which would be refused. If only the second entry gave anything out, one list is kept, that of entry 1.
 #[derive(Drop)]
-pub struct Journal<S: Shelf> {
+pub struct Journal<S: Shelf, K: Keeping = Kept> {
     alloc: Global,
     network: Network<S>,
-    entries: Vec<StoredEntry>,
-    /// What was given out, a list for each entry that gave anything out, ascending by entry.
-    given: Vec<EntryOuts>,
-    room: EventRoom,
+    kept: K,
 }
 
-impl<S: Shelf> Model for Journal<S> {
+impl<S: Shelf, K: Keeping> Model for Journal<S, K> {
     ghost use Rattle.std.specs.Coded.{codes};
-    ghost use Rattle.std.specs.Prelude.{map};
     ghost use Rattle.scp_types.specs.Trees.{members_code};
-    ghost use Rattle.host_journal.specs.Keeping.{AreKept, entry_of};
     ghost use Rattle.host_journal.specs.Logs.{IsJournal, Log};
     ghost use Rattle.host_network.specs.Standing.{machine_of};
 
@@ -53,22 +49,20 @@ impl<S: Shelf> Model for Journal<S> {
 
     ghost coded = { Prim.hlevel (codes, members_code) };
 
-    ghost view = { λ j. record { config = j.network.config; entries = map entry_of j.entries.items } };
+    ghost view = { λ j. record { config = j.network.config; entries = K.entries j.kept } };
 
-    ghost invariant = { λ j. IsJournal (machine_of j.network) (map entry_of j.entries.items) × AreKept j.network.config.nodes j.network.archive j.given.items j.entries.items };
+    ghost invariant = { λ j. IsJournal (machine_of j.network) (K.entries j.kept) × K.is_kept j.network.config.nodes j.network.archive j.kept };
 }
 
-impl<S: Shelf> Journal<S> {
+impl<S: Shelf, K: Keeping> Journal<S, K> {
     /// The journal of a network in which nothing has happened, whatever lies on the shelf. It takes no memory.
-    pub fn new(alloc: Global, config: NetConfig, shelf: S) -> Journal<S>
+    pub fn new(alloc: Global, config: NetConfig, shelf: S) -> Journal<S, K>
         ensures { result ≡ record { config = config; entries = [] } }
     {
         Journal {
             alloc,
             network: Network::new(alloc, config, shelf),
-            entries: Vec::new(alloc),
-            given: Vec::new(alloc),
-            room: EventRoom::nothing(),
+            kept: K::nothing(alloc),
         }
     }
 
@@ -79,25 +73,11 @@ impl<S: Shelf> Journal<S> {
         self.network.config()
     }
 
-    /// How many entries there are.
-    pub fn len(&self) -> usize
-        ensures { result ≡ length self.now.entries }
-    {
-        self.entries.len()
-    }
-
-    /// Whether there is none.
-    pub fn is_empty(&self) -> bool
-        ensures { result ≡ (length self.now.entries == 0) }
-    {
-        self.entries.is_empty()
-    }
-
     /// A law: the entries are a run of the configuration.
     pub fn replays(&self)
         ensures { IsRun self.now.config self.now.entries }
     {
-        let _entries = &self.entries;
+        let _kept = &self.kept;
     }
 
     /// The slices of a hosted node at an open slot, as they are after all entries; `None` if the slot is not open then
@@ -148,10 +128,7 @@ impl<S: Shelf> Journal<S> {
         ensures err { IfErr result (IsRefused self.old (step_of event)) }
         ensures same { OnErr result (self.new ≡ self.old) }
     {
-        if self.entries.reserve(1).is_err()
-            || self.given.reserve(1).is_err()
-            || self.room.make(self.alloc, &event).is_err()
-        {
+        if self.kept.make_room(self.alloc, &event).is_err() {
             // Memory: the entry has no room; a refusal that applies comes first.
             let refusal = self.refusal(&event);
             drop(event);
@@ -168,19 +145,29 @@ impl<S: Shelf> Journal<S> {
                     given,
                     delivered,
                 } = outcome;
-                let near = near_last(&self.entries);
-                let event = kept_event(
-                    self.network.config(),
-                    near,
-                    &mut self.room,
-                    event,
-                    delivered,
-                );
-                let outs = KeptOuts::put(&mut self.given, self.entries.len(), filed);
-                self.entries.push_reserved(StoredEntry { event, outs });
+                self.kept
+                    .enter(self.network.config(), event, filed, delivered);
+                self.kept.tidy(&mut self.network);
                 Ok(given)
             }
         }
+    }
+}
+
+/// What is read of entries that are kept.
+impl<S: Shelf> Journal<S> {
+    /// How many entries there are.
+    pub fn len(&self) -> usize
+        ensures { result ≡ length self.now.entries }
+    {
+        self.kept.entries.len()
+    }
+
+    /// Whether there is none.
+    pub fn is_empty(&self) -> bool
+        ensures { result ≡ (length self.now.entries == 0) }
+    {
+        self.kept.entries.is_empty()
     }
 
     /// The entry of this number, made from the places of its envelopes: the event, with its bytes if it is a delivery,
@@ -192,7 +179,7 @@ impl<S: Shelf> Journal<S> {
     ) -> Result<Option<(Event, Vec<Out>)>, AllocError>
         ensures { IfOk result (IsEntryAt (slice_get self.now.entries number)) }
     {
-        match entry_at(&self.network, &self.given, &self.entries, number) {
+        match entry_at(&self.network, &self.kept.given, &self.kept.entries, number) {
             None => Ok(None),
             Some(kept) => {
                 let mut outs = Vec::with_capacity(alloc, kept.outs.len())?;
@@ -207,7 +194,7 @@ impl<S: Shelf> Journal<S> {
     pub fn event(&self, number: usize) -> Option<LentEvent<'_>>
         ensures { option_map lent_step result ≡ option_map (λ x. x.event) (slice_get self.now.entries number) }
     {
-        match self.entries.get(number) {
+        match self.kept.entries.get(number) {
             None => None,
             Some(kept) => Some(lent_event(&self.network, &kept.event)),
         }
@@ -218,7 +205,7 @@ impl<S: Shelf> Journal<S> {
     pub fn decision(&self, number: usize) -> Option<LentDecision<'_>>
         ensures { option_to_list (option_map decided_by result) ≡ decisions_at self.now.entries number }
     {
-        match entry_at(&self.network, &self.given, &self.entries, number) {
+        match entry_at(&self.network, &self.kept.given, &self.kept.entries, number) {
             None => None,
             Some(kept) => lent_decision(&self.network, kept.event, kept.outs),
         }
@@ -236,7 +223,7 @@ impl<S: Shelf> Journal<S> {
         ensures ok { OnOk result (outs.new.items ≡ outs.old.items ++ outs_of_entry self.now.entries number) }
         ensures err { OnErr result (take (length outs.old.items) outs.new.items ≡ outs.old.items) }
     {
-        match entry_at(&self.network, &self.given, &self.entries, number) {
+        match entry_at(&self.network, &self.kept.given, &self.kept.entries, number) {
             None => Ok(()),
             Some(kept) => push_whole_outs(alloc, &self.network, kept.outs, outs),
         }

@@ -3,8 +3,11 @@
 //! speaks of them.
 
 use crate::kept::{KeptEvent, StoredEntry};
+use crate::unkept::PastEntry;
 use std::mem::size_of;
 
 const _: () = prove!(size_of::<KeptEvent>() <= 16);
 
 const _: () = prove!(size_of::<StoredEntry>() <= 16);
+
+const _: () = prove!(size_of::<PastEntry>() == 0);

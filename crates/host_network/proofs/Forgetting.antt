@@ -1,75 +1,71 @@
--- What was filed for closed slots is let go: what lies at open ones stays.
-use Rattle.std.proofs.Common.{◌≡◌, ℕ, zero, suc, ◌<◌, Bool, true, false, ◌==◌, List, [], ◌∷◌, length, map, get_or, Option, Some, None, option_map, is_some, if◌then◌else◌, refl, ◌∙◌, ap, subst, arith}
-use Rattle.std.specs.List.{All, AllByRecursion}
-use Rattle.std.proofs.lemmas.List.Elements.{All-cons, All-head, All-nil, All-tail}
-use Rattle.scp_types.specs.Statements.{Sent}
+-- What nobody holds is let go: what nodes at open slots hold stays.
+use Rattle.std.proofs.Common.{◌≡◌, ℕ, ◌<◌, ◌≤◌, Bool, true, List, [], arith, length, take, ◌+◌, get_or, set, subst}
+use Rattle.std.specs.List.{All}
+use Rattle.std.proofs.lemmas.List.{take_all}
+use Rattle.std.proofs.lemmas.List.Elements.{All-more}
 use Rattle.node_store.specs.declared.filed.Filed.{Filed}
-use Rattle.node_store.specs.Archives.{AreFiled, Archived, only_of, sent_of, sents_of}
-use Rattle.node_store.proofs.Growing.{stays-filed}
-use Rattle.host_config.specs.Configs.{index_in}
-use Rattle.scp_spec.proofs.Equality.Sameness.{eqb-refl}
-use Rattle.host_network.specs.FiledSlots.{AreSlotsFiled, CountedInstance, CountedSlot, FiledInstance, FiledSlot, IsInstanceFiled, counted_instance, counted_slot, instance_of_filed}
-use Rattle.host_network.specs.SlotPlaces.{slot_numbers}
-use Rattle.host_network.specs.Standing.{IsOfSlot, IsStanding, FiledMachine}
+use Rattle.node_store.specs.Archives.{AreHeld, Archived, HoldsAll, IsHeld, only_held}
+use Rattle.node_store.proofs.Growing.{held-by, held-still, stay-filed}
+use Rattle.host_network.specs.FiledSlots.{AreSlotsFiled, AreSlotsHeld, FiledInstance, FiledSlot, IsInstanceFiled, IsInstanceHeld}
+use Rattle.host_network.specs.Standing.{IsStanding, FiledMachine}
 
--- ---- the open slots
-abbrev Within : List ℕ → List FiledSlot → Type 0
-Within ns ss = AllByRecursion (λ (s : FiledSlot). is_some (index_in ns s.number) ≡ true) ss
+-- ---- what is held
+abbrev pub HasInstancesHeld : List Bool → FiledSlot → Type 0
+HasInstancesHeld marks s = All (IsInstanceHeld marks) s.instances
 
-one-more : (m : ℕ) (ns : List ℕ) (n : ℕ) → is_some (index_in ns n) ≡ true → is_some (index_in (m ∷ ns) n) ≡ true
-one-more m ns n h = go (m == n) (index_in ns n) h
-  where
-    go : (b : Bool) (o : Option ℕ) → is_some o ≡ true → is_some (if b then Some 0 else option_map suc o) ≡ true
-    go true o q = refl
-    go false None q = absurd (cc)
-    go false (Some k) q = refl
+pub all-still : (old new : List Bool) (fs : List Filed) → HoldsAll old new → AreHeld old fs → AreHeld new fs
+all-still old new fs kept held = λ k d l. kept (get_or fs k d) (held k d l)
 
-all-more : (m : ℕ) (ns : List ℕ) (ss : List FiledSlot) → Within ns ss → Within (m ∷ ns) ss
-all-more m ns [] h = tt
-all-more m ns (s ∷ ss) h = (one-more m ns s.number h.0, all-more m ns ss h.1)
+pub instance-still : (old new : List Bool) (l : FiledInstance) → HoldsAll old new → IsInstanceHeld old l → IsInstanceHeld new l
+instance-still old new l kept held = record { rows = all-still old new l.held.rows kept held.rows; emitted = all-still old new l.emitted kept held.emitted }
 
-all-within : (ss : List FiledSlot) → Within (slot_numbers ss) ss
-all-within [] = tt
-all-within (s ∷ ss) = (ap (λ b. is_some (if b then Some 0 else option_map suc (index_in (slot_numbers ss) s.number))) (eqb-refl s.number), all-more s.number (slot_numbers ss) ss (all-within ss))
+pub instances-still : (old new : List Bool) (ls : List FiledInstance) → HoldsAll old new → All (IsInstanceHeld old) ls → All (IsInstanceHeld new) ls
+instances-still old new ls kept held = λ k d l. instance-still old new (get_or ls k d) kept (held k d l)
 
--- ---- what lies there
-of-slot : (i : ℕ) (fs : List Filed) → AllByRecursion (λ (e : Sent). e.slot ≡ i) (sents_of fs) → (k : ℕ) (d : Filed) → k < length fs → (sent_of (get_or fs k d)).slot ≡ i
-of-slot i [] h k d l = absurd (omega (arith, l))
-of-slot i (f ∷ fs) h zero d l = h.0
-of-slot i (f ∷ fs) h (suc k) d l = of-slot i fs h.1 k d (omega (arith, l))
+pub slots-still : (old new : List Bool) (ss : List FiledSlot) → HoldsAll old new → AreSlotsHeld old ss → AreSlotsHeld new ss
+slots-still old new ss kept held = λ k d l. instances-still old new (get_or ss k d).instances kept (held k d l)
 
-module _ (is_among : ℕ → Bool) (old : Archived) where
-  abbrev new : Archived
-  new = map (only_of is_among) old
+-- one more of a list
+pub one-more-held : (old new : List Bool) (fs : List Filed) (i : ℕ) (f : Filed) → i < length fs → f ≡ get_or fs i f → new ≡ set old f.number true → AreHeld old (take i fs) → AreHeld new (take (i + 1) fs)
+one-more-held old new fs i f l is put held =
+    All-more (IsHeld new) fs i f l (all-still old new (take i fs) (held-still old new f put) held) (subst (IsHeld new) is (held-by old new f put))
 
-  filed-still : (i : ℕ) (fs : List Filed) → is_among i ≡ true → AllByRecursion (λ (e : Sent). e.slot ≡ i) (sents_of fs) → AreFiled old fs → AreFiled new fs
-  filed-still i fs among own filed = λ k d l. stays-filed is_among old (get_or fs k d) (ap is_among (of-slot i fs own k d l) ∙ among) (filed k d l)
+pub one-more-instance : (old new : List Bool) (ls : List FiledInstance) (i : ℕ) (l : FiledInstance) → i < length ls → l ≡ get_or ls i l → HoldsAll old new → IsInstanceHeld new l
+    → All (IsInstanceHeld old) (take i ls) → All (IsInstanceHeld new) (take (i + 1) ls)
+one-more-instance old new ls i l within is kept one held =
+    All-more (IsInstanceHeld new) ls i l within (instances-still old new (take i ls) kept held) (subst (IsInstanceHeld new) is one)
 
-  archived-one : (i : ℕ) (l : FiledInstance) → is_among i ≡ true → IsOfSlot i (instance_of_filed l) → IsInstanceFiled old l → IsInstanceFiled new l
-  archived-one i l among own h = record {
-    table = h.table;
-    rows = filed-still i l.held.rows among (subst (λ (es : List Sent). AllByRecursion (λ (e : Sent). e.slot ≡ i) es) h.table own.rows) h.rows;
-    emitted = filed-still i l.emitted among own.emitted h.emitted;
-  }
+pub one-more-slot : (old new : List Bool) (ss : List FiledSlot) (i : ℕ) (s : FiledSlot) → i < length ss → s ≡ get_or ss i s → HoldsAll old new → All (IsInstanceHeld new) s.instances
+    → AreSlotsHeld old (take i ss) → AreSlotsHeld new (take (i + 1) ss)
+one-more-slot old new ss i s within is kept one held =
+    All-more (HasInstancesHeld new) ss i s within (slots-still old new (take i ss) kept held) (subst (HasInstancesHeld new) is one)
 
-  archived-there : (i : ℕ) (ls : List FiledInstance) → is_among i ≡ true → AllByRecursion (λ (x : CountedInstance). IsOfSlot i x.instance) (map counted_instance ls) → All (IsInstanceFiled old) ls → All (IsInstanceFiled new) ls
-  archived-there i [] among own h = All-nil (IsInstanceFiled new)
-  archived-there i (l ∷ ls) among own h = All-cons (IsInstanceFiled new) l ls (archived-one i l among own.0 (All-head (IsInstanceFiled old) l ls h)) (archived-there i ls among own.1 (All-tail (IsInstanceFiled old) l ls h))
+-- all of a list
+pub all-of : {X : Type 0} (P : X → Type 0) (xs : List X) (i : ℕ) → length xs ≤ i → All P (take i xs) → All P xs
+all-of P xs i l all = subst (λ (ys : List _). All P ys) (take_all i xs l) all
 
-  abbrev HasInstancesArchived : Archived → FiledSlot → Type 0
-  HasInstancesArchived a s = All (IsInstanceFiled a) s.instances
+-- ---- what is left
+instance-stays : (marks : List Bool) (archive : Archived) (l : FiledInstance) → IsInstanceHeld marks l → IsInstanceFiled archive l → IsInstanceFiled (only_held marks archive) l
+instance-stays marks archive l held h = record {
+  table = h.table;
+  rows = stay-filed marks archive l.held.rows held.rows h.rows;
+  emitted = stay-filed marks archive l.emitted held.emitted h.emitted;
+}
 
-  archived-open : (ss : List FiledSlot) → AllByRecursion (λ (s : FiledSlot). is_among s.number ≡ true) ss → AllByRecursion (λ (s : CountedSlot). AllByRecursion (λ (x : CountedInstance). IsOfSlot s.number x.instance) s.instances) (map counted_slot ss) → AreSlotsFiled old ss → AreSlotsFiled new ss
-  archived-open [] among own h = All-nil (HasInstancesArchived new)
-  archived-open (s ∷ ss) among own h = All-cons (HasInstancesArchived new) s ss (archived-there s.number s.instances among.0 own.0 (All-head (HasInstancesArchived old) s ss h)) (archived-open ss among.1 own.1 (All-tail (HasInstancesArchived old) s ss h))
+slots-stay : (marks : List Bool) (archive : Archived) (ss : List FiledSlot) → AreSlotsHeld marks ss → AreSlotsFiled archive ss → AreSlotsFiled (only_held marks archive) ss
+slots-stay marks archive ss held h = λ k d l i e m. instance-stays marks archive (get_or (get_or ss k d).instances i e) (held k d l i e m) (h k d l i e m)
 
--- ---- the network
-abbrev pub open_of : FiledMachine → ℕ → Bool
-open_of m i = is_some (index_in (slot_numbers m.slots) i)
+pub standing-still : (m : FiledMachine) (marks : List Bool) → AreSlotsHeld marks m.slots → IsStanding m → IsStanding (record m { archive = only_held marks m.archive })
+standing-still m marks held h = record {
+  archived = slots-stay marks m.archive m.slots held h.archived;
+  tidy = h.tidy;
+  stood = h.stood;
+}
 
-pub standing-still : (m : FiledMachine) → IsStanding m → IsStanding (record m { archive = map (only_of (open_of m)) m.archive })
-standing-still m h = record {
-  archived = archived-open (open_of m) m.archive m.slots (all-within m.slots) h.tidy.own h.archived;
+-- with no slot nothing is held
+pub standing-empty : (m : FiledMachine) → length m.slots ≡ 0 → IsStanding m → IsStanding (record m { archive = [] })
+standing-empty m none h = record {
+  archived = λ k d l. absurd (omega (arith, l, none));
   tidy = h.tidy;
   stood = h.stood;
 }

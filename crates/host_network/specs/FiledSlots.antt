@@ -1,11 +1,11 @@
 -- Hosted nodes whose envelopes lie in an archive, with what they drew on shares, and what they stand for.
-use Rattle.std.specs.Prelude.{◌≡◌, ℕ, ◌≤◌, ◌+◌, ◌==◌, List, [], ◌∷◌, map, Vec, vec_len, vec_capacity, if◌then◌else◌}
+use Rattle.std.specs.Prelude.{◌≡◌, ℕ, ◌≤◌, ◌+◌, ◌==◌, Bool, List, [], ◌∷◌, map, Vec, vec_len, vec_capacity, if◌then◌else◌}
 use Rattle.std.specs.Global.{Global}
 use Rattle.std.specs.List.{All}
 use Rattle.scp_spec.specs.Networks.{Instance, Slot}
 use Rattle.scp_spec.specs.Rosters.{Draw, bytes_drawn, events_drawn}
 use Rattle.scp_spec.specs.Rosters.Share.{Own, Pair}
-use Rattle.node_store.specs.Archives.{Archived, AreFiled, sents_of}
+use Rattle.node_store.specs.Archives.{Archived, AreFiled, AreHeld, sents_of}
 use Rattle.node_store.specs.declared.filed.Filed.{Filed}
 use Rattle.node_core.specs.Listening.{FiledNode}
 use Rattle.host_network.specs.declared.tallies.Tally.{Tally}
@@ -45,6 +45,11 @@ pub record IsInstanceFiled (archive : Archived) (l : FiledInstance) : Type 0 whe
   pub rows : AreFiled archive l.held.rows
   pub emitted : AreFiled archive l.emitted
 
+-- the numbers of the rows of a node at a slot, and of what it has emitted, are held
+pub record IsInstanceHeld (marks : List Bool) (l : FiledInstance) : Type 0 where
+  pub rows : AreHeld marks l.held.rows
+  pub emitted : AreHeld marks l.emitted
+
 -- ---- an open slot
 -- an open slot: its number, and its nodes as they were filed
 pub record FiledSlot : Type 0 where
@@ -65,6 +70,10 @@ slot_of s = record { number = s.number; instances = map (λ x. x.instance) s.ins
 -- the archive has the rows and the emissions of all nodes at all open slots
 abbrev pub AreSlotsFiled : Archived → List FiledSlot → Type 0
 AreSlotsFiled archive slots = All (λ s. All (IsInstanceFiled archive) s.instances) slots
+
+-- the numbers of the rows and the emissions of all nodes at all open slots are held
+abbrev pub AreSlotsHeld : List Bool → List FiledSlot → Type 0
+AreSlotsHeld marks slots = All (λ s. All (IsInstanceHeld marks) s.instances) slots
 
 -- ---- what was drawn on shares
 -- how many events that came from a name were drawn

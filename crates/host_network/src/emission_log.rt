@@ -77,6 +77,13 @@ impl EmissionLog {
         }
     }
 
+    /// All of it, in order.
+    pub(crate) fn emitted(&self) -> &[Filed]
+        ensures { result.now ≡ self.now }
+    {
+        &self.emitted
+    }
+
     /// The emission of a kind with this number, which counts from 1.
     pub(crate) fn emission(&self, kind: Kind, number: u64) -> Option<&Filed>
         ensures sent { option_map (λ f. sent_of f.now) result ≡ nth_of kind number (sents_of self.now) }

@@ -1,14 +1,14 @@
 //! A hosted node at a slot.
 
 ghost use Rattle.std.specs.Prelude.{◌≡◌, [], IfOk, IfSome, None, OnErr, OnOk, Some, option_map};
-ghost use Rattle.node_store.specs.Archives.{Archived, IsFiled, Keeps, sent_of};
+ghost use Rattle.node_store.specs.Archives.{AreHeld, Archived, HoldsAll, IsFiled, Keeps, sent_of};
 ghost use Rattle.scp_spec.specs.Networks.{emissions, has_proposal, after_event};
 ghost use Rattle.scp_spec.specs.Nodes.{fresh, step};
 ghost use Rattle.host_network.specs.Answers.{IsOutcome};
 ghost use Rattle.host_network.specs.Marks.{numbers_by_kind};
 ghost use Rattle.node_core.specs.Filings.{IsFiledEvent, event_of};
 ghost use Rattle.host_network.specs.Charges.{HasRoomForCharge, IsActed};
-ghost use Rattle.host_network.specs.FiledSlots.{IsInstanceFiled, bytes_from, events_from, instance_of_filed};
+ghost use Rattle.host_network.specs.FiledSlots.{IsInstanceFiled, IsInstanceHeld, bytes_from, events_from, instance_of_filed};
 ghost use Rattle.host_network.specs.EmissionsByKind.{nth_of};
 
 use crate::applied::Outcome;
@@ -17,7 +17,7 @@ use crate::plan::Charge;
 use crate::tallies::{Tallies, count};
 use node_core::{FiledEvent, Node};
 use node_leaders::Draws;
-use node_store::{Archive, Filed, Shelf};
+use node_store::{Archive, Filed, Held, Shelf};
 use scp_types::{Kind, Nested, NodeId};
 use std::alloc::{AllocError, Global};
 use std::marker::Model;
@@ -89,6 +89,15 @@ impl Instance {
         self.emitted.emission(kind, number)
     }
 
+    /// Holds the rows of the node's table and what it has emitted, beside what is held.
+    pub(crate) fn hold(&self, held: &mut Held)
+        ensures held { IsInstanceHeld held.new self.now }
+        ensures kept { HoldsAll held.old held.new }
+    {
+        hold_all(self.node.table().rows(), held);
+        hold_all(self.emitted.emitted(), held);
+    }
+
     /// How many events of its own it drew since the slot was opened.
     pub(crate) fn own_events(&self) -> u64
         ensures { result ≡ self.now.own }
@@ -145,5 +154,15 @@ impl Instance {
             count(own, heard, charge);
         }
         applied
+    }
+}
+
+/// Holds all of these, beside what is held.
+fn hold_all(all: &[Filed], held: &mut Held)
+    ensures held { AreHeld held.new all.now }
+    ensures kept { HoldsAll held.old held.new }
+{
+    for filed in all {
+        held.hold(filed);
     }
 }

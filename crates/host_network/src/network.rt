@@ -128,16 +128,26 @@ impl<S: Shelf> Network<S> {
         node.rows(&self.archive)
     }
 
-    /// Lets go of what was filed for slots that are closed by now, if that is due ([`Archive::is_due`]). It cannot
-    /// fail.
+    /// Lets go of envelopes that no hosted node at an open slot holds, neither as a row of its table nor as what it has
+    /// emitted, if that is due ([`Archive::is_due`]). If no slot is open, all is let go, with the room that it took. It
+    /// cannot fail: if there is no memory for the marks, nothing is let go, and the next call tries again.
     ///
-    /// Who goes on reading what was given out at a closed slot, as a journal does, does not call this.
-    pub fn forget_closed(&mut self)
+    /// Who goes on reading what was given out, as a journal does, does not call this.
+    pub fn forget_unheld(&mut self)
         ensures state { machine_of self.new ≡ machine_of self.old }
         ensures config { self.new.config ≡ self.old.config }
     {
-        if self.archive.is_due() {
-            self.archive.let_go(&self.slots);
+        if self.slots.len() == 0 {
+            self.archive.let_all_go();
+            return;
+        }
+        let holders = self.slots.len().saturating_mul(self.config.nodes().len());
+        if !self.archive.is_due(holders) {
+            return;
+        }
+        if let Ok(mut held) = self.archive.none_held(self.alloc) {
+            self.slots.hold(&mut held);
+            self.archive.let_go(&held);
         }
     }
 

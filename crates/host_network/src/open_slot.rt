@@ -2,14 +2,14 @@
 
 ghost use Rattle.std.specs.Prelude.{◌≡◌, ◌<◌, IfOk, IfSome, None, OnErr, OnOk, length, map, slice_get};
 ghost use Rattle.std.specs.List.{All};
-ghost use Rattle.node_store.specs.Archives.{Archived, Keeps};
+ghost use Rattle.node_store.specs.Archives.{Archived, HoldsAll, Keeps};
 ghost use Rattle.scp_spec.specs.Networks.{emissions, instances_of_new_slot, outs_at};
 ghost use Rattle.host_network.specs.Answers.{IsOutcome};
 ghost use Rattle.host_network.specs.Marks.{numbers_by_kind, emitted_at};
 ghost use Rattle.node_core.specs.Filings.{IsFiledEvent, event_of};
 ghost use Rattle.host_network.specs.Changes.{IsChangedAt};
 ghost use Rattle.host_network.specs.Charges.{HasRoomForCharge, IsActed};
-ghost use Rattle.host_network.specs.FiledSlots.{IsInstanceFiled, HasDrawnNothing, instance_of_filed};
+ghost use Rattle.host_network.specs.FiledSlots.{IsInstanceFiled, IsInstanceHeld, HasDrawnNothing, instance_of_filed};
 
 use crate::applied::Outcome;
 use crate::instance::Instance;
@@ -17,7 +17,7 @@ use crate::plan::Charge;
 use host_config::{HostedNode, NetConfig};
 use node_core::FiledEvent;
 use node_leaders::Draws;
-use node_store::{Archive, Shelf};
+use node_store::{Archive, Held, Shelf};
 use std::alloc::{AllocError, Global};
 use std::marker::Model;
 
@@ -75,6 +75,16 @@ impl OpenSlot {
         ensures { result.now ≡ self.now.instances }
     {
         &self.instances
+    }
+
+    /// Holds the rows and the emissions of all nodes there, beside what is held.
+    pub(crate) fn hold(&self, held: &mut Held)
+        ensures held { All (IsInstanceHeld held.new) self.now.instances }
+        ensures kept { HoldsAll held.old held.new }
+    {
+        for instance in &self.instances {
+            instance.hold(held);
+        }
     }
 
     /// Does one event of the node at this place, as [`Instance::act`].

@@ -4,11 +4,12 @@ ghost use Rattle.std.specs.Prelude.{◌≡◌, ◌<◌, ◌++◌, ◌∷◌, [],
 ghost use Rattle.std.specs.List.{remove};
 ghost use Rattle.scp_types.specs.Trees.{all_differ};
 ghost use Rattle.host_config.specs.Configs.{index_in};
+ghost use Rattle.host_network.specs.FiledSlots.{AreSlotsHeld};
 ghost use Rattle.host_network.specs.SlotPlaces.{slot_numbers};
 
 use crate::open_slot::OpenSlot;
 use crate::slot_index::SlotIndex;
-use node_store::Slots;
+use node_store::Held;
 use std::alloc::{AllocError, Global};
 use std::marker::Model;
 
@@ -39,18 +40,6 @@ impl Model for OpenSlots {
     ghost view = { λ s. s.slots.items };
 
     ghost invariant = { λ s. AreSlotsIndexed s.slots.items s.index };
-}
-
-impl Slots for OpenSlots {
-    ghost use Rattle.std.specs.Prelude.{is_some};
-    ghost use Rattle.host_config.specs.Configs.{index_in};
-    ghost use Rattle.host_network.specs.SlotPlaces.{slot_numbers};
-
-    ghost is_among = { λ s i. is_some (index_in (slot_numbers s) i) };
-
-    fn contains(&self, slot: u64) -> bool {
-        self.place(slot).is_some()
-    }
 }
 
 impl OpenSlots {
@@ -84,6 +73,15 @@ impl OpenSlots {
         ensures { result ≡ index_in (slot_numbers self.now) number }
     {
         self.index.place(number)
+    }
+
+    /// Holds the rows and the emissions of all nodes at all open slots, beside what is held.
+    pub(crate) fn hold(&self, held: &mut Held)
+        ensures { AreSlotsHeld held.new self.now }
+    {
+        for slot in &self.slots {
+            slot.hold(held);
+        }
     }
 
     /// Adds an open slot, of a number that none of them has. An error says that it is out of memory; then nothing

@@ -6,7 +6,7 @@ ghost use Rattle.scp_types.specs.declared.event.Refusal.TheVariants.{NoMemory};
 ghost use Rattle.host_world.specs.Worlds.{IsAnswered, IsNotAdded, IsPlaceOf, AreJournalsOf, with_history_of, and_then, with_new_network, history_without, log_at, logs_with, logs_without, marks_at};
 
 use host_config::NetConfig;
-use host_journal::Journal;
+use host_journal::{Journal, Keeping, Kept};
 use host_network::Given;
 use node_store::Shelf;
 use scp_types::{Event, Refusal};
@@ -31,20 +31,21 @@ pub enum WorldError {
     NoMemory,
 }
 
-/// The journals of a host, ascending by the numbers of their networks.
+/// The journals of a host, ascending by the numbers of their networks. Their entries are kept to be read again
+/// ([`Kept`]), or only in contracts ([`Unkept`](host_journal::Unkept)).
 ///
 /// The numbers stand in a list of their own, so that a binary search for a network stays in memory that lies together.
 /// So an event costs the same among 4,096 networks. Contracts see the list of the journals.
 ///
 /// For example, the journals of networks that were added as 7, 3 and 5 stand as 3, 5, 7, and so do their numbers.
 #[derive(Drop)]
-pub struct World<S: Shelf> {
+pub struct World<S: Shelf, K: Keeping = Kept> {
     alloc: Global,
     numbers: Vec<u32>,
-    journals: Vec<Journal<S>>,
+    journals: Vec<Journal<S, K>>,
 }
 
-impl<S: Shelf> Model for World<S> {
+impl<S: Shelf, K: Keeping> Model for World<S, K> {
     ghost use Rattle.std.specs.Coded.{codes};
     ghost use Rattle.std.specs.Prelude.{◌≡◌, List};
     ghost use Rattle.scp_types.specs.Trees.{members_code};
@@ -60,9 +61,9 @@ impl<S: Shelf> Model for World<S> {
     ghost invariant = { λ w. (w.numbers.items ≡ numbers_of w.journals.items) × AreByNumber w.journals.items };
 }
 
-impl<S: Shelf> World<S> {
+impl<S: Shelf, K: Keeping> World<S, K> {
     /// A host without networks. It takes no memory.
-    pub fn new(alloc: Global) -> World<S>
+    pub fn new(alloc: Global) -> World<S, K>
         ensures { result ≡ [] }
     {
         World {
@@ -100,7 +101,7 @@ impl<S: Shelf> World<S> {
     ///
     /// If the journal is that of a history of its own, the events of that history come last in the host's history from
     /// then on. Events of the host's that named its number before were refused.
-    pub fn adopt(&mut self, journal: Journal<S>) -> Result<(), Journal<S>>
+    pub fn adopt(&mut self, journal: Journal<S, K>) -> Result<(), Journal<S, K>>
         ensures ok { OnOk result (self.new ≡ logs_with journal self.old) }
         ensures fresh { OnOk result (log_at self.old journal.config.number ≡ None) }
         ensures back { IfErr result (λ j. j ≡ journal) }
@@ -115,7 +116,7 @@ impl<S: Shelf> World<S> {
 
     /// Takes the journal of a network out, if it is there. A history of the host is from then on one without that
     /// network and without the events that named its number. It takes no memory.
-    pub fn remove(&mut self, number: u32) -> Option<Journal<S>>
+    pub fn remove(&mut self, number: u32) -> Option<Journal<S, K>>
         ensures which { result ≡ log_at self.old number }
         ensures rest { self.new ≡ logs_without number self.old }
         ensures history { (h : History) → AreJournalsOf h self.old → AreJournalsOf (history_without number h) self.new }
@@ -127,7 +128,7 @@ impl<S: Shelf> World<S> {
     }
 
     /// The journal of a network, by a binary search.
-    pub fn journal(&self, number: u32) -> Option<&Journal<S>>
+    pub fn journal(&self, number: u32) -> Option<&Journal<S, K>>
         ensures { option_map (λ j. j.now) result ≡ log_at self.now number }
     {
         match self.place(number) {
@@ -137,7 +138,7 @@ impl<S: Shelf> World<S> {
     }
 
     /// The journals, ascending by the numbers of their networks.
-    pub fn journals(&self) -> &[Journal<S>]
+    pub fn journals(&self) -> &[Journal<S, K>]
         ensures { result.now ≡ self.now }
     {
         &self.journals
@@ -167,7 +168,7 @@ impl<S: Shelf> World<S> {
         self.numbers.binary_search(&number)
     }
 
-    fn take_at(&mut self, at: usize, number: u32) -> Journal<S>
+    fn take_at(&mut self, at: usize, number: u32) -> Journal<S, K>
         requires { IsPlaceOf self.old number (Ok at) }
         ensures which { Some result ≡ log_at self.old number }
         ensures rest { self.new ≡ logs_without number self.old }
@@ -178,7 +179,7 @@ impl<S: Shelf> World<S> {
 
     /// Adds a journal in the place of its number. It is handed back with the reason if there is a network of that
     /// number, if there are 4,096, or if it is out of memory, in this order. Then the host is as it was.
-    fn join(&mut self, journal: Journal<S>) -> Result<(), (WorldError, Journal<S>)>
+    fn join(&mut self, journal: Journal<S, K>) -> Result<(), (WorldError, Journal<S, K>)>
         ensures ok { OnOk result (self.new ≡ logs_with journal self.old) }
         ensures fresh { OnOk result (log_at self.old journal.config.number ≡ None) }
         ensures err { IfErr result (λ e. IsNotAdded self.old journal.config.number e.0) }
@@ -201,7 +202,7 @@ impl<S: Shelf> World<S> {
     }
 
     /// Adds a journal at the place of its number. It is handed back if it is out of memory; then the host is as it was.
-    fn put_at(&mut self, at: usize, journal: Journal<S>) -> Result<(), Journal<S>>
+    fn put_at(&mut self, at: usize, journal: Journal<S, K>) -> Result<(), Journal<S, K>>
         requires at { IsPlaceOf self.old journal.config.number (Err at) }
         requires few { length self.old < 4096 }
         ensures ok { OnOk result (self.new ≡ logs_with journal self.old) }

@@ -8,6 +8,7 @@ ghost use Rattle.line_run.specs.Settling.{AreHandedOn, IsHeardBy, others};
 
 use crate::outcome::but_for_memory;
 use host_config::NetConfig;
+use host_journal::Keeping;
 use host_network::{Emission, hearing, push_named};
 use host_world::World;
 use node_store::BoxShelf;
@@ -18,8 +19,8 @@ use std::alloc::{AllocError, Global};
 /// Answers how many emissions have been handed on, and the refusal. Those that were handed on stay in front of those
 /// that wait on. An error says that it is out of memory; then some were handed on, and what nodes emitted meanwhile may
 /// not wait.
-pub(crate) fn hand_on_all(
-    world: &mut World<BoxShelf>,
+pub(crate) fn hand_on_all<K: Keeping>(
+    world: &mut World<BoxShelf, K>,
     number: u32,
     slot: u64,
     names: &[NodeId],
@@ -42,8 +43,8 @@ pub(crate) fn hand_on_all(
 
 /// Has each other node hear an emission, in the order of the names, and what they emit wait. Answers the first refusal,
 /// which ends it.
-fn let_others_hear(
-    world: &mut World<BoxShelf>,
+fn let_others_hear<K: Keeping>(
+    world: &mut World<BoxShelf, K>,
     number: u32,
     slot: u64,
     names: &[NodeId],
@@ -62,8 +63,8 @@ fn let_others_hear(
 }
 
 /// Has a node hear an emission, unless it is its own, and what it emits wait. Answers the refusal.
-fn hear(
-    world: &mut World<BoxShelf>,
+fn hear<K: Keeping>(
+    world: &mut World<BoxShelf, K>,
     number: u32,
     slot: u64,
     node: NodeId,
@@ -86,8 +87,8 @@ fn hear(
 
 /// Has all others hear what waits, and behind it what nodes emit meanwhile, until none waits. An error says that it is
 /// out of memory, in a hearing or beside one; then some have heard, and what else waited is lost.
-pub(crate) fn let_all_hear(
-    world: &mut World<BoxShelf>,
+pub(crate) fn let_all_hear<K: Keeping>(
+    world: &mut World<BoxShelf, K>,
     number: u32,
     slot: u64,
     names: &[NodeId],
@@ -107,8 +108,8 @@ pub(crate) fn let_all_hear(
 /// Has each other node hear an emission, in the order of the names, whether others refused it or not. A refusal because
 /// it is out of memory is an error. Of a hearing nothing is printed, so nobody would be told that it is missing in what
 /// later lines show.
-fn tell_others(
-    world: &mut World<BoxShelf>,
+fn tell_others<K: Keeping>(
+    world: &mut World<BoxShelf, K>,
     number: u32,
     slot: u64,
     names: &[NodeId],

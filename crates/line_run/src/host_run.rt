@@ -18,6 +18,7 @@ use crate::outcome::Outcome;
 use crate::replies::{replies, reply};
 use crate::settled_lines::push_deciders;
 use crate::unheard::Unheard;
+use host_journal::{Keeping, Unkept};
 use host_network::Given;
 use host_world::World;
 use line_request::{Order, Request, line_of_refusal, order_of};
@@ -30,15 +31,15 @@ use std::marker::Model;
 mod serving;
 
 /// The networks of one script: what their lines have declared, what waits to be handed on, and the journals of those
-/// that an event has named.
+/// that an event has named. A run that nobody asks for its journals keeps none of their entries ([`Unkept`]).
 #[derive(Drop)]
-pub struct HostRun {
+pub struct HostRun<K: Keeping = Unkept> {
     nets: Nets,
     unheard: Unheard,
-    world: World<BoxShelf>,
+    world: World<BoxShelf, K>,
 }
 
-impl Model for HostRun {
+impl<K: Keeping> Model for HostRun<K> {
     ghost use Rattle.std.specs.Coded.{codes};
     ghost use Rattle.scp_types.specs.Trees.{members_code};
     ghost use Rattle.line_run.specs.Hosting.{Hosting};
@@ -50,9 +51,9 @@ impl Model for HostRun {
     ghost view = { λ run. record { waiting = run.nets.waiting; named = run.nets.named; unheard = run.unheard; logs = run.world } };
 }
 
-impl HostRun {
+impl<K: Keeping> HostRun<K> {
     /// The state before the first line. It takes no memory.
-    pub fn new(alloc: Global) -> HostRun
+    pub fn new(alloc: Global) -> HostRun<K>
         ensures { result ≡ new_hosting }
     {
         HostRun {
@@ -64,7 +65,7 @@ impl HostRun {
 
     /// The journals of the networks that an event has named after they were declared and no `drop` has taken back, and
     /// after [`HostRun::finish`] of all that are declared with nodes. They ascend by number.
-    pub fn world(&self) -> &World<BoxShelf>
+    pub fn world(&self) -> &World<BoxShelf, K>
         ensures { result.now ≡ self.now.logs }
     {
         &self.world
@@ -269,7 +270,7 @@ impl HostRun {
     }
 }
 
-impl LineRunner for HostRun {
+impl<K: Keeping> LineRunner for HostRun<K> {
     ghost use Rattle.line_run.specs.BadLines.{bad_lines_tell_nothing};
     ghost use Rattle.line_run.specs.Running.{RefusesLine, Tells};
 

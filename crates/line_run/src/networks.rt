@@ -4,6 +4,7 @@ ghost use Rattle.std.specs.Prelude.{◌≡◌, OnOk};
 
 use host_compare::Submission;
 use host_config::NetConfig;
+use host_journal::Keeping;
 use host_world::{MAX_NETWORKS, World};
 use node_store::BoxShelf;
 use std::alloc::{AllocError, Global};
@@ -20,7 +21,7 @@ pub(crate) trait JoinsNetworks {
         ensures { OnOk result (self.new ≡ joins config self.old) };
 }
 
-impl JoinsNetworks for World<BoxShelf> {
+impl<K: Keeping> JoinsNetworks for World<BoxShelf, K> {
     ghost use Rattle.line_run.specs.Hosting.{logs_joined};
 
     ghost joins = { logs_joined };

@@ -5,16 +5,16 @@ ghost use Rattle.scp_spec.specs.Runs.{state_of};
 ghost use Rattle.line_run.specs.SettledLines.{text_of_decided, text_of_decider, text_of_deciders};
 
 use host_config::HostedNode;
-use host_journal::Journal;
+use host_journal::{Journal, Keeping};
 use line_script::{push_name, push_value};
 use node_store::BoxShelf;
 use scp_types::Value;
 use std::alloc::AllocError;
 
 /// Adds for each of these nodes, in order, ` NAME=VALUE` with what it has externalized at a slot, or ` NAME=-`.
-pub(crate) fn push_deciders(
+pub(crate) fn push_deciders<K: Keeping>(
     text: &mut String,
-    journal: &Journal<BoxShelf>,
+    journal: &Journal<BoxShelf, K>,
     slot: u64,
     nodes: &[HostedNode],
 ) -> Result<(), AllocError>
@@ -27,9 +27,9 @@ pub(crate) fn push_deciders(
 }
 
 /// Adds a space, the name of a hosted node, `=`, and what it has externalized at a slot, or `-`.
-fn push_decider(
+fn push_decider<K: Keeping>(
     text: &mut String,
-    journal: &Journal<BoxShelf>,
+    journal: &Journal<BoxShelf, K>,
     slot: u64,
     hosted: &HostedNode,
 ) -> Result<(), AllocError>

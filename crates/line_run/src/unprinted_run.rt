@@ -8,6 +8,7 @@ ghost use Rattle.line_run.specs.Unprinted.{IsFinishedUnprinted, origin_in, trace
 
 use crate::host_run::HostRun;
 use crate::trace::Trace;
+use host_journal::Kept;
 use host_world::World;
 use line_script::{LineError, LineRunner};
 use node_store::BoxShelf;
@@ -18,7 +19,7 @@ use std::marker::Model;
 /// is refused because it is out of memory, that is no answer of a line: the run ends, out of memory.
 #[derive(Drop)]
 pub struct UnprintedRun {
-    run: HostRun,
+    run: HostRun<Kept>,
     trace: Option<Trace>,
 }
 

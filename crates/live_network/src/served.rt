@@ -114,8 +114,8 @@ impl<S: Shelf + Drop> ServedNetwork<S> {
         }
     }
 
-    /// Serves an event: applies it, and then has the other nodes hear what comes of it, until no emission waits. After
-    /// an opening or a closing, envelopes of closed slots are let go.
+    /// Serves an event: applies it, and then has the other nodes hear what comes of it, until no emission waits. Then
+    /// envelopes that no node holds any more are let go, once so many were filed that it is due.
     ///
     /// An error says that it is out of memory for what is told; some of it happened then.
     pub fn serve(&mut self, event: &Event) -> Result<Served, AllocError>
@@ -158,7 +158,7 @@ impl<S: Shelf + Drop> ServedNetwork<S> {
             }),
             Ok(stepped) => match stepped.place {
                 None => {
-                    self.network.forget_closed();
+                    self.network.forget_unheld();
                     Ok(Served {
                         refused: None,
                         stale: stepped.stale,
@@ -170,6 +170,7 @@ impl<S: Shelf + Drop> ServedNetwork<S> {
                     let stale = stepped.stale;
                     following.note(node, stepped.given)?;
                     hear_all(&mut self.network, &self.names, slot, &mut following)?;
+                    self.network.forget_unheld();
                     Ok(Served {
                         refused: None,
                         stale,

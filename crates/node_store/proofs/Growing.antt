@@ -1,12 +1,12 @@
 -- An archive with one envelope more, and with some let go.
-use Rattle.std.proofs.Common.{◌≡◌, ◌⊎◌, inl, inr, ℕ, zero, suc, ◌+◌, ◌<◌, ◌≤◌, Bool, true, false, List, [], ◌∷◌, ◌++◌, get_or, length, map, set, take, drop, Option, Some, None, option_map, is_some, if◌then◌else◌, refl, sym, ◌∙◌, ap, subst, arith}
+use Rattle.std.proofs.Common.{◌≡◌, ◌⊎◌, inl, inr, ℕ, zero, suc, ◌+◌, ◌<◌, ◌≤◌, Bool, true, false, List, [], ◌∷◌, ◌++◌, get_or, length, map, set, take, Option, Some, None, option_map, refl, sym, ◌∙◌, ap, subst, arith}
 use Rattle.std.specs.Prelude.{IfSome}
 use Rattle.std.specs.List.{All, slice_get}
 use Rattle.std.proofs.lemmas.List.{set-get_or}
 use Rattle.std.proofs.lemmas.List.Elements.{All-append, All-cons, All-nil, All-set}
 use Rattle.scp_types.specs.Statements.{Sent}
 use Rattle.node_store.specs.declared.filed.Filed.{Filed}
-use Rattle.node_store.specs.Archives.{AreFiled, Archived, IsFiled, Keeps, only_of, sent_of}
+use Rattle.node_store.specs.Archives.{AreFiled, AreHeld, Archived, HoldsAll, IsFiled, IsHeld, Keeps, if_held, only_held, sent_of}
 
 -- the same list, or one place more where nothing lies
 abbrev pub IsGrown : {X : Type 0} → List (Option X) → List (Option X) → Type 0
@@ -81,54 +81,72 @@ all-kept {P} R Q old new same kept all = subst (λ (xs : List (Option P)). All (
     one (Some p) h = kept p h
 
 -- ---- what is let go
--- each number up to one has only what is of these slots
-go-on : (is_among : ℕ → Bool) (xs : Archived) (k : ℕ) → k < length xs
-    → set (map (only_of is_among) (take k xs) ++ drop k xs) k (only_of is_among (get_or (map (only_of is_among) (take k xs) ++ drop k xs) k None))
-    ≡ map (only_of is_among) (take (suc k) xs) ++ drop (suc k) xs
-go-on is_among [] k l = absurd (omega (arith, l))
-go-on is_among (x ∷ xs) zero l = refl
-go-on is_among (x ∷ xs) (suc k) l = ap (λ (ys : Archived). only_of is_among x ∷ ys) (go-on is_among xs k (omega (arith, l)))
+-- each number up to one has only what is held
+go-on : (marks : List Bool) (xs : Archived) (k : ℕ) → k < length xs
+    → set (only_held (take k marks) xs) k (if_held (get_or marks k true) (get_or (only_held (take k marks) xs) k None)) ≡ only_held (take (suc k) marks) xs
+go-on marks [] k l = absurd (omega (arith, l))
+go-on [] (x ∷ xs) zero l = refl
+go-on [] (x ∷ xs) (suc k) l = set-get_or (x ∷ xs) (suc k) None
+go-on (m ∷ marks) (x ∷ xs) zero l = refl
+go-on (m ∷ marks) (x ∷ xs) (suc k) l = ap (λ (ys : Archived). if_held m x ∷ ys) (go-on marks xs k (omega (arith, l)))
 
-pub gone-up-to : (is_among : ℕ → Bool) (start now new : Archived) (k : ℕ) → k < length start → now ≡ map (only_of is_among) (take k start) ++ drop k start
-    → new ≡ set now k (only_of is_among (get_or now k None)) → new ≡ map (only_of is_among) (take (k + 1) start) ++ drop (k + 1) start
-gone-up-to is_among start now new k l is put =
+pub gone-up-to : (marks : List Bool) (start now new : Archived) (k : ℕ) → k < length start → now ≡ only_held (take k marks) start
+    → new ≡ set now k (if_held (get_or marks k true) (get_or now k None)) → new ≡ only_held (take (k + 1) marks) start
+gone-up-to marks start now new k l is put =
     let z : suc k ≡ k + 1 = omega arith in
-    put ∙ ap (λ (ys : Archived). set ys k (only_of is_among (get_or ys k None))) is ∙ go-on is_among start k l ∙ ap (λ n. map (only_of is_among) (take n start) ++ drop n start) z
+    put ∙ ap (λ (ys : Archived). set ys k (if_held (get_or marks k true) (get_or ys k None))) is ∙ go-on marks start k l ∙ ap (λ n. only_held (take n marks) start) z
 
-pub all-gone : (is_among : ℕ → Bool) (xs : Archived) (k : ℕ) → length xs ≤ k → map (only_of is_among) (take k xs) ++ drop k xs ≡ map (only_of is_among) xs
-all-gone is_among [] zero l = refl
-all-gone is_among [] (suc k) l = refl
-all-gone is_among (x ∷ xs) zero l = absurd (omega (arith, l))
-all-gone is_among (x ∷ xs) (suc k) l = ap (λ (ys : Archived). only_of is_among x ∷ ys) (all-gone is_among xs k (omega (arith, l)))
+pub all-gone : (marks : List Bool) (xs : Archived) (k : ℕ) → length xs ≤ k → only_held (take k marks) xs ≡ only_held marks xs
+all-gone [] xs zero l = refl
+all-gone [] xs (suc k) l = refl
+all-gone (m ∷ marks) [] zero l = refl
+all-gone (m ∷ marks) [] (suc k) l = refl
+all-gone (m ∷ marks) (x ∷ xs) zero l = absurd (omega (arith, l))
+all-gone (m ∷ marks) (x ∷ xs) (suc k) l = ap (λ (ys : Archived). if_held m x ∷ ys) (all-gone marks xs k (omega (arith, l)))
 
-pub still-long : (is_among : ℕ → Bool) (xs : Archived) (k : ℕ) → length (map (only_of is_among) (take k xs) ++ drop k xs) ≡ length xs
-still-long is_among [] zero = refl
-still-long is_among [] (suc k) = refl
-still-long is_among (x ∷ xs) zero = refl
-still-long is_among (x ∷ xs) (suc k) = ap suc (still-long is_among xs k)
+pub still-long : (marks : List Bool) (xs : Archived) → length (only_held marks xs) ≡ length xs
+still-long [] xs = refl
+still-long (m ∷ marks) [] = refl
+still-long (m ∷ marks) (x ∷ xs) = ap suc (still-long marks xs)
 
 -- at one number
-only-kept : (is_among : ℕ → Bool) (o : Option Sent) → is_some (only_of is_among o) ≡ true → only_of is_among o ≡ o
-only-kept is_among None h = refl
-only-kept is_among (Some e) h = go (is_among e.slot) h
-  where
-    go : (b : Bool) → is_some (if b then Some e else None) ≡ true → (if b then Some e else None) ≡ Some e
-    go true q = refl
-    go false q = absurd (cc)
+pub keeps-at : (held : Bool) (archive : Archived) (n : ℕ) → held ≡ true → archive ≡ set archive n (if_held held (get_or archive n None))
+keeps-at held archive n h = sym (ap (λ b. set archive n (if_held b (get_or archive n None))) h ∙ set-get_or archive n None)
 
-only-none : (o : Option Sent) → is_some o ≡ false → o ≡ None
-only-none None h = refl
-only-none (Some e) h = absurd (cc)
+pub frees-at : (held : Bool) (archive new : Archived) (n : ℕ) → new ≡ set archive n None → held ≡ false → new ≡ set archive n (if_held held (get_or archive n None))
+frees-at held archive new n is h = is ∙ ap (λ b. set archive n (if_held b (get_or archive n None))) (sym h)
 
-pub keeps-at : (is_among : ℕ → Bool) (archive : Archived) (n : ℕ) → is_some (only_of is_among (get_or archive n None)) ≡ true → archive ≡ set archive n (only_of is_among (get_or archive n None))
-keeps-at is_among archive n h = sym (ap (set archive n) (only-kept is_among (get_or archive n None) h) ∙ set-get_or archive n None)
+-- what is held stays
+stays-at : (marks : List Bool) (archive : Archived) (n : ℕ) (e : Sent) → get_or marks n true ≡ true → slice_get archive n ≡ Some (Some e) → slice_get (only_held marks archive) n ≡ Some (Some e)
+stays-at [] archive n e held h = h
+stays-at (m ∷ marks) [] n e held h = absurd (cc)
+stays-at (m ∷ marks) (x ∷ xs) zero e held h = ap (λ b. Some (if_held b x)) held ∙ h
+stays-at (m ∷ marks) (x ∷ xs) (suc n) e held h = stays-at marks xs n e held h
 
-pub frees-at : (is_among : ℕ → Bool) (archive new : Archived) (n : ℕ) → new ≡ set archive n None → is_some (only_of is_among (get_or archive n None)) ≡ false → new ≡ set archive n (only_of is_among (get_or archive n None))
-frees-at is_among archive new n is h = is ∙ ap (set archive n) (sym (only-none (only_of is_among (get_or archive n None)) h))
+pub stays-filed : (marks : List Bool) (archive : Archived) (f : Filed) → IsHeld marks f → IsFiled archive f → IsFiled (only_held marks archive) f
+stays-filed marks archive f held h = stays-at marks archive f.number (sent_of f) held h
 
--- what is of these slots stays
-pub stays-filed : (is_among : ℕ → Bool) (archive : Archived) (f : Filed) → is_among (sent_of f).slot ≡ true → IsFiled archive f → IsFiled (map (only_of is_among) archive) f
-stays-filed is_among archive f among h = read-map (only_of is_among) archive f.number (Some (sent_of f)) h ∙ ap (λ b. Some (if b then Some (sent_of f) else None)) among
+pub stay-filed : (marks : List Bool) (archive : Archived) (fs : List Filed) → AreHeld marks fs → AreFiled archive fs → AreFiled (only_held marks archive) fs
+stay-filed marks archive fs held h = λ k d l. stays-filed marks archive (get_or fs k d) (held k d l) (h k d l)
+
+-- ---- what is held
+marked : (marks : List Bool) (n : ℕ) → get_or (set marks n true) n true ≡ true
+marked [] n = refl
+marked (m ∷ marks) zero = refl
+marked (m ∷ marks) (suc n) = marked marks n
+
+marked-still : (marks : List Bool) (n k : ℕ) → get_or marks k true ≡ true → get_or (set marks n true) k true ≡ true
+marked-still [] n k h = h
+marked-still (m ∷ marks) zero zero h = refl
+marked-still (m ∷ marks) zero (suc k) h = h
+marked-still (m ∷ marks) (suc n) zero h = h
+marked-still (m ∷ marks) (suc n) (suc k) h = marked-still marks n k h
+
+pub held-by : (marks new : List Bool) (f : Filed) → new ≡ set marks f.number true → IsHeld new f
+held-by marks new f is = ap (λ (ms : List Bool). get_or ms f.number true) is ∙ marked marks f.number
+
+pub held-still : (marks new : List Bool) (f : Filed) → new ≡ set marks f.number true → HoldsAll marks new
+held-still marks new f is x h = ap (λ (ms : List Bool). get_or ms x.number true) is ∙ marked-still marks f.number x.number h
 
 -- ---- what is kept
 pub keeps_all : (old new : Archived) (fs : List Filed) → Keeps old new → AreFiled old fs → AreFiled new fs

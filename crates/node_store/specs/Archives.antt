@@ -1,5 +1,5 @@
 -- Envelopes that were filed.
-use Rattle.std.specs.Prelude.{◌≡◌, ◌≢◌, ◌⊎◌, ◌≤◌, ◌+◌, ℕ, Bool, IsTrue, List, Option, None, Some, get_or, map, slice_get, if◌then◌else◌}
+use Rattle.std.specs.Prelude.{◌≡◌, ◌≢◌, ◌⊎◌, ◌≤◌, ◌+◌, ℕ, Bool, IsTrue, List, [], ◌∷◌, Option, None, Some, get_or, map, slice_get, true, if◌then◌else◌}
 use Rattle.std.specs.List.{All}
 use Rattle.scp_types.specs.Statements.{Sent}
 use Rattle.scp_types.specs.Trees.{Slices}
@@ -29,10 +29,27 @@ AreFiled archive fs = All (IsFiled archive) fs
 abbrev pub Keeps : Archived → Archived → Type 0
 Keeps old new = (f : Filed) → IsFiled old f → IsFiled new f
 
--- what lies at a number, if it is an envelope of one of these slots
-abbrev pub only_of : (ℕ → Bool) → Option Sent → Option Sent
-only_of is_among None = None
-only_of is_among (Some e) = if is_among e.slot then Some e else None
+-- what lies at a number, if the number is held
+abbrev pub if_held : Bool → Option Sent → Option Sent
+if_held held o = if held then o else None
+
+-- What an archive has at the numbers that are held, by a mark for each. What stands behind the last mark is held too.
+abbrev pub only_held : List Bool → Archived → Archived
+only_held [] archive = archive
+only_held (m ∷ marks) [] = []
+only_held (m ∷ marks) (o ∷ archive) = if_held m o ∷ only_held marks archive
+
+-- the number of what was filed is held
+abbrev pub IsHeld : List Bool → Filed → Type 0
+IsHeld marks f = get_or marks f.number true ≡ true
+
+-- the numbers of all of these are held
+abbrev pub AreHeld : List Bool → List Filed → Type 0
+AreHeld marks fs = All (IsHeld marks) fs
+
+-- whatever was held before is held still
+abbrev pub HoldsAll : List Bool → List Bool → Type 0
+HoldsAll old new = (f : Filed) → IsHeld old f → IsHeld new f
 
 -- the slices of an envelope, if one lies there
 abbrev pub slices_if_any : Option (Option Sent) → Option Slices

@@ -1,10 +1,11 @@
 //! The envelopes of one network, by number.
 
-ghost use Rattle.std.specs.Prelude.{◌≡◌, ◌↔◌, ◌⊎◌, ◌<◌, ◌++◌, ◌∷◌, [], IfOk, IfSome, IsTrue, None, OnErr, Some, is_some, length, map, slice_get, slice_index_or, slice_set, vec_capacity, vec_len};
-ghost use Rattle.node_store.specs.Archives.{IsFiled, Keeps, filed_slices_at, only_of, sent_of};
+ghost use Rattle.std.specs.Prelude.{◌≡◌, ◌↔◌, ◌⊎◌, ◌<◌, ◌++◌, ◌∷◌, [], IfOk, IfSome, IsTrue, None, OnErr, Some, false, get_or, is_some, length, replicate, slice_get, slice_index_or, slice_set, true, vec_capacity, vec_len};
+ghost use Rattle.node_store.specs.Archives.{IsFiled, Keeps, filed_slices_at, if_held, only_held, sent_of};
 
 use crate::filed::Filed;
-use crate::shelf::{Places, Shelf, Slots};
+use crate::held::Held;
+use crate::shelf::{Places, Shelf};
 use crate::slice_numbers::{SliceNumbers, fingerprint};
 use scp_types::{Envelope, Nested};
 use std::alloc::{AllocError, Global};
@@ -14,7 +15,7 @@ use std::snapshot::Snapshot;
 /// A shelf, and the places at which the envelopes of one network lie, by number.
 ///
 /// Contracts see it as the list of these envelopes, with nothing at a number that is free. What is filed stays until
-/// its slot is let go, and then its number may be given again.
+/// it is let go, and then its number may be given again.
 ///
 /// Each place is one of this shelf: for example, of three envelopes that were filed, number 1 is the place
 /// where the second lies there. Slices that are told by the same number are the same.
@@ -134,21 +135,40 @@ impl<S: Places> Archive<S> {
     }
 
     /// Whether at least half as many envelopes were filed since others were let go as there are numbers, free ones
-    /// included. If they are let go only then, each that is filed costs a look or two, however many slots are closed
-    /// one by one.
-    pub fn is_due(&self) -> bool {
-        self.recent >= self.places.len() / 2
+    /// included, and `holders` together. Holders are looked at to find out what is held. If others are let go only then,
+    /// each envelope that is filed costs a few looks at a number or a holder.
+    pub fn is_due(&self, holders: usize) -> bool {
+        self.recent >= self.places.len().saturating_add(holders) / 2
     }
 
-    /// Lets go what was filed for all slots but these. It cannot fail: a number that is not
-    /// noted as free, because it is out of memory, is found again the next time.
-    pub fn let_go<T: Slots>(&mut self, slots: &T)
-        ensures { self.new ≡ map (only_of (T.is_among slots.now)) self.old }
+    /// Lets go of all, and of the room that it took. It takes no memory.
+    pub fn let_all_go(&mut self)
+        ensures { self.new ≡ [] }
+    {
+        self.recent = 0;
+        self.places = Vec::new(self.alloc);
+        self.free = Vec::new(self.alloc);
+        self.told = SliceNumbers::new(self.alloc);
+    }
+
+    /// No number of the archive is held. An error says that it is out of memory.
+    pub fn none_held(&self, alloc: Global) -> Result<Held, AllocError>
+        ensures { IfOk result (λ h. h ≡ replicate (length self.now) false) }
+    {
+        Ok(Held {
+            marks: vec![in alloc; false; self.places.len()]?,
+        })
+    }
+
+    /// Lets go what is not held. It cannot fail: a number that is not noted as free, because it is out of memory, is
+    /// found again the next time.
+    pub fn let_go(&mut self, held: &Held)
+        ensures { self.new ≡ only_held held.now self.old }
     {
         self.recent = 0;
         self.free.clear();
         for number in 0..self.places.len() {
-            self.let_go_at(number, slots);
+            self.let_go_at(number, held);
         }
     }
 
@@ -161,12 +181,12 @@ impl<S: Places> Archive<S> {
         self.clear(filed.number);
     }
 
-    /// What has this number is let go, if it is not of one of these slots.
-    fn let_go_at<T: Slots>(&mut self, number: usize, slots: &T)
+    /// What has this number is let go, if it is not held.
+    fn let_go_at(&mut self, number: usize, held: &Held)
         requires { number < length self.old }
-        ensures { self.new ≡ slice_set self.old number (only_of (T.is_among slots.now) (slice_index_or self.old number None)) }
+        ensures { self.new ≡ slice_set self.old number (if_held (get_or held.now number true) (slice_index_or self.old number None)) }
     {
-        if !self.is_kept(number, slots) {
+        if !held.has(number) {
             self.clear(number);
         }
     }
@@ -178,17 +198,6 @@ impl<S: Places> Archive<S> {
     {
         self.places[number] = None;
         let _ = self.free.push(number);
-    }
-
-    /// Whether an envelope of one of these slots has this number.
-    fn is_kept<T: Slots>(&self, number: usize, slots: &T) -> bool
-        requires { number < length self.now }
-        ensures { result ≡ is_some (only_of (T.is_among slots.now) (slice_index_or self.now number None)) }
-    {
-        match &self.places[number] {
-            Some(place) => slots.contains(self.shelf.read(place).slot()),
-            None => false,
-        }
     }
 }
 

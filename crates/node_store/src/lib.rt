@@ -4,6 +4,7 @@
 mod archive;
 mod box_shelf;
 mod filed;
+mod held;
 mod shared;
 mod shelf;
 mod slice_numbers;
@@ -11,5 +12,6 @@ mod slice_numbers;
 pub use archive::Archive;
 pub use box_shelf::BoxShelf;
 pub use filed::Filed;
+pub use held::Held;
 pub use shared::SharedHandle;
-pub use shelf::{Places, Shelf, Slots};
+pub use shelf::{Places, Shelf};

@@ -1,6 +1,6 @@
 //! What a store of envelopes is.
 
-ghost use Rattle.std.specs.Prelude.{◌≡◌, Bool, IfErr, IfOk, ℕ};
+ghost use Rattle.std.specs.Prelude.{◌≡◌, IfErr, IfOk};
 
 use scp_types::Envelope;
 
@@ -30,14 +30,4 @@ pub trait Shelf: Places {
         ensures put { IfOk result (λ p. Self.is_of self.new p × (Self.put_there p ≡ envelope)) }
         ensures kept { (p : Self.Place) → Self.is_of self.old p → Self.is_of self.new p }
         ensures err { IfErr result (λ e. e ≡ envelope) };
-}
-
-/// Some slots, by their numbers.
-pub trait Slots {
-    /// The slot of this number is among them.
-    ghost is_among: { Self → ℕ → Bool };
-
-    /// Whether the slot of this number is among them. It takes no memory.
-    fn contains(&self, slot: u64) -> bool
-        ensures { result ≡ is_among self.now slot };
 }

@@ -10,7 +10,9 @@ use Rattle.scp_types.specs.contracts.event.Out as Out
 use Rattle.node_store.specs.declared.shelf.Places.{Ghosts}
 use Rattle.node_store.specs.declared.shelf.Shelf.{Ghosts as ShelfGhosts}
 use Rattle.pool_cell.proofs.publisher.Publisher.TheSendSync as publisher
-use Rattle.host_journal.proofs.Crossing.{config_send, config_sync, event_send, journal_send, nested_send}
+use Rattle.host_journal.proofs.Crossing.{config_send, config_sync, event_send, journal_send, kept_entries_send, nested_send}
+use Rattle.host_journal.specs.contracts.kept_entries.Kept as Kept
+use Rattle.host_journal.specs.contracts.kept_entries.KeptKeeping.TheImpl.{ghosts}
 use Rattle.atomic_table.proofs.shared.Seat.TheSendSync as pass
 use Rattle.crossbeam_queue.proofs.array_queue.Slotted.TheSendSync as queue
 use Rattle.std.specs.declared.sync.Wait.{Ghosts as WaitGhosts}
@@ -31,7 +33,7 @@ receipt_send = search (sendable, crosses, event_send, out_send) depth 40
 -- S is a shelf, P its places, and H the handle by which what was decided is published
 module _ (S H P : RattleType) (g : Ghosts S.Denot P.Denot) where
   cell_state_send : IsSend S → IsSend H → IsSend P → IsSend (CellState.the_row S H P g)
-  cell_state_send s h p = let a = journal_send S P g s p in search (sendable, crosses, publisher.the_send) depth 40
+  cell_state_send s h p = let a = journal_send S Kept.the_row P g ghosts s kept_entries_send p in search (sendable, crosses, publisher.the_send) depth 40
 
   pub seat_send : IsSend S → IsSend H → IsSend P → IsSend (Seat.the_row S H P g)
   seat_send s h p = let a = cell_state_send s h p in search (sendable, crosses, pass.the_send, receipt_send) depth 40

@@ -93,7 +93,7 @@ fn perform_run<
     match asked.workers {
         None => {
             let alloc = rt.alloc();
-            let mut run = HostRun::new(alloc);
+            let mut run: HostRun = HostRun::new(alloc);
             let ran = run_script(alloc, &mut run, script, &mut outputs.out);
             forget(run);
             print_end(ran, asked.script.as_str(), &mut outputs.err)
@@ -271,7 +271,7 @@ fn perform_run_as_it_comes<
     if asked.workers.is_some() {
         return perform_run(rt, asked, input, outputs);
     }
-    let mut run = HostRun::new(rt.alloc());
+    let mut run: HostRun = HostRun::new(rt.alloc());
     let ran = run_stream(rt.alloc(), &mut run, input, &mut outputs.out);
     forget(run);
     print_end(ran, asked.script.as_str(), &mut outputs.err)

@@ -1,7 +1,7 @@
 //! That machines and journals answer if there is memory: no clause says so. What they answer is said by contracts.
 
 use crate::fixtures::{name, one_node, slices_of};
-use host_journal::{Budgets, Journal, NetConfig, NetMachine};
+use host_journal::{Budgets, Journal, NetConfig, Unkept};
 use node_store::BoxShelf;
 use scp_codec::encode;
 use scp_types::{Bytes, Envelope, Event, Statement, Value, Values};
@@ -92,15 +92,17 @@ fn events_are_kept_where_there_is_memory(rt: HostRuntime) -> Result<(), Fail> {
 }
 
 #[test]
-fn a_machine_takes_an_event_where_there_is_memory(rt: HostRuntime) -> Result<(), Fail> {
+fn entries_that_are_not_kept_take_an_event_where_there_is_memory(
+    rt: HostRuntime,
+) -> Result<(), Fail> {
     let alloc = rt.alloc();
     let config = config(alloc).ok_or("memory")?;
-    let mut machine = NetMachine::new(alloc, config, BoxShelf::new(alloc));
-    let silent = match machine.apply(Event::OpenSlot { slot: 5 }) {
-        Ok(outs) => outs.is_empty(),
+    let mut journal: Journal<BoxShelf, Unkept> = Journal::new(alloc, config, BoxShelf::new(alloc));
+    let silent = match journal.apply(Event::OpenSlot { slot: 5 }) {
+        Ok(given) => given.outs.is_empty(),
         Err(_) => false,
     };
-    drop(machine);
+    drop(journal);
     assert!(rt; silent);
     Ok(())
 }

@@ -8,6 +8,8 @@
 #[cfg(test)]
 mod fixtures;
 #[cfg(test)]
+mod of_archives;
+#[cfg(test)]
 mod of_listeners;
 #[cfg(test)]
 mod of_nodes;

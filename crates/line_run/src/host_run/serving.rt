@@ -11,13 +11,14 @@ ghost use Rattle.line_run.specs.Unheard.{slot_closed_by, first_emitted};
 use super::HostRun;
 use crate::hearings::{let_all_hear, names_of};
 use crate::unheard::first_emitted;
+use host_journal::Keeping;
 use host_network::{Given, push_named};
 use host_world::World;
 use node_store::BoxShelf;
 use scp_types::{Bytes, Event, NodeId, Refusal};
 use std::alloc::{AllocError, Global};
 
-impl HostRun {
+impl<K: Keeping> HostRun<K> {
     /// Puts an event to the network of a number. What it emits waits to be handed on. If the network is served, the
     /// other nodes hear it instead. An error says that it is out of memory, maybe for a hearing.
     pub(super) fn serve(
@@ -106,9 +107,9 @@ fn slot_closed_by(event: &Event) -> Option<u64>
 }
 
 /// The other nodes of a network hear what an event gave out.
-fn let_hear_of(
+fn let_hear_of<K: Keeping>(
     alloc: Global,
-    world: &mut World<BoxShelf>,
+    world: &mut World<BoxShelf, K>,
     number: u32,
     given: &Given,
 ) -> Result<(), AllocError>
@@ -128,9 +129,9 @@ fn let_hear_of(
 }
 
 /// The hosted nodes of the network of a number, ascending, if it is there.
-fn names(
+fn names<K: Keeping>(
     alloc: Global,
-    world: &World<BoxShelf>,
+    world: &World<BoxShelf, K>,
     number: u32,
 ) -> Result<Option<Vec<NodeId>>, AllocError>
     ensures { IfOk result (λ names. option_map (λ v. v.items) names ≡ hosted_names_in (log_at world.now number)) }

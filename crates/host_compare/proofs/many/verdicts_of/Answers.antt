@@ -1,5 +1,7 @@
 use denote.Param.{param}
 use denote.Param.Send.{IsSync, sendable}
+use Rattle.host_journal.specs.contracts.kept_entries.Kept as Kept
+use Rattle.host_journal.specs.contracts.kept_entries.KeptKeeping.TheImpl.{ghosts}
 use Rattle.host_world.specs.contracts.world.World as World
 use Rattle.std.proofs.Crossing.{crosses}
 use Rattle.std.proofs.Common.{◌∙◌, ap, subst, List, IfOk}
@@ -11,7 +13,7 @@ use Rattle.host_compare.specs.Questions.{AreVerdictsOn}
 use Rattle.host_compare.specs.declared.verdict.Verdict.{Verdict}
 use Rattle.scp_types.proofs.subject.Subject.TheSendSync as subject
 use Rattle.scp_types.specs.declared.subject.Subject.{Subject}
-use Rattle.host_world.proofs.Crossing.{world_sync}
+use Rattle.host_world.proofs.Crossing.{kept_world_sync}
 use Rattle.host_compare.proofs.Crossing.{global_sync, verdict_send}
 use Rattle.host_compare.proofs.ManyLaws.{all_ok}
 use Rattle.host_compare.proofs.many.verdicts_of.Goals as goal
@@ -32,20 +34,20 @@ map-requires-send-U g c κs within = search (sendable, crosses, verdict_send) de
 
 pub map-requires-send-F : goal.map-requires-send-F
 map-requires-send-F g c κs within =
-    let one : IsSync (World.the_row (param 0 g.row.S) (param 3 g.row.S-Place) g.S.Places) = world_sync (param 0 g.row.S) (param 3 g.row.S-Place) g.S.Places c.type_bounds.sync-S c.type_bounds.sync-S-Place in
-    let other : IsSync (World.the_row (param 1 g.row.T) (param 4 g.row.T-Place) g.T.Places) = world_sync (param 1 g.row.T) (param 4 g.row.T-Place) g.T.Places c.type_bounds.sync-T c.type_bounds.sync-T-Place in
+    let one : IsSync (World.the_row (param 0 g.row.S) Kept.the_row (param 3 g.row.S-Place) g.S.Places ghosts) = kept_world_sync (param 0 g.row.S) (param 3 g.row.S-Place) g.S.Places c.type_bounds.sync-S c.type_bounds.sync-S-Place in
+    let other : IsSync (World.the_row (param 1 g.row.T) Kept.the_row (param 4 g.row.T-Place) g.T.Places ghosts) = kept_world_sync (param 1 g.row.T) (param 4 g.row.T-Place) g.T.Places c.type_bounds.sync-T c.type_bounds.sync-T-Place in
     search (sendable, crosses, global_sync) depth 40
 
 pub map-requires-sync-F : goal.map-requires-sync-F
 map-requires-sync-F g c κs within =
-    let one : IsSync (World.the_row (param 0 g.row.S) (param 3 g.row.S-Place) g.S.Places) = world_sync (param 0 g.row.S) (param 3 g.row.S-Place) g.S.Places c.type_bounds.sync-S c.type_bounds.sync-S-Place in
-    let other : IsSync (World.the_row (param 1 g.row.T) (param 4 g.row.T-Place) g.T.Places) = world_sync (param 1 g.row.T) (param 4 g.row.T-Place) g.T.Places c.type_bounds.sync-T c.type_bounds.sync-T-Place in
+    let one : IsSync (World.the_row (param 0 g.row.S) Kept.the_row (param 3 g.row.S-Place) g.S.Places ghosts) = kept_world_sync (param 0 g.row.S) (param 3 g.row.S-Place) g.S.Places c.type_bounds.sync-S c.type_bounds.sync-S-Place in
+    let other : IsSync (World.the_row (param 1 g.row.T) Kept.the_row (param 4 g.row.T-Place) g.T.Places ghosts) = kept_world_sync (param 1 g.row.T) (param 4 g.row.T-Place) g.T.Places c.type_bounds.sync-T c.type_bounds.sync-T-Place in
     search (sendable, crosses, global_sync) depth 40
 
 pub collect-requires-send-Self : goal.collect-requires-send-Self
 collect-requires-send-Self g c κs within =
-    let one : IsSync (World.the_row (param 0 g.row.S) (param 3 g.row.S-Place) g.S.Places) = world_sync (param 0 g.row.S) (param 3 g.row.S-Place) g.S.Places c.type_bounds.sync-S c.type_bounds.sync-S-Place in
-    let other : IsSync (World.the_row (param 1 g.row.T) (param 4 g.row.T-Place) g.T.Places) = world_sync (param 1 g.row.T) (param 4 g.row.T-Place) g.T.Places c.type_bounds.sync-T c.type_bounds.sync-T-Place in
+    let one : IsSync (World.the_row (param 0 g.row.S) Kept.the_row (param 3 g.row.S-Place) g.S.Places ghosts) = kept_world_sync (param 0 g.row.S) (param 3 g.row.S-Place) g.S.Places c.type_bounds.sync-S c.type_bounds.sync-S-Place in
+    let other : IsSync (World.the_row (param 1 g.row.T) Kept.the_row (param 4 g.row.T-Place) g.T.Places ghosts) = kept_world_sync (param 1 g.row.T) (param 4 g.row.T-Place) g.T.Places c.type_bounds.sync-T c.type_bounds.sync-T-Place in
     search (sendable, crosses, global_sync, subject.the_field_sync) depth 60
 
 pub collect-requires-send-Self-Item : goal.collect-requires-send-Self-Item

@@ -5,7 +5,7 @@ use Rattle.line_run.specs.Unheard.{WaitsAfter}
 use Rattle.line_run.proofs.host_run.HostRun.serve.Goals as goal
 
 pub returns-then-is_served : goal.returns-then-is_served
-returns-then-is_served c =
+returns-then-is_served g c =
     let old : Hosting = record { waiting = c.self.inside.nets.waiting; named = c.self.inside.nets.named; unheard = c.self.inside.unheard; logs = c.self.inside.world } in
     let new : Hosting = record { waiting = c.self.inside.nets.waiting; named = c.self.inside.nets.named; unheard = c.self.inside.unheard; logs = c.let_hear_of.new.world } in
     subst (λ (h : Hosting). IsEventServed c.args.number c.args.event (Ok c.in-Ok.given) h new) c.self.view_is (
@@ -19,7 +19,7 @@ returns-then-is_served c =
     )
 
 pub returns-in_ok-note-in-Ok : goal.returns-in_ok-note-in-Ok
-returns-in_ok-note-in-Ok c =
+returns-in_ok-note-in-Ok g c =
     let old : Hosting = record { waiting = c.self.inside.nets.waiting; named = c.self.inside.nets.named; unheard = c.self.inside.unheard; logs = c.self.inside.world } in
     let new : Hosting = record { waiting = c.self.inside.nets.waiting; named = c.self.inside.nets.named; unheard = c.note.new.self; logs = c.apply.new.self } in
     subst (λ (h : Hosting). IsEventServed c.args.number c.args.event (Ok c.in-Ok.given) h new) c.self.view_is (

@@ -29,7 +29,7 @@ returns-in-None g c = λ old e before.
     let taken : IsStepTaken old e c.args.stepped now = subst (λ (m : Machine). IsStepTaken old e c.args.stepped m) (sym c.self.view_is) before in
     let done : IsStepped old e c.in-Ok.stepped now = subst (λ (r : Result Stepped Refusal). IfOk r (λ t. IsStepped old e t now)) c.in-Ok.is taken.done in
     let s : Served = record { refused = None; stale = c.in-Ok.stepped.stale; slot = 0; told = c.nothing-following.result.told } in
-    subst (λ (m : Machine). IsServedBy old e m s) (sym c.forget_closed.ensures.state)
+    subst (λ (m : Machine). IsServedBy old e m s) (sym c.forget_unheld.ensures.state)
     (served-alone old now e c.in-Ok.stepped s done c.in-None.is refl refl refl (ap tellings_of c.nothing-following.ensures.1))
 
 pub returns : goal.returns
@@ -48,5 +48,6 @@ returns g c = λ old e before.
     let us : c.deref.result.now ≡ names_of c.self.inside.network.config.nodes = c.deref.ensures.value ∙ c.self.invariant in
     let all : HaveHeard c.in-Some.slot (all_hearings (names_of c.self.inside.network.config.nodes) (named (emissions given.outs.items) given.marks.items)) now heard.0 new =
     subst₂ (λ ns es. HaveHeard c.in-Some.slot (all_hearings ns es) now heard.0 new) us emitted heard.2 in
-    served-and-heard old now new e stepped c.in-Some.slot c.in-Some.node (tellings_of first.told.items) (tellings_of c.hear_all.new.following.told.items) heard.0 s done c.in-Some.is taken.config
-    all told heard.1 refl refl refl refl
+    subst (λ (m : Machine). IsServedBy old e m s) (sym c.forget_unheld-in-Some.ensures.state)
+    (served-and-heard old now new e stepped c.in-Some.slot c.in-Some.node (tellings_of first.told.items) (tellings_of c.hear_all.new.following.told.items) heard.0 s done c.in-Some.is taken.config
+    all told heard.1 refl refl refl refl)
