@@ -32,6 +32,7 @@ pub fn hearing(slot: u64, node: NodeId, emission: &Emission) -> Event
 
 /// Has the emissions among these outs wait behind the others, each by its number. If it is out of memory, a part may
 /// have been added.
+#[inline(always)]
 pub fn push_named(
     outs: &[Out],
     marks: &[u64],

@@ -164,6 +164,7 @@ impl EmissionLog {
     }
 }
 
+#[inline(always)]
 fn make_room(
     emitted: &mut Vec<Filed>,
     places: &mut PlacesByKind,

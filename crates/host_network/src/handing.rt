@@ -77,6 +77,7 @@ impl<S: Shelf> Network<S> {
     }
 
     /// What is to be done if a node hears what another one has emitted. It takes no memory.
+    #[inline(always)]
     pub(crate) fn plan_hear(
         &self,
         slot: u64,
@@ -110,6 +111,7 @@ impl<S: Shelf> Network<S> {
     }
 
     /// On what an envelope from a name to a node draws, if that has room for one more event.
+    #[inline(always)]
     fn pair_room(&self, spot: &Spot, node: &NodeId, from: &NodeId) -> Result<Drawn, Refusal>
         requires slot { (i : ℕ) × IsSlotThere self.now i spot.now.slot_at }
         requires node { index_of_name self.now.config.nodes node.now ≡ Some spot.now.node_at }

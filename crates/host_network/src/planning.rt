@@ -22,6 +22,7 @@ impl<S: Shelf> Network<S> {
     /// What is to be done for an event, or the first refusal that applies, or that it is out of memory. In the last
     /// case no refusal applies, or bytes came to a hosted node that may take memory to be read. Nothing is changed.
     #[tactic(auto, using(crate::proofs::Planned::planned))]
+    #[inline(always)]
     pub(crate) fn plan(&self, event: &Event) -> Result<Plan, Refusal>
         ensures { IsPlanned self.now (step_of event.now) result }
     {

@@ -44,6 +44,7 @@ impl<S: Shelf> Network<S> {
     }
 
     /// On what an event from a name to a node draws.
+    #[inline(always)]
     pub(crate) fn pair(&self, spot: &Spot, node: &NodeId, from: &NodeId) -> Drawn
         requires node { index_of_name self.now.config.nodes node.now ≡ Some spot.now.node_at }
         ensures drawn { (i : ℕ) → index_of_slot (map slot_of (machine_of self.now).slots) i ≡ Some spot.now.slot_at → IsDrawn (machine_of self.now) result (pair_source self.now.config.roster i node.now from.now) }
@@ -65,6 +66,7 @@ impl<S: Shelf> Network<S> {
     }
 
     /// Whether what is drawn on has room for one more event, or why not.
+    #[inline(always)]
     pub(crate) fn has_room(&self, drawn: &Drawn) -> Result<(), Refusal>
         requires { IsDrawnThere (machine_of self.now) drawn.now }
         ensures { MatchResult result (λ _. HasRoomForEvent (machine_of self.now) drawn.now) (λ r. HasNoRoom (machine_of self.now) drawn.now r) }

@@ -119,6 +119,7 @@ impl Tallies {
 }
 
 /// Counts an event of a node, if it draws on a share of the node. There is room for it.
+#[inline(always)]
 pub(crate) fn count(own: &mut u64, heard: &mut Tallies, charge: &Charge)
     requires few { HasRoomInCounts charge.now.drawn charge.now.size own.old heard.old.tallies }
     requires room { HasRoomToTally charge.now.drawn heard.old }

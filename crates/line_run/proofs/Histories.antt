@@ -1,6 +1,6 @@
 -- Scripts that are run to their ends have histories.
 use Rattle.std.proofs.Common.{◌≡◌, ℕ, Bool, List, Result, Ok, refl, sym, subst}
-use Rattle.std.specs.Prelude.{string_bytes}
+use Rattle.std.specs.Prelude.{Option, string_bytes}
 use Rattle.std.specs.List.{enumerate_from}
 use Rattle.line_script.specs.Script.{Bytes}
 use Rattle.line_script.specs.Runs.{Passes, Runs}
@@ -19,7 +19,7 @@ use Rattle.line_run.specs.Unprinted.{RefusesUnprinted, TellsUnprinted, Unprinted
 use Rattle.line_run.proofs.HistoryLaws.{scripts_have_histories}
 use Rattle.line_run.specs.Comparisons.{IsComparison, IsExplained, IsVerdictOnHistories, is_difference}
 use Rattle.line_run.specs.declared.answer.Answer.{Answer}
-use Rattle.line_run.specs.Scripts.{HasEnded, start_of}
+use Rattle.line_run.specs.Scripts.{IsEndOfFile, start_of}
 
 passed-has : (s t : Unprinted) (line written : Bytes) → HaveHistory s.hosting.logs → Passes TellsUnprinted s line written t → HaveHistory t.hosting.logs
 passed-has s t line written has (skipped empty) = has
@@ -34,8 +34,9 @@ run-has s t lines printed end has ok short = absurd (cc)
 start-has : (traced : Bool) → HaveHistory (start_of traced).hosting.logs
 start-has traced = scripts_have_histories.first
 
-pub ends_have_histories : (traced : Bool) (text : Bytes) (end : Unprinted) → HasEnded (start_of traced) text end → HaveHistory end.hosting.logs
-ends_have_histories traced text end ended =
+pub ends_have_histories : (traced : Bool) (file : Option Bytes) (end : Unprinted) → IsEndOfFile traced file end → HaveHistory end.hosting.logs
+ends_have_histories traced file end is =
+    let ended = is.ended in
     scripts_have_histories.last ended.last end
     (run-has (start_of traced) ended.last (enumerate_from 1 ended.ran.lines) ended.ran.printed (Ok tt) (start-has traced) refl ended.ran.ran) ended.finished
 

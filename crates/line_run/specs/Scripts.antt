@@ -1,5 +1,5 @@
 -- Scripts of networks that commands run to their end without printing.
-use Rattle.std.specs.Prelude.{◌≡◌, ◌⊎◌, ◌<◌, ℕ, Bool, true, not, List, [], length, Option, Some, None, Ok, Err, IfSome}
+use Rattle.std.specs.Prelude.{◌≡◌, ◌⊎◌, ◌<◌, ℕ, Bool, true, false, not, List, [], length, Option, Some, None, Ok, Err, IfSome}
 use Rattle.std.specs.Prelude.{filter, slice_get, if◌then◌else◌}
 use Rattle.std.specs.List.{enumerate_from}
 use Rattle.line_script.specs.Script.{AreLines, Bytes, is_no_record}
@@ -56,7 +56,7 @@ HasStopped tells refuses start file stop.CannotWrite = Unit {0}
 
 -- ---- for what becomes of the networks
 
--- the networks after a script, and the script
+-- the networks after a script, and the text that is kept of it
 pub record Story : Type 0 where
   pub run : Unprinted
   pub text : Bytes
@@ -71,9 +71,16 @@ pub record HasEnded (start : Unprinted) (text : Bytes) (end : Unprinted) : Type 
   pub ran : HaveRun TellsUnprinted RefusesUnprinted start text last
   pub finished : IsFinishedUnprinted last end
 
--- a file is the script, which is run to its end
+-- a file is a script, which is run to this end
+pub record IsEndOfFile (traced : Bool) (file : Option Bytes) (end : Unprinted) : Type 0 where
+  pub text : Bytes
+  pub is_text : IsTextOf file text
+  pub ended : HasEnded (start_of traced) text end
+
+-- a file is the script, which is run to its end, and is kept if its lines are traced
 abbrev pub IsStoryOf : Bool → Option Bytes → Story → Type 0
-IsStoryOf traced file story = IsTextOf file story.text × HasEnded (start_of traced) story.text story.run
+IsStoryOf false file story = IsEndOfFile false file story.run
+IsStoryOf true file story = IsTextOf file story.text × HasEnded (start_of true) story.text story.run
 
 -- a run of the networks of a file stopped so, without printing
 abbrev pub StopsStory : Bool → Option Bytes → Stop → Type 0

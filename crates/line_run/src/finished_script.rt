@@ -4,7 +4,7 @@ ghost use Rattle.std.specs.Prelude.{◌≡◌, ◌≤◌, IfErr, IfOk, Some, len
 ghost use Rattle.line_run.specs.Histories.{HaveHistory};
 ghost use Rattle.line_run.specs.Unprinted.{origin_in};
 ghost use Rattle.line_run.specs.DeterminedAnswers.{ScriptsHaveOneEnd};
-ghost use Rattle.line_run.specs.Scripts.{HasEnded, IsLineAt, IsLineOf, IsStoryOf, StopsStory, start_of};
+ghost use Rattle.line_run.specs.Scripts.{IsEndOfFile, IsLineAt, IsLineOf, IsStoryOf, StopsStory, start_of};
 ghost use Rattle.line_script.specs.Script.{is_no_record as no_record};
 
 use crate::UnprintedRun;
@@ -14,10 +14,10 @@ use std::io;
 use std::io::Read;
 use std::marker::Model;
 
-/// A script of networks that has been run to its end.
+/// A script of networks that has been run to its end, and its text if it is traced.
 ///
-/// Its text is no longer than a script may be: for example, it may have 64 MiB, and not one byte more. Its journals are
-/// those of a history of a host.
+/// A text that is kept is no longer than a script may be: for example, it may have 64 MiB, and not one byte more. The
+/// journals are those of a history of a host.
 #[derive(Drop)]
 pub struct FinishedScript {
     run: UnprintedRun,
@@ -54,8 +54,13 @@ impl FinishedScript {
         ensures story { IfOk result (IsStoryOf traced (R.remaining script.old)) }
         ensures stopped { IfErr result (StopsStory traced (R.remaining script.old)) }
     {
+        if !traced {
+            let run = run_to_end(alloc, script, false)?;
+            let text = Vec::new(alloc);
+            return Ok(FinishedScript { run, text });
+        }
         let text = read_whole(alloc, script)?;
-        let run = run_to_end(alloc, &text, traced)?;
+        let run = run_to_end(alloc, &mut text.as_slice(), true)?;
         Ok(FinishedScript { run, text })
     }
 
@@ -79,14 +84,13 @@ impl FinishedScript {
     }
 }
 
-/// Runs the lines of a text in order without printing, and ends the run.
-fn run_to_end(alloc: Global, text: &[u8], traced: bool) -> Result<UnprintedRun, Stop>
-    ensures ended { IfOk result (HasEnded (start_of traced) text.now) }
-    ensures stopped { IfErr result (StopsStory traced (Some text.now)) }
+/// Runs the lines of a script in order without printing, and ends the run.
+fn run_to_end<R: Read>(alloc: Global, script: &mut R, traced: bool) -> Result<UnprintedRun, Stop>
+    ensures ended { IfOk result (IsEndOfFile traced (R.remaining script.old)) }
+    ensures stopped { IfErr result (StopsStory traced (R.remaining script.old)) }
 {
     let mut run = new_run(alloc, traced);
-    let mut lines = text;
-    run_script(alloc, &mut run, &mut lines, &mut io::sink())?;
+    run_script(alloc, &mut run, script, &mut io::sink())?;
     match run.finish() {
         Ok(()) => Ok(run),
         // Memory: finishing has none.

@@ -63,6 +63,7 @@ fn let_others_hear<K: Keeping>(
 }
 
 /// Has a node hear an emission, unless it is its own, and what it emits wait. Answers the refusal.
+#[inline(always)]
 fn hear<K: Keeping>(
     world: &mut World<BoxShelf, K>,
     number: u32,

@@ -1,15 +1,15 @@
 -- Lines are what `AreLines` says, and fields what a cut at each space gives.
 use Rattle.std.proofs.Common.{◌≡◌, ◌∙◌, ℕ, ◌+◌, ◌-◌, ◌<◌, List, [], ◌∷◌, ◌++◌, Bool, true, false, refl, sym, ap, subst, length, take, drop, arith, cond, one-add, add-one}
 use Rattle.std.specs.Prelude.{◌==◌, ◌&&◌, ◌≤◌, not, nat_lt, if◌then◌else◌, Some, None, position}
-use Rattle.std.specs.List.{join_with_byte, list_all, onto_first, slice_split, position_or_len}
+use Rattle.std.specs.List.{enumerate_from, join_with_byte, list_all, onto_first, slice_split, position_or_len}
 use Rattle.std.specs.Char.{is_ascii_graphic}
 use Rattle.std.proofs.lemmas.Bool.{ltb-false}
-use Rattle.std.proofs.lemmas.List.{take_all, length-drop}
+use Rattle.std.proofs.lemmas.List.{take_all, length-drop, length-take}
 use Rattle.std.proofs.Math.ListN.{drop_of_length-le}
 use Rattle.std.proofs.lemmas.Bool.Decides.{nat_tests, Decides-eqb}
 use Rattle.std.proofs.lemmas.List.Splits.{join_with_byte-slice_split}
 use Rattle.std.proofs.lemmas.List.Folds.{list_all-append}
-use Rattle.line_script.specs.Script.{Bytes, lines_with_feeds, text_with_last_feed, has_no_feed, AreLines, lines_of, is_field, AreFields, is_ascii, is_no_record, IsBad}
+use Rattle.line_script.specs.Script.{Bytes, lines_with_feeds, text_with_last_feed, has_no_feed, AreLines, lines_of, numbered_lines, is_field, AreFields, is_ascii, is_no_record, IsBad}
 
 pub both_true : (a b : Bool) → (a && b) ≡ true → (a ≡ true) × (b ≡ true)
 both_true true b e = (refl, e)
@@ -115,6 +115,47 @@ line_without_feed text e missing =
     let whole : take (feed_at text) text ≡ text = take_all (feed_at text) text past in
     let rest : drop (feed_at text + 1) text ≡ [] = drop_of_length-le text (omega arith) in
     first_line_cut text e ∙ simp (whole, rest)
+
+-- ---- the first of numbered lines, and those behind it
+
+pub first_numbered : (left : ℕ × Bytes) (n : ℕ) (line rest : Bytes) → left.0 ≡ n → lines_of left.1 ≡ line ∷ lines_of rest
+    → (more : List (ℕ × Bytes)) × (numbered_lines left ≡ (n, line) ∷ more)
+first_numbered left n line rest e cut =
+    let more = enumerate_from (left.0 + 1) (lines_of rest) in
+    (more, ap (enumerate_from left.0) cut ∙ ap (λ k. (k, line) ∷ more) e)
+
+abbrev second : List (ℕ × Bytes) → Bytes
+second [] = []
+second (l ∷ more) = l.1
+
+abbrev behind : List (ℕ × Bytes) → List (ℕ × Bytes)
+behind [] = []
+behind (l ∷ more) = more
+
+first_is_cut : (text line : Bytes) (n m : ℕ) (more : List (ℕ × Bytes)) → 0 < length text → numbered_lines (n, text) ≡ (m, line) ∷ more
+    → (take (feed_at text) text ≡ line) × (enumerate_from (n + 1) (lines_of (drop (feed_at text + 1) text)) ≡ more)
+first_is_cut text line n m more some e =
+    let cut : (n, take (feed_at text) text) ∷ enumerate_from (n + 1) (lines_of (drop (feed_at text + 1) text)) ≡ (m, line) ∷ more =
+    sym (ap (enumerate_from n) (first_line_cut text some)) ∙ e in
+    (ap second cut, ap behind cut)
+
+-- the first line, and the line feed behind it, are passed
+pub behind_first : (text line : Bytes) (n m k : ℕ) (more : List (ℕ × Bytes)) → numbered_lines (n, text) ≡ (m, line) ∷ more
+    → length line ≡ k → k < length text → numbered_lines (n + 1, drop (k + 1) text) ≡ more
+behind_first text line n m k more e count inside =
+    let is = first_is_cut text line n m more (omega (arith, inside)) e in
+    let at : feed_at text ≡ k = omega (arith, inside, count, ap length is.0, length-take (feed_at text) text) in
+    subst (λ f. enumerate_from (n + 1) (lines_of (drop (f + 1) text)) ≡ more) at is.1
+
+-- the first line is all that is left
+pub behind_last : (text line : Bytes) (n m k : ℕ) (more : List (ℕ × Bytes)) → numbered_lines (n, text) ≡ (m, line) ∷ more
+    → length line ≡ k → length text ≤ k → [] ≡ more
+behind_last [] line n m k more e count short = cc
+behind_last (b ∷ text) line n m k more e count short =
+    let is = first_is_cut (b ∷ text) line n m more (omega arith) e in
+    let past : length (b ∷ text) ≤ feed_at (b ∷ text) = omega (arith, short, count, ap length is.0, length-take (feed_at (b ∷ text)) (b ∷ text)) in
+    let none : drop (feed_at (b ∷ text) + 1) (b ∷ text) ≡ [] = drop_of_length-le (b ∷ text) (omega (arith, past)) in
+    ap (λ rest. enumerate_from (n + 1) (lines_of rest)) (sym none) ∙ is.1
 
 -- ---- fields
 

@@ -11,6 +11,7 @@ mod hexadecimal;
 mod input;
 mod name;
 mod number;
+mod remaining;
 mod run;
 mod script;
 mod slices;

@@ -1,12 +1,13 @@
 //! Running a script: its lines go one by one through what runs them, and what they print is
 //! written.
 
-ghost use Rattle.std.specs.Prelude.{◌≡◌, ◌≢◌, ◌⊎◌, ◌<◌, ◌≤◌, ◌++◌, ◌∷◌, ℕ, [], length, map, option_map, string_bytes, Err, IfOk, IfSome, OnOk, IsOkUnless};
+ghost use Rattle.std.specs.Prelude.{◌≡◌, ◌≢◌, ◌⊎◌, ◌<◌, ◌≤◌, ◌++◌, ◌∷◌, ℕ, [], length, map, option_map, string_bytes, vec_len, Err, IfOk, IfSome, OnOk, IsOkUnless};
 ghost use Rattle.std.specs.Io.KnownBytes.{Appends, Keeps};
 ghost use Rattle.line_script.specs.Runs.{Passes, LineFails, HasRunLine, HasRunText, HasRunScript, on_a_line};
 
 use crate::input::{LONGEST_SCRIPT, ReadError, read_whole};
-use crate::script::{Line, LineError, Lines, fields_of};
+use crate::remaining::RemainingLines;
+use crate::script::{Line, LineError, fields_of};
 use std::alloc::Global;
 use std::io::{Read, Write};
 
@@ -80,7 +81,7 @@ pub fn run_script<S: LineRunner, R: Read, W: Write>(
 {
     match read_whole(alloc, script) {
         Ok(text) => {
-            let ran = run_lines(alloc, runner, &text, out);
+            let ran = run_lines(alloc, runner, text, out);
             hand_on(ran, out)
         }
         Err(error) => Err(Stop::from(error)),
@@ -112,17 +113,22 @@ pub(crate) fn flush<W: Write>(out: &mut W) -> Result<(), Stop>
 fn run_lines<S: LineRunner, W: Write>(
     alloc: Global,
     runner: &mut S,
-    text: &[u8],
+    text: Vec<u8>,
     out: &mut W,
 ) -> Result<(), Stop>
-    requires { length text.now ≤ LONGEST_SCRIPT }
-    ensures { HasRunText S.tells S.refuses runner.old text.now
+    requires { vec_len text ≤ LONGEST_SCRIPT }
+    ensures { HasRunText S.tells S.refuses runner.old text.items
         (W.contents out.old) (W.contents out.new) result runner.new }
 {
-    for line in Lines::new(text) {
+    let mut left = RemainingLines::of(text);
+    loop {
+        let Some(line) = left.first() else {
+            return Ok(());
+        };
+        let bytes = line.bytes.len();
         run_line(alloc, runner, line, out)?;
+        left.pass(bytes);
     }
-    Ok(())
 }
 
 /// Runs one line and writes what it prints.

@@ -84,7 +84,7 @@ impl<'a> Iterator for Lines<'a> {
 
 /// The first line of a text, and what follows the line feed that ends it.
 #[tactic(auto, using(crate::proofs::ScriptLemmas::line_before_feed, crate::proofs::ScriptLemmas::line_without_feed))]
-fn first_line(text: &[u8]) -> (&[u8], &[u8])
+pub(crate) fn first_line(text: &[u8]) -> (&[u8], &[u8])
     requires { 0 < length text.now }
     ensures cut { lines_of text.now ≡ result.0.now ∷ lines_of result.1.now }
     ensures shorter { length result.1.now < length text.now }

@@ -76,6 +76,7 @@ pub(crate) fn votes_or<'a>(settled: &'a Option<Votes>, before: &'a Votes) -> &'a
     }
 }
 
+#[inline(always)]
 pub(crate) fn set_settled(votes: &mut Votes, settled: Option<Votes>)
     ensures { votes.new ≡ unwrap_or settled votes.old }
 {

@@ -51,6 +51,7 @@ pub(crate) fn answer<S: Shelf>(
 
 /// The same if only the node's rows or slices have changed. If the votes stay nothing is compared, since nothing is given
 /// out.
+#[inline(always)]
 pub(crate) fn answer_anew<S: Shelf>(
     alloc: Global,
     archive: &mut Archive<S>,

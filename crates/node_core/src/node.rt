@@ -396,6 +396,7 @@ impl Node {
 
     /// Whether an envelope of this sender is surely no more than a row to the node. That is so once a value is
     /// externalized, as no rule applies then, or if the sender is a stranger and no leader.
+    #[inline(always)]
     fn adds_row_alone(&self, sender: &NodeId) -> bool
         ensures { IsTrue result → AddsRowAlone self.now.node sender.now }
     {

@@ -44,6 +44,7 @@ pub(crate) fn outs(
     Ok(given_out)
 }
 
+#[inline(always)]
 fn push_when(given_out: &mut Vec<Out>, holds: bool, out: Out) -> Result<(), AllocError>
     ensures { OnOk result (given_out.new.items ≡ given_out.old.items ++ when holds out) }
 {

@@ -133,6 +133,7 @@ fn settle_on<S: Sight>(
 
 /// Sets what the part of a pass with these rules makes of votes; none if they stay the same. After an error what is set
 /// means nothing.
+#[inline(always)]
 fn change_by<S: Sight>(
     alloc: Global,
     context: &PassContext<'_, S>,

@@ -23,6 +23,7 @@ pub(crate) enum Stage {
 }
 
 /// Whether a claim has come to this stage, by a node in this position.
+#[inline(always)]
 pub(crate) fn has_come_to<S: Sight>(
     alloc: Global,
     stage: Stage,

@@ -124,6 +124,7 @@ fn next_counter<S: Sight>(sight: &S, position: &Option<Statement>, above: u32) -
 /// at least that (after the Stellar Consensus Protocol draft). Without a ballot nothing changes, and no quorum is
 /// searched for if the timer was last armed for that counter.
 #[tactic(auto, unfolding(scp_spec::specs::Passes::arm))]
+#[inline(always)]
 pub fn arm<S: Sight>(
     alloc: Global,
     sight: &S,

@@ -9,6 +9,7 @@ use std::alloc::AllocError;
 /// The ballot statement of the votes as they are, whether or not it may be sent like that; a node without a
 /// ballot has none (the Stellar Consensus Protocol draft). It takes no memory.
 #[tactic(auto, unfolding(scp_spec::specs::States::position, scp_spec::specs::States::position_in))]
+#[inline(always)]
 pub fn position<'a>(votes: &'a Votes) -> Option<LentStatement<'a>>
     ensures { result ≡ position votes.now }
 {
@@ -38,6 +39,7 @@ pub fn position<'a>(votes: &'a Votes) -> Option<LentStatement<'a>>
 
 /// The position as a statement of its own. It takes no memory; an error says that a value has too many
 /// owners.
+#[inline(always)]
 pub fn own_position(votes: &Votes) -> Result<Option<Statement>, AllocError>
     ensures { IfOk result (λ o. o ≡ position votes.now) }
 {
@@ -82,6 +84,7 @@ pub(crate) fn high_counter(votes: &Votes, ballot: &Ballot) -> u32
 
 /// The counter from which on commit is voted for; 0 if it is not.
 #[tactic(auto, unfolding(scp_spec::specs::States::commit_counter))]
+#[inline(always)]
 pub(crate) fn commit_counter(votes: &Votes, ballot: &Ballot) -> u32
     ensures { result ≡ commit_counter votes.now ballot.now }
 {

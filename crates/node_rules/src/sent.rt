@@ -13,6 +13,7 @@ use scp_types::{Ballot, LentBallot, LentStatement, Phase, Votes};
 /// prepared is, the greatest ballot of the same value that is not above is sent instead (after the Stellar Consensus
 /// Protocol draft). If the aborted counter is above the ballot's counter, that counter is sent (this host's profile).
 #[tactic(auto, unfolding(scp_spec::specs::States::sent_vote, scp_spec::specs::States::sent_in, scp_spec::specs::States::position, scp_spec::specs::States::position_in))]
+#[inline(always)]
 pub fn sent_vote<'a>(votes: &'a Votes) -> Option<LentStatement<'a>>
     ensures { result ≡ sent_vote votes.now }
 {

@@ -34,7 +34,7 @@ pub struct Alike {
 
 impl Alike {
     /// The groups of these rows; nothing among so few nodes that each is asked, or so many that a set has no room for
-    /// them. Room for all groups is made here. An error says that it is out of memory.
+    /// them. Room for one group is made here. An error says that it is out of memory.
     pub(crate) fn of_rows<S: Places>(
         alloc: Global,
         own: &NodeId,
@@ -47,7 +47,7 @@ impl Alike {
             return Ok(None);
         }
         let mut alike = Alike {
-            groups: Vec::with_capacity(alloc, MOST_GROUPS)?,
+            groups: Vec::with_capacity(alloc, 1)?,
             rest: [0u64; FEW_WORDS],
         };
         for place in 0..count {
@@ -108,7 +108,7 @@ impl Alike {
         empty
     }
 
-    /// Puts a place into a new group, or into the rest if there are as many groups as can be.
+    /// Puts a place into a new group, or into the rest if there are as many groups as can be or it is out of memory.
     fn begin(&mut self, place: usize)
         ensures groups { place / 64 < 8 → (said : ℕ → Option Statement) → IsTrue (is_some (said place)) → AreGroups said self.old.groups.items → AreGroups said self.new.groups.items }
         ensures outside { place / 64 < 8 → (i : ℕ) → IsOutside self.new i → (place ≢ i) × IsOutside self.old i }
@@ -124,7 +124,8 @@ impl Alike {
     }
 }
 
-/// Has the groups follow a new row of the node at this place, if they are known. It takes no memory.
+/// Has the groups follow a new row of the node at this place, if they are known. Out of memory for a group, its node is
+/// in the rest.
 pub(crate) fn follow<S: Places>(
     alike: &mut Option<Alike>,
     own: &NodeId,

@@ -276,6 +276,7 @@ fn effect_on<S: Places>(
 
 /// Has the region follow a row by which the reach stays; after any other one nothing is known. The ballots and values
 /// that are listed stay as they are.
+#[inline(always)]
 fn apply(known: &mut Option<Box<KnownReach>>, effect: Effect)
     ensures known { (c : Configured) (table : List Sent) (e : Sent) → IsEffect c table e (region_of (reach_in known.old)) effect → KnowsRegion c table (region_of (reach_in known.old)) → KnowsRegion c (with_row e table) (region_of (reach_in known.new)) }
     ensures reach { IsTrue (is_some known.new) → (c : Configured) (table : List Sent) (e : Sent) → IsEffect c table e (region_of (reach_in known.old)) effect → KnowsRegion c table (region_of (reach_in known.old)) → ReachesSame c.name c.slices table (with_row e table) }

@@ -70,6 +70,7 @@ impl ListedBallots {
     }
 
     #[tactic(auto, using(crate::proofs::ListedLaws::as_before))]
+    #[inline(always)]
     fn add_if(&mut self, ballot: &Option<LentBallot>) -> Result<(), AllocError>
         ensures { OnOk result (AreListed self.new (self.old ++ filter has_positive_counter (option_to_list ballot.now))) }
     {
@@ -80,6 +81,7 @@ impl ListedBallots {
     }
 
     /// Lists a ballot with a counter from 1 on, if it is not listed yet. An error says that it is out of memory.
+    #[inline(always)]
     fn add(&mut self, ballot: &LentBallot) -> Result<(), AllocError>
         ensures { OnOk result (AreListed self.new (self.old ++ filter has_positive_counter (ballot.now ∷ []))) }
     {

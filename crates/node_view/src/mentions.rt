@@ -44,6 +44,7 @@ fn is_mentioned_by_one<S: Places>(
 }
 
 #[tactic(auto, using(crate::proofs::Leaving::one_of_append))]
+#[inline(always)]
 fn mentions(mention: Mention, statement: &Statement, ballot: &LentBallot) -> bool
     ensures { result ≡ is_one_of (mentioned_by mention statement.now) ballot.now }
 {

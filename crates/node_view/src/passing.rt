@@ -62,6 +62,7 @@ impl<'a, S: Places> Supporters<'a, S> {
     }
 
     /// Adds to the empty set the places of those who pass: by these groups, if they are known, or else each is asked.
+    #[inline(always)]
     pub(crate) fn add_to(&self, places: &mut [u64], groups: Option<&[[u64; FEW_WORDS]]>)
         requires groups { IfSome groups (λ gs. AreAllGrouped (get_or self.now.rows.now.nodes self.now.own_place 0) self.now.rows.now gs.now) }
         requires empty { IsEmptySet (length self.now.rows.now.nodes) places.old }

@@ -128,6 +128,7 @@ impl<'a, S: Places> ReachedRows<'a, S> {
     }
 
     /// The row of the node at this place among the reached ones.
+    #[inline(always)]
     pub(crate) fn row_at(&self, place: usize) -> Option<&'a Envelope>
         requires { place < length self.now.nodes }
         ensures { option_map (λ r. r.now) result ≡ row self.now.table (get_or self.now.nodes place 0) self.now.kind }
@@ -139,6 +140,7 @@ impl<'a, S: Places> ReachedRows<'a, S> {
     }
 
     /// The row of a node that is not gathered: by its place in the table, if that is kept, or else by a look-up.
+    #[inline(always)]
     fn row_there(&self, place: usize) -> Option<&'a Envelope>
         requires { place < length self.now.nodes }
         ensures { option_map (λ r. r.now) result ≡ row self.now.table (get_or self.now.nodes place 0) self.now.kind }

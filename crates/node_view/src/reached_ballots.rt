@@ -118,6 +118,7 @@ fn leave_mentioned<S: Places>(
 }
 
 /// Takes out a ballot, if there is one, unless some row speaks of it in this way.
+#[inline(always)]
 fn unless_mentioned<S: Places>(
     listed: &mut ListedBallots,
     mention: Mention,

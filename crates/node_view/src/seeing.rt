@@ -157,6 +157,7 @@ impl<'a, S: Places> View<'a, S> {
     }
 
     /// Which of the rows that a question asks say the same, if that is known.
+    #[inline(always)]
     fn groups_for(&self, question: &Question<'_>) -> Option<&[[u64; FEW_WORDS]]>
         ensures { IfSome result (λ gs. AreAllGrouped self.now.own.now (record { nodes = self.now.region.now.nodes.items; table = self.now.table.now; kind = kind_asked question.now }) gs.now) }
     {
@@ -167,6 +168,7 @@ impl<'a, S: Places> View<'a, S> {
     }
 
     /// Whether some quorum that contains the node passes. `places` is the empty set of the reached nodes.
+    #[inline(always)]
     fn has_quorum(&self, places: &mut [u64], own_passes: bool, question: &Question<'_>) -> bool
         requires { IsEmptySet (length self.now.region.now.nodes.items) places.old }
         ensures { result ≡ (seen self.now.own.now self.now.slices.now self.now.leaders.now self.now.table.now).quorum (kind_asked question.now) own_passes (asks question.now) }

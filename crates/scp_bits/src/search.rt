@@ -18,6 +18,7 @@ use crate::places::{clear_place, has_place};
 ///
 /// The supporters come as the places in `left`, of which those that are in no quorum may be taken away. The
 /// compiled slices are those of the nodes, place by place. It takes no memory.
+#[inline(always)]
 pub fn in_quorum(left: &mut [u64], place: usize, compiled: &[Option<Form>]) -> bool
     requires { place < length compiled.now }
     ensures { (us : List ℕ) (slices_at : ℕ → Option Slices) → IsAscending us → AreCompiled us slices_at compiled.now → IsTrue result ↔ HasQuorum sat slices_at (among (nodes_at us left.old)) (get_or us place 0) }
@@ -33,6 +34,7 @@ pub fn in_quorum(left: &mut [u64], place: usize, compiled: &[Option<Form>]) -> b
 }
 
 /// Takes away each place whose slices those that are left do not meet; whether there was one.
+#[inline(always)]
 fn sweep(left: &mut [u64], compiled: &[Option<Form>]) -> bool
     ensures kept { (us : List ℕ) (slices_at : ℕ → Option Slices) (supporters : Names) → IsAscending us → AreCompiled us slices_at compiled.now → IsLeft slices_at supporters (among (nodes_at us left.old)) → IsLeft slices_at supporters (among (nodes_at us left.new)) }
     ensures settled { IsFalse result → AreAgreed compiled.now → AllMet compiled.now left.new }

@@ -12,6 +12,7 @@ use scp_types::{LentBallot, Statement};
 /// Consensus Protocol draft). Of these only those count that are below the bound, if there is one, and have a counter
 /// from 1 on. It takes no memory.
 #[tactic(auto, using(crate::proofs::Bettering::bettered_append))]
+#[inline(always)]
 pub fn better_mentioned<'a>(
     mention: Mention,
     best: Option<LentBallot<'a>>,

@@ -29,6 +29,7 @@ impl Claim {
     }
 
     /// Whether a statement votes for or accepts it. It takes no memory.
+    #[inline(always)]
     pub fn is_backed_by(&self, statement: &Statement) -> bool
         ensures { result ≡ backs self.now statement.now }
     {
