@@ -20,6 +20,7 @@ use Rattle.node_view.specs.contracts.known_reach.KnownReach as KnownReach
 use Rattle.node_view.specs.contracts.listed.ListedBallots as ListedBallots
 use Rattle.node_view.specs.contracts.reached_ballots.ReachedBallots as ReachedBallots
 use Rattle.node_view.specs.contracts.region.Region as Region
+use Rattle.node_view.specs.contracts.shared.SharedReach as SharedReach
 use Rattle.node_table.specs.contracts.index.Index as Index
 use Rattle.node_table.proofs.places.RowPlace.TheSendSync as row_place
 use Rattle.node_table.specs.contracts.places.RowPlaces as RowPlaces
@@ -57,10 +58,10 @@ form_send = search (sendable, crosses, compiled.send-CompiledSet, compiled.sync-
 
 -- what a node knows of its reach
 region_sync : IsSync (Region.the_field.row)
-region_sync = search (sendable, crosses, name.the_sync, row_place.the_sync, compiled.sync-CompiledSet, form_sync) depth 40
+region_sync = search (sendable, crosses, name.the_sync, name.the_send, row_place.the_sync, compiled.sync-CompiledSet, form_sync) depth 40
 
 region_send : IsSend (Region.the_field.row)
-region_send = search (sendable, crosses, name.the_send, row_place.the_send, compiled.send-CompiledSet, form_send) depth 40
+region_send = search (sendable, crosses, name.the_sync, name.the_send, row_place.the_send, compiled.send-CompiledSet, form_send) depth 40
 
 listed_sync : IsSync (ListedBallots.the_row)
 listed_sync = search (sendable, crosses, value.the_sync) depth 40
@@ -158,11 +159,17 @@ draws_sync = search (sendable, crosses, hashed.the_sync) depth 40
 draws_send : IsSend (Draws.the_row)
 draws_send = search (sendable, crosses, hashed.the_send) depth 40
 
+shared_sync : IsSync (SharedReach.the_field.row)
+shared_sync = search (sendable, crosses, name.the_sync, form_sync) depth 40
+
+shared_send : IsSend (SharedReach.the_field.row)
+shared_send = search (sendable, crosses, name.the_sync, name.the_send, form_send) depth 40
+
 slot_sync : IsSync (OpenSlot.the_row)
-slot_sync = search (sendable, crosses, instance_sync, draws_sync) depth 40
+slot_sync = search (sendable, crosses, instance_sync, draws_sync, shared_sync) depth 40
 
 slot_send : IsSend (OpenSlot.the_row)
-slot_send = search (sendable, crosses, instance_send, draws_send) depth 40
+slot_send = search (sendable, crosses, instance_send, draws_send, shared_send) depth 40
 
 slot_index_sync : IsSync (SlotIndex.the_row)
 slot_index_sync = search (sendable, crosses, slot_place.the_sync) depth 40

@@ -18,6 +18,7 @@ use crate::tallies::{Tallies, count};
 use node_core::{FiledEvent, Node};
 use node_leaders::Draws;
 use node_store::{Archive, Filed, Held, Shelf};
+use node_view::SharedReach;
 use scp_types::{Kind, Nested, NodeId};
 use std::alloc::{AllocError, Global};
 use std::marker::Model;
@@ -65,6 +66,17 @@ impl Instance {
         ensures { result ≡ has_proposal (Some (instance_of_filed self.now)) }
     {
         self.node.inputs().proposal.is_some()
+    }
+
+    /// Has what the node knows of whom it reaches, and may be new, share memory with that of others at the slot, unless it
+    /// is alone there. What contracts see stays.
+    #[inline(always)]
+    pub(crate) fn share_reach(&mut self, is_alone: bool, shared: &mut SharedReach)
+        ensures { self.new ≡ self.old }
+    {
+        if !is_alone {
+            self.node.share_reach(shared);
+        }
     }
 
     /// The node, as it is now.

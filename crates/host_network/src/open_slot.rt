@@ -18,16 +18,18 @@ use host_config::{HostedNode, NetConfig};
 use node_core::FiledEvent;
 use node_leaders::Draws;
 use node_store::{Archive, Held, Shelf};
+use node_view::SharedReach;
 use std::alloc::{AllocError, Global};
 use std::marker::Model;
 
-/// An open slot, with the hosted nodes there in the order of the configuration, and hashes that were drawn for leaders
-/// there.
+/// An open slot, with the hosted nodes there in the order of the configuration, hashes that were drawn for leaders there,
+/// and what its nodes know alike of whom they reach.
 #[derive(Drop)]
 pub(crate) struct OpenSlot {
     number: u64,
     instances: Vec<Instance>,
     draws: Draws,
+    shared: SharedReach,
 }
 
 impl Model for OpenSlot {
@@ -60,6 +62,7 @@ impl OpenSlot {
             number,
             instances,
             draws: Draws::new(alloc),
+            shared: SharedReach::new(alloc),
         })
     }
 
@@ -109,9 +112,14 @@ impl OpenSlot {
         let OpenSlot {
             instances,
             draws,
+            shared,
             ..
         } = self;
-        instances[at].act(archive, draws, event, charge)
+        let is_alone = instances.len() == 1;
+        let instance = &mut instances[at];
+        let outcome = instance.act(archive, draws, event, charge);
+        instance.share_reach(is_alone, shared);
+        outcome
     }
 }
 

@@ -28,7 +28,7 @@ use node_leaders::Draws;
 use node_rules::leads;
 use node_store::{Archive, Filed, Places, Shelf};
 use node_table::{Put, Rows, Table};
-use node_view::{Configured, Listener};
+use node_view::{Configured, Listener, SharedReach};
 use scp_types::{Inputs, Nested, NodeId, Out, Value, Votes};
 use std::alloc::{AllocError, Global};
 use std::marker::Model;
@@ -183,6 +183,14 @@ impl Node {
         ensures { Calm self.now.node }
     {
         let _inputs = &self.inputs;
+    }
+
+    /// Has compiled slices that may be new share memory with those of other nodes at the slot. What contracts see stays.
+    #[inline(always)]
+    pub fn share_reach(&mut self, shared: &mut SharedReach)
+        ensures { self.new ≡ self.old }
+    {
+        self.listener.share_reach(shared);
     }
 
     /// Does one event: its own change, then passes until one changes nothing, then what is given out, in order (the

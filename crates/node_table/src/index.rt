@@ -61,7 +61,7 @@ impl Index {
     /// Notes the place of a new row. If it is out of memory, the index stays as it was.
     pub fn note(&mut self, sender: NodeId, kind: Kind, place: usize) -> Result<(), AllocError>
         requires ascends { ascends self.old ≡ true }
-        requires small { place < 2 ^ 64 - 1 }
+        requires small { place < 2 ^ 32 - 1 }
         ensures ok { OnOk result (self.new ≡ index_with_place self.old sender kind place) }
         ensures err { OnErr result (self.new ≡ self.old) }
     {

@@ -7,15 +7,18 @@ use scp_types::Kind;
 use std::marker::Model;
 use std::mem::size_of;
 
-/// The place of a row in the list of all rows, or none: eight bytes, while an `Option` of a place has sixteen.
+/// The most rows of a table (this host's profile).
+pub(crate) const MOST_ROWS: usize = u32::MAX as usize - 1;
+
+/// The place of a row in the list of all rows, or none: four bytes, while an `Option` of a place has sixteen.
 ///
 /// Contracts see it as that `Option`: 0 is none, and 3 is the place 2.
 #[derive(Clone, Copy, Debug, PartialEq, Eq)]
 pub struct RowPlace {
-    number: usize,
+    number: u32,
 }
 
-const _: () = prove!(size_of::<RowPlace>() <= 8);
+const _: () = prove!(size_of::<RowPlace>() <= 4);
 
 impl Model for RowPlace {
     ghost use Rattle.std.specs.Prelude.{ℕ, Option};
@@ -39,19 +42,24 @@ impl RowPlace {
         RowPlace { number: 0 }
     }
 
-    /// A place. No list has as many elements as would make it the greatest `usize`.
+    /// A place, or the one behind the last of all rows that a table may have.
     pub fn at(place: usize) -> RowPlace
-        requires { place < 2 ^ 64 - 1 }
+        requires { place < 2 ^ 32 - 1 }
         ensures { result ≡ Some place }
     {
-        RowPlace { number: place + 1 }
+        RowPlace {
+            number: place as u32 + 1,
+        }
     }
 
     /// The place, if there is one.
     pub fn get(self) -> Option<usize>
         ensures { result ≡ self }
     {
-        self.number.checked_sub(1)
+        match self.number.checked_sub(1) {
+            None => None,
+            Some(place) => Some(place as usize),
+        }
     }
 
     /// Whether there is no place.
@@ -91,7 +99,7 @@ impl RowPlaces {
 
     /// These places, with this one for the row of a kind.
     pub(crate) fn with_place(self, kind: Kind, place: usize) -> RowPlaces
-        requires { place < 2 ^ 64 - 1 }
+        requires { place < 2 ^ 32 - 1 }
         ensures { (u : ℕ) → of_sender u result ≡ with_place (of_sender u self) kind place }
     {
         match kind {

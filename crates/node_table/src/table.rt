@@ -1,6 +1,6 @@
 //! The table of newest rows.
 
-ghost use Rattle.std.specs.Prelude.{◌≡◌, ◌≢◌, ◌↔◌, ◌++◌, ◌∷◌, [], ◌<◌, ◌^◌, List, IfOk, IfSome, OnErr, OnOk, IsTrue, None, Some, false, length, option_map, slice_get, slice_index_or, slice_set, true, vec_capacity, vec_len};
+ghost use Rattle.std.specs.Prelude.{◌≡◌, ◌≢◌, ◌↔◌, ◌++◌, ◌∷◌, [], ◌<◌, ◌-◌, ◌^◌, List, IfOk, IfSome, OnErr, OnOk, IsTrue, None, Some, false, length, option_map, slice_get, slice_index_or, slice_set, true, vec_capacity, vec_len};
 ghost use Rattle.node_store.specs.Archives.{AreFiled, IsFiled, sent_of, sents_of};
 ghost use Rattle.node_table.specs.Places.{ascends, index_without_place, place_of_row};
 ghost use Rattle.node_table.specs.Puts.{IsFiledPut, IsPut, offer_of, before_put, with_known_row, without_last};
@@ -12,7 +12,7 @@ ghost use Rattle.scp_types.specs.declared.kind.Kind.TheVariants.{Nomination};
 
 use crate::index::Index;
 use crate::newer::is_newer;
-use crate::places::RowPlaces;
+use crate::places::{MOST_ROWS, RowPlaces};
 use crate::sender_names::SenderNames;
 use node_store::{Archive, Filed};
 use scp_types::{Envelope, Kind, NodeId};
@@ -65,6 +65,8 @@ impl Put {
 /// envelope stands in the place of the older one. A look-up, a row more and one less each take a number of steps that
 /// is logarithmic in the number of senders.
 ///
+/// It has at most 4,294,967,294 rows (this host's profile). For one more there is no memory.
+///
 /// The index follows the rows, and no sender has two rows of one kind. For example, the rows are a ballot row of B,
 /// then rows of both kinds of A. Then the index has A with the places 1 and 2, and B with 0.
 #[derive(Drop)]
@@ -75,7 +77,7 @@ pub struct Table {
 
 impl Model for Table {
     ghost use Rattle.std.specs.Coded.{codes};
-    ghost use Rattle.std.specs.Prelude.{List};
+    ghost use Rattle.std.specs.Prelude.{◌<◌, ◌-◌, ◌^◌, List, length};
     ghost use Rattle.node_store.specs.Archives.{sents_of};
     ghost use Rattle.node_store.specs.declared.filed.Filed.{Filed};
     ghost use Rattle.node_table.specs.Places.{IsIndexed};
@@ -87,7 +89,7 @@ impl Model for Table {
 
     ghost view = { λ a. a.rows.items };
 
-    ghost invariant = { λ a. IsIndexed (sents_of a.rows.items) a.index };
+    ghost invariant = { λ a. IsIndexed (sents_of a.rows.items) a.index × (length a.rows.items < 2 ^ 32 - 1) };
 }
 
 impl Table {
@@ -249,7 +251,7 @@ impl Table {
     /// How many rows there are.
     pub fn len(&self) -> usize
         ensures value { result ≡ length self.now }
-        ensures small { result < 2 ^ 63 }
+        ensures small { result < 2 ^ 32 - 1 }
     {
         self.rows.len()
     }
@@ -347,6 +349,9 @@ impl Table {
         ensures err { OnErr result (self.new ≡ self.old) }
     {
         let place = self.len();
+        if place >= MOST_ROWS {
+            return Err(AllocError);
+        }
         self.rows.reserve(1)?;
         self.index.note(sender, kind, place)?;
         push_reserved(&mut self.rows, envelope);

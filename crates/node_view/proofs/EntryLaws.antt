@@ -1,4 +1,5 @@
 -- A reached node's first row changes one entry of a region, or none, and a copy of a region is one.
+use Rattle.std.specs.Arc.{arc_slice_items}
 use Rattle.std.proofs.Common.{◌≡◌, ◌≢◌, ◌⊎◌, ℕ, ◌<◌, Bool, true, false, ◌&&◌, ◌==◌, List, get_or, set, length, length-set, Option, Some, None, option_map, if◌then◌else◌, Vec, refl, sym, subst, ◌∙◌, ap, arith, inl, inr}
 use Rattle.std.specs.Global.{Global}
 use Rattle.std.proofs.lemmas.Bool.{cases_Bool, cases_lt, and_from, eqb-true, eq-eqb, ne_eqb, true≢false}
@@ -105,74 +106,74 @@ module _ (table : List Sent) (e : Sent) (r : Region) (own : ℕ) (configured : S
     another : (own == e.sender) ≡ false
     another =
         (λ i. sym is.itself i == sym entry.sender i)
-        ∙ apart r.nodes.items r.place x.place is.reach.ascending is.within entry.within (λ same. entry.another (sym same))
+        ∙ apart (arc_slice_items r.nodes) r.place x.place is.reach.ascending is.within entry.within (λ same. entry.another (sym same))
 
-    reach : IsReach own configured (with_row e table) r.nodes.items
+    reach : IsReach own configured (with_row e table) (arc_slice_items r.nodes)
     reach = entry.reach is.reach
 
     -- no other reached node's row is of the sender
-    other_sender : (i : ℕ) → i < length r.nodes.items → i ≢ x.place → (e.sender == get_or r.nodes.items i 0) ≡ false
+    other_sender : (i : ℕ) → i < length (arc_slice_items r.nodes) → i ≢ x.place → (e.sender == get_or (arc_slice_items r.nodes) i 0) ≡ false
     other_sender i h other =
-        ap (λ w. w == get_or r.nodes.items i 0) (sym entry.sender) ∙ apart r.nodes.items x.place i is.reach.ascending entry.within h (λ same. other (sym same))
+        ap (λ w. w == get_or (arc_slice_items r.nodes) i 0) (sym entry.sender) ∙ apart (arc_slice_items r.nodes) x.place i is.reach.ascending entry.within h (λ same. other (sym same))
 
     -- where the rows of its kind stand, once the place of this one is set
-    row_set : (k : Kind) → k ≡ kind_of e.body → set (row_places table k r.nodes.items) x.place x.row ≡ row_places (with_row e table) k r.nodes.items
+    row_set : (k : Kind) → k ≡ kind_of e.body → set (row_places table k (arc_slice_items r.nodes)) x.place x.row ≡ row_places (with_row e table) k (arc_slice_items r.nodes)
     row_set k same =
-        place_set table e k r.nodes.items x.place x.row entry.within entry.sender
+        place_set table e k (arc_slice_items r.nodes) x.place x.row entry.within entry.sender
         (ap (λ j. place_of_row (with_row e table) e.sender j) same ∙ entry.row)
-        (λ i h other. other_node k e (get_or r.nodes.items i 0) (other_sender i h other))
+        (λ i h other. other_node k e (get_or (arc_slice_items r.nodes) i 0) (other_sender i h other))
 
     -- and those of the other kind
-    rows_of_other_kind : (k : Kind) → is_kind k (kind_of e.body) ≡ false → row_places table k r.nodes.items ≡ row_places (with_row e table) k r.nodes.items
-    rows_of_other_kind k another_kind = places_kept table e k r.nodes.items (λ i h. inl (of_other_kind k e (get_or r.nodes.items i 0) another_kind))
+    rows_of_other_kind : (k : Kind) → is_kind k (kind_of e.body) ≡ false → row_places table k (arc_slice_items r.nodes) ≡ row_places (with_row e table) k (arc_slice_items r.nodes)
+    rows_of_other_kind k another_kind = places_kept table e k (arc_slice_items r.nodes) (λ i h. inl (of_other_kind k e (get_or (arc_slice_items r.nodes) i 0) another_kind))
 
     -- its form may join those of its kind
-    joining : (k : Kind) → k ≡ kind_of e.body → AreCompiled r.nodes.items (slices_by own configured table (other_kind k)) (forms_of (other_kind k) r)
-        → AreCompiled r.nodes.items (slices_by own configured table k) (forms_of k r) → AreBelow r.numbers (forms_of k r) → MayJoin r.nodes.items (forms_of k r) x.numbers e.slices x.slices
+    joining : (k : Kind) → k ≡ kind_of e.body → AreCompiled (arc_slice_items r.nodes) (slices_by own configured table (other_kind k)) (forms_of (other_kind k) r)
+        → AreCompiled (arc_slice_items r.nodes) (slices_by own configured table k) (forms_of k r) → AreBelow r.numbers (forms_of k r) → MayJoin (arc_slice_items r.nodes) (forms_of k r) x.numbers e.slices x.slices
     joining k same =
-        subst (λ (j : Kind). AreCompiled r.nodes.items (slices_by own configured table (other_kind j)) (forms_of (other_kind j) r) → AreCompiled r.nodes.items (slices_by own configured table j) (forms_of j r) → AreBelow r.numbers (forms_of j r) → MayJoin r.nodes.items (forms_of j r) x.numbers e.slices x.slices)
+        subst (λ (j : Kind). AreCompiled (arc_slice_items r.nodes) (slices_by own configured table (other_kind j)) (forms_of (other_kind j) r) → AreCompiled (arc_slice_items r.nodes) (slices_by own configured table j) (forms_of j r) → AreBelow r.numbers (forms_of j r) → MayJoin (arc_slice_items r.nodes) (forms_of j r) x.numbers e.slices x.slices)
         (sym same) entry.form
 
-    pub ballot_set : x.kind ≡ Kind.Ballot → (v : Vec (Option Numbered) Global) → (x.place < length r.ballots.items → v.items ≡ set r.ballots.items x.place (Some x.slices))
+    pub ballot_set : x.kind ≡ Kind.Ballot → (unshared : ℕ × ℕ) → (v : Vec (Option Numbered) Global) → (x.place < length r.ballots.items → v.items ≡ set r.ballots.items x.place (Some x.slices))
         → (w : Vec (Option ℕ) Global) → (x.place < length r.ballot_rows.items → w.items ≡ set r.ballot_rows.items x.place x.row)
-        → IsRegion own configured (with_row e table) (record r { ballots = v; ballot_rows = w; numbers = x.numbers; latest = x.place })
-    ballot_set kind v now w row_now =
+        → IsRegion own configured (with_row e table) (record r { ballots = v; ballot_rows = w; numbers = x.numbers; latest = x.place; unshared = unshared })
+    ballot_set kind unshared v now w row_now =
         let is_now = now (omega (arith, entry.within, is.ballots.as_many)) in
-        let row_is_now = row_now (omega (arith, entry.within, ap (λ (os : List (Option ℕ)). length os) is.ballot_rows, length-map r.nodes.items (λ u. place_of_row table u Kind.Ballot))) in
+        let row_is_now = row_now (omega (arith, entry.within, ap (λ (os : List (Option ℕ)). length os) is.ballot_rows, length-map (arc_slice_items r.nodes) (λ u. place_of_row table u Kind.Ballot))) in
         let k : Kind.Ballot ≡ kind_of e.body = sym kind ∙ entry.kind in
         let room : x.place < length r.ballots.items = omega (arith, entry.within, is.ballots.as_many) in
-        let joins : MayJoin r.nodes.items r.ballots.items x.numbers e.slices x.slices = joining Kind.Ballot k is.nominations is.ballots is.ballot_numbers in
+        let joins : MayJoin (arc_slice_items r.nodes) r.ballots.items x.numbers e.slices x.slices = joining Kind.Ballot k is.nominations is.ballots is.ballot_numbers in
         record {
           reach = reach;
           within = is.within;
           itself = is.itself;
           blocking = is.blocking;
-          ballots = subst (λ (cs : List (Option Numbered)). AreCompiled r.nodes.items (slices_by own configured (with_row e table) Kind.Ballot) cs) (sym is_now)
-              (set_compiled own configured table e Kind.Ballot r.nodes.items r.ballots.items x.place x.slices is.reach.ascending entry.within entry.sender another (ap (is_kind Kind.Ballot) (sym k)) joins.compiled joins.fits is.ballots);
-          nominations = same_compiled own configured table e Nomination r.nodes.items r.nominations.items (λ i h. inr (of_other_kind Nomination e (get_or r.nodes.items i 0) (ap (is_kind Nomination) (sym k)))) is.nominations;
+          ballots = subst (λ (cs : List (Option Numbered)). AreCompiled (arc_slice_items r.nodes) (slices_by own configured (with_row e table) Kind.Ballot) cs) (sym is_now)
+              (set_compiled own configured table e Kind.Ballot (arc_slice_items r.nodes) r.ballots.items x.place x.slices is.reach.ascending entry.within entry.sender another (ap (is_kind Kind.Ballot) (sym k)) joins.compiled joins.fits is.ballots);
+          nominations = same_compiled own configured table e Nomination (arc_slice_items r.nodes) r.nominations.items (λ i h. inr (of_other_kind Nomination e (get_or (arc_slice_items r.nodes) i 0) (ap (is_kind Nomination) (sym k)))) is.nominations;
           ballot_rows = row_is_now ∙ ap (λ (os : List (Option ℕ)). set os x.place x.row) is.ballot_rows ∙ row_set Kind.Ballot k;
           nomination_rows = is.nomination_rows ∙ rows_of_other_kind Nomination (ap (is_kind Nomination) (sym k));
           ballot_numbers = subst (λ (cs : List (Option Numbered)). AreBelow x.numbers cs) (sym is_now) (below_set r.ballots.items x.place x.slices r.numbers x.numbers room entry.numbers joins.below is.ballot_numbers);
           nomination_numbers = below_more r.nominations.items r.numbers x.numbers entry.numbers is.nomination_numbers;
         }
 
-    pub nomination_set : x.kind ≡ Nomination → (v : Vec (Option Numbered) Global) → (x.place < length r.nominations.items → v.items ≡ set r.nominations.items x.place (Some x.slices))
+    pub nomination_set : x.kind ≡ Nomination → (unshared : ℕ × ℕ) → (v : Vec (Option Numbered) Global) → (x.place < length r.nominations.items → v.items ≡ set r.nominations.items x.place (Some x.slices))
         → (w : Vec (Option ℕ) Global) → (x.place < length r.nomination_rows.items → w.items ≡ set r.nomination_rows.items x.place x.row)
-        → IsRegion own configured (with_row e table) (record r { nominations = v; nomination_rows = w; numbers = x.numbers; latest = x.place })
-    nomination_set kind v now w row_now =
+        → IsRegion own configured (with_row e table) (record r { nominations = v; nomination_rows = w; numbers = x.numbers; latest = x.place; unshared = unshared })
+    nomination_set kind unshared v now w row_now =
         let is_now = now (omega (arith, entry.within, is.nominations.as_many)) in
-        let row_is_now = row_now (omega (arith, entry.within, ap (λ (os : List (Option ℕ)). length os) is.nomination_rows, length-map r.nodes.items (λ u. place_of_row table u Nomination))) in
+        let row_is_now = row_now (omega (arith, entry.within, ap (λ (os : List (Option ℕ)). length os) is.nomination_rows, length-map (arc_slice_items r.nodes) (λ u. place_of_row table u Nomination))) in
         let k : Nomination ≡ kind_of e.body = sym kind ∙ entry.kind in
         let room : x.place < length r.nominations.items = omega (arith, entry.within, is.nominations.as_many) in
-        let joins : MayJoin r.nodes.items r.nominations.items x.numbers e.slices x.slices = joining Nomination k is.ballots is.nominations is.nomination_numbers in
+        let joins : MayJoin (arc_slice_items r.nodes) r.nominations.items x.numbers e.slices x.slices = joining Nomination k is.ballots is.nominations is.nomination_numbers in
         record {
           reach = reach;
           within = is.within;
           itself = is.itself;
           blocking = is.blocking;
-          ballots = same_compiled own configured table e Kind.Ballot r.nodes.items r.ballots.items (λ i h. inr (of_other_kind Kind.Ballot e (get_or r.nodes.items i 0) (ap (is_kind Kind.Ballot) (sym k)))) is.ballots;
-          nominations = subst (λ (cs : List (Option Numbered)). AreCompiled r.nodes.items (slices_by own configured (with_row e table) Nomination) cs) (sym is_now)
-              (set_compiled own configured table e Nomination r.nodes.items r.nominations.items x.place x.slices is.reach.ascending entry.within entry.sender another (ap (is_kind Nomination) (sym k)) joins.compiled joins.fits is.nominations);
+          ballots = same_compiled own configured table e Kind.Ballot (arc_slice_items r.nodes) r.ballots.items (λ i h. inr (of_other_kind Kind.Ballot e (get_or (arc_slice_items r.nodes) i 0) (ap (is_kind Kind.Ballot) (sym k)))) is.ballots;
+          nominations = subst (λ (cs : List (Option Numbered)). AreCompiled (arc_slice_items r.nodes) (slices_by own configured (with_row e table) Nomination) cs) (sym is_now)
+              (set_compiled own configured table e Nomination (arc_slice_items r.nodes) r.nominations.items x.place x.slices is.reach.ascending entry.within entry.sender another (ap (is_kind Nomination) (sym k)) joins.compiled joins.fits is.nominations);
           ballot_rows = is.ballot_rows ∙ rows_of_other_kind Kind.Ballot (ap (is_kind Kind.Ballot) (sym k));
           nomination_rows = row_is_now ∙ ap (λ (os : List (Option ℕ)). set os x.place x.row) is.nomination_rows ∙ row_set Nomination k;
           ballot_numbers = below_more r.ballots.items r.numbers x.numbers entry.numbers is.ballot_numbers;

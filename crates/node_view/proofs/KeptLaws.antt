@@ -1,4 +1,5 @@
 -- What stays of a region, whatever row comes: all but the rows of its sender.
+use Rattle.std.specs.Arc.{arc_slice_items}
 use Rattle.std.proofs.Common.{◌≡◌, ℕ, ◌&&◌, List, get_or, Option, None, sym, ◌∙◌, ap, inr}
 use Rattle.std.proofs.lemmas.Bool.{ne_eqb}
 use Rattle.std.proofs.lemmas.List.{get_or-map}
@@ -46,7 +47,7 @@ names_but own configured table e k us reach u q there other its =
 
 pub kept_region : (own : ℕ) (configured : Slices) (table : List Sent) (e : Sent) (r : Region) → IsRegion own configured table r → IsKeptRegion own configured (with_row e table) e.sender r
 kept_region own configured table e r is =
-    let us = r.nodes.items in
+    let us = (arc_slice_items r.nodes) in
     record {
       ascending = is.reach.ascending;
       ballots = forms_but own configured table e Kind.Ballot us r.ballots.items is.ballots;

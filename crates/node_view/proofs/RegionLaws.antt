@@ -1,4 +1,5 @@
 -- The two tests over places are those of the definitions, and rows with the same slices leave a region as it is.
+use Rattle.std.specs.Arc.{arc_slice_items}
 use Rattle.std.proofs.Common.{◌≡◌, ℕ, suc, ◌+◌, ◌<◌, Bool, true, false, cond, ◌==◌, ◌&&◌, List, [], ◌∷◌, filter, get_or, length, nat_lt, Option, Some, None, option_map, if◌then◌else◌, IsTrue, ◌↔◌, refl, sym, subst, ◌∙◌, ap, arith, inl, inr}
 use Rattle.std.proofs.lemmas.Bool.{cases_Bool, true≢false, eq-eqb, false_from_ne_true, lt-ltb, le-ltb}
 use Rattle.std.proofs.lemmas.List.{get_or_default}
@@ -61,12 +62,12 @@ picked_is us ws p h = filter_from us 0 ws p (λ i l. ap (bit_of ws) (omega arith
 
 module _ (own : ℕ) (configured : Slices) (table : List Sent) (r : Region) (is : IsRegion own configured table r) where
   -- a quorum over places is one among all who pass
-  pub quorum_found : (kind : Kind) (cs : List (Option Numbered)) → AreCompiled r.nodes.items (slices_by own configured table kind) cs
-      → (ws : List ℕ) (p : Names) → AreBits r.nodes.items ws p → (b : Bool)
+  pub quorum_found : (kind : Kind) (cs : List (Option Numbered)) → AreCompiled (arc_slice_items r.nodes) (slices_by own configured table kind) cs
+      → (ws : List ℕ) (p : Names) → AreBits (arc_slice_items r.nodes) ws p → (b : Bool)
       → ((us : List ℕ) (slices_at : ℕ → Option Slices) → IsAscending us → AreCompiled us slices_at cs → IsTrue b ↔ HasQuorum sat slices_at (among (nodes_at us ws)) (get_or us r.place 0))
       → IsTrue b ↔ HasQuorum sat (slices_by own configured table kind) p own
   quorum_found kind cs compiled ws p bits b found =
-      let us = r.nodes.items in
+      let us = (arc_slice_items r.nodes) in
       let slices_at = slices_by own configured table kind in
       let over_places = found us slices_at is.reach.ascending compiled in
       let among_reached = subst (λ (vs : List ℕ). IsTrue b ↔ HasQuorum sat slices_at (among vs) own) (picked_is us ws p bits)
@@ -83,16 +84,16 @@ picked_where us ws p u bits reached = ap (λ (vs : List ℕ). among vs u) (picke
 
 module _ (own : ℕ) (configured : Slices) (table : List Sent) (r : Region) (is : IsRegion own configured table r) where
   -- places of all who pass meet what blocks where these block
-  pub blocking_found : (ws : List ℕ) (p : Names) → AreBits r.nodes.items ws p → has_needed r.blocking ws ≡ is_blocked configured p
+  pub blocking_found : (ws : List ℕ) (p : Names) → AreBits (arc_slice_items r.nodes) ws p → has_needed r.blocking ws ≡ is_blocked configured p
   blocking_found ws p bits =
-      let us = r.nodes.items in
+      let us = (arc_slice_items r.nodes) in
       is.blocking ws ∙ is_blocked-local configured (among (nodes_at us ws)) p (λ u named. picked_where us ws p u bits (is.reach.exactly u ∙ names_reached own configured table u named))
 
   -- where those who pass do not satisfy the node's slices, no quorum that contains it all passes
-  none_unsatisfied : (kind : Kind) (cs : List (Option Numbered)) → AreCompiled r.nodes.items (slices_by own configured table kind) cs
-      → (ws : List ℕ) (p : Names) → AreBits r.nodes.items ws p → met_at (get_or cs r.place None) ws ≡ false → HasQuorum sat (slices_by own configured table kind) p own → ⊥
+  none_unsatisfied : (kind : Kind) (cs : List (Option Numbered)) → AreCompiled (arc_slice_items r.nodes) (slices_by own configured table kind) cs
+      → (ws : List ℕ) (p : Names) → AreBits (arc_slice_items r.nodes) ws p → met_at (get_or cs r.place None) ws ≡ false → HasQuorum sat (slices_by own configured table kind) p own → ⊥
   none_unsatisfied kind cs compiled ws p bits fails h =
-      let us = r.nodes.items in
+      let us = (arc_slice_items r.nodes) in
       let slices_at = slices_by own configured table kind in
       let k = from_all sat names slices_at sat_local p us (is.reach.closed kind) own (itself_reached own configured table us is.reach.exactly) h in
       let more : is_satisfied sat (slices_at own) (among (filter p us)) ≡ true = is_satisfied-more sat slices_at sat_monotone (slices_at own) k.set (among (filter p us)) k.within (k.quorum.each own k.member) in
@@ -107,7 +108,7 @@ blocking_seen own q leaders table k own_passes test = refl
 
 -- the two tests, by the rows that are asked
 module _ (own : ℕ) (configured : Slices) (leaders : List ℕ) (table : List Sent) (r : Region) (is : IsRegion own configured table r) (kind : Kind) (own_passes : Bool) (test : Statement → Bool)
-    (k : RowsOfNodes) (rows : k ≡ record { nodes = r.nodes.items; table = table; kind = kind }) where
+    (k : RowsOfNodes) (rows : k ≡ record { nodes = (arc_slice_items r.nodes); table = table; kind = kind }) where
   abbrev passing : Names
   passing = passing_with own table kind own_passes test
 
@@ -115,23 +116,23 @@ module _ (own : ℕ) (configured : Slices) (leaders : List ℕ) (table : List Se
   abbrev AreAsked : List ℕ → Type 0
   AreAsked ws = (i : ℕ) → i < length k.nodes → bit_of ws i ≡ one_where (passes_at k r.place own_passes test i)
 
-  bits_asked : (ws : List ℕ) → AreAsked ws → AreBits r.nodes.items ws passing
+  bits_asked : (ws : List ℕ) → AreAsked ws → AreBits (arc_slice_items r.nodes) ws passing
   bits_asked ws asked =
-      subst (λ u. AreBits r.nodes.items ws (passing_with u table kind own_passes test)) is.itself
+      subst (λ u. AreBits (arc_slice_items r.nodes) ws (passing_with u table kind own_passes test)) is.itself
       (subst (λ (p : RowsOfNodes). (i : ℕ) → i < length p.nodes → bit_of ws i ≡ one_where (passes_at p r.place own_passes test i)) rows asked)
 
-  supporting_words : (ws : List ℕ) × ArePassing (passes_within k r.place own_passes test) ws × AreBits r.nodes.items ws passing
+  supporting_words : (ws : List ℕ) × ArePassing (passes_within k r.place own_passes test) ws × AreBits (arc_slice_items r.nodes) ws passing
   supporting_words =
-      let us = r.nodes.items in
+      let us = (arc_slice_items r.nodes) in
       let reached : RowsOfNodes = record { nodes = us; table = table; kind = kind } in
       let by_place : ℕ → Names = λ u. passing_with u table kind own_passes test in
-      let found = passing_words (length us) (passes_within reached r.place own_passes test) (omega (arith, r.nodes.small)) (λ i out. ap (λ b. b && passes_at reached r.place own_passes test i) (le-ltb i (length us) out)) in (
+      let found = passing_words (length us) (passes_within reached r.place own_passes test) (omega (arith, r.nodes.items.value.small)) (λ i out. ap (λ b. b && passes_at reached r.place own_passes test i) (le-ltb i (length us) out)) in (
         found.0,
         subst (λ (p : RowsOfNodes). ArePassing (passes_within p r.place own_passes test) found.0) (sym rows) found.1,
         subst (λ u. AreBits us found.0 (by_place u)) is.itself (bits_within us found.0 (by_place (get_or us r.place 0)) found.1),
       )
 
-  pub quorum_asked : (cs : List (Option Numbered)) → AreCompiled r.nodes.items (slices_by own configured table kind) cs → (ws : List ℕ) → AreAsked ws → (b : Bool)
+  pub quorum_asked : (cs : List (Option Numbered)) → AreCompiled (arc_slice_items r.nodes) (slices_by own configured table kind) cs → (ws : List ℕ) → AreAsked ws → (b : Bool)
       → ((us : List ℕ) (slices_at : ℕ → Option Slices) → IsAscending us → AreCompiled us slices_at cs → IsTrue b ↔ HasQuorum sat slices_at (among (nodes_at us ws)) (get_or us r.place 0))
       → b ≡ (seen own configured leaders table).quorum kind own_passes test
   quorum_asked cs compiled ws asked b found = quorum_tested own configured leaders table kind own_passes test b (quorum_found own configured table r is kind cs compiled ws passing (bits_asked ws asked) b found)
@@ -144,7 +145,7 @@ module _ (own : ℕ) (configured : Slices) (leaders : List ℕ) (table : List Se
   blocking_met b met = met supporting_words.0 supporting_words.1 ∙ blocking_found own configured table r is supporting_words.0 passing supporting_words.2 ∙ sym (blocking_seen own configured leaders table kind own_passes test)
 
   -- and where they do not meet its own form, no quorum that contains it all passes
-  pub none_where_unmet : (cs : List (Option Numbered)) → AreCompiled r.nodes.items (slices_by own configured table kind) cs → (o : Option Numbered) → o ≡ get_or cs r.place o
+  pub none_where_unmet : (cs : List (Option Numbered)) → AreCompiled (arc_slice_items r.nodes) (slices_by own configured table kind) cs → (o : Option Numbered) → o ≡ get_or cs r.place o
       → (b : Bool) → ((ws : List ℕ) → ArePassing (passes_within k r.place own_passes test) ws → b ≡ met_at o ws) → b ≡ false
       → (seen own configured leaders table).quorum kind own_passes test ≡ false
   none_where_unmet cs compiled o there b met fails =
@@ -195,17 +196,17 @@ places_stay us table e keeps k = places_kept table e k us (λ i h.
       | inr other ↦ inl other
     ])
 
-pub region_kept : (r : Region) (table : List Sent) (e : Sent) → KeepsReach r.nodes.items table e → (own : ℕ) (configured : Slices)
-    → IsRegion own configured table r → IsReach own configured (with_row e table) r.nodes.items → IsRegion own configured (with_row e table) r
+pub region_kept : (r : Region) (table : List Sent) (e : Sent) → KeepsReach (arc_slice_items r.nodes) table e → (own : ℕ) (configured : Slices)
+    → IsRegion own configured table r → IsReach own configured (with_row e table) (arc_slice_items r.nodes) → IsRegion own configured (with_row e table) r
 region_kept r table e keeps own configured is reach = record {
   reach = reach;
   within = is.within;
   itself = is.itself;
   blocking = is.blocking;
-  ballots = compiled_stay r.nodes.items table e keeps own configured Kind.Ballot r.ballots.items is.ballots;
-  nominations = compiled_stay r.nodes.items table e keeps own configured Nomination r.nominations.items is.nominations;
-  ballot_rows = is.ballot_rows ∙ places_stay r.nodes.items table e keeps Kind.Ballot;
-  nomination_rows = is.nomination_rows ∙ places_stay r.nodes.items table e keeps Nomination;
+  ballots = compiled_stay (arc_slice_items r.nodes) table e keeps own configured Kind.Ballot r.ballots.items is.ballots;
+  nominations = compiled_stay (arc_slice_items r.nodes) table e keeps own configured Nomination r.nominations.items is.nominations;
+  ballot_rows = is.ballot_rows ∙ places_stay (arc_slice_items r.nodes) table e keeps Kind.Ballot;
+  nomination_rows = is.nomination_rows ∙ places_stay (arc_slice_items r.nodes) table e keeps Nomination;
   ballot_numbers = is.ballot_numbers;
   nomination_numbers = is.nomination_numbers;
 }

@@ -1,4 +1,5 @@
 -- Where the sender of an envelope stands among the nodes of a region, and its row in the table.
+use Rattle.std.specs.Arc.{arc_slice_items}
 use Rattle.std.proofs.Common.{◌≡◌, ◌≢◌, ℕ, map, arith, inl, inr, if◌then◌else◌, ◌<◌, ◌==◌, ◌&&◌, Bool, true, false, not, List, get_or, length, Option, Some, None, refl, sym, subst, ◌∙◌, ap, option_map, IfSome, slice_get}
 use Rattle.std.proofs.lemmas.Bool.{cases_lt, eq-eqb}
 use Rattle.std.proofs.lemmas.List.{get_or-map, get_or_past, length-map}
@@ -53,14 +54,14 @@ pub found_other : (own : ℕ) (nodes : List ℕ) (e : Sent) (o : Option Standing
 found_other own nodes e o s found some other = let there = found_there nodes e.sender o s found some in of_other own nodes e s.node there.0 there.1 other
 
 -- a row that keeps the reach keeps the region
-pub kept : (c : Configured) (table : List Sent) (e : Sent) (r : Region) → KeepsReach r.nodes.items table e → KnowsRegion c table (Some r) → KnowsRegion c (with_row e table) (Some r)
-kept c table e r keeps is = region_kept r table e keeps c.name c.slices is (reach_kept r.nodes.items table e keeps c.name c.slices is.reach)
+pub kept : (c : Configured) (table : List Sent) (e : Sent) (r : Region) → KeepsReach (arc_slice_items r.nodes) table e → KnowsRegion c table (Some r) → KnowsRegion c (with_row e table) (Some r)
+kept c table e r keeps is = region_kept r table e keeps c.name c.slices is (reach_kept (arc_slice_items r.nodes) table e keeps c.name c.slices is.reach)
 
 -- so does one of a stranger, and one in the place of a row with the same slices
-pub stranger_keeps : (c : Configured) (table : List Sent) (e : Sent) (o : Option Region) (there : Option Standing) → IfSome o (λ r. IsFoundAmong r.nodes.items e.sender there) → there ≡ None
+pub stranger_keeps : (c : Configured) (table : List Sent) (e : Sent) (o : Option Region) (there : Option Standing) → IfSome o (λ r. IsFoundAmong (arc_slice_items r.nodes) e.sender there) → there ≡ None
     → KnowsRegion c table o → KnowsRegion c (with_row e table) o
 stranger_keeps c table e None there found none is = tt
-stranger_keeps c table e (Some r) there found none is = kept c table e r (stranger (subst (λ (x : Option Standing). IsFoundAmong r.nodes.items e.sender x) none found)) is
+stranger_keeps c table e (Some r) there found none is = kept c table e r (stranger (subst (λ (x : Option Standing). IsFoundAmong (arc_slice_items r.nodes) e.sender x) none found)) is
 
 pub same_slices_keep : (c : Configured) (table : List Sent) (e : Sent) (o : Option Region) (place : ℕ) → place_of_row table e.sender (kind_of e.body) ≡ Some place → option_map (λ (x : Sent). x.slices) (slice_get table place) ≡ Some e.slices
     → KnowsRegion c table o → KnowsRegion c (with_row e table) o
@@ -74,7 +75,7 @@ region_known c table (Some k) knows = knows.region
 
 -- ---- the slices of a row that a region keeps
 -- the rows of a kind that a region keeps are those of its nodes
-rows_are : (k : Kind) (r : Region) (own : ℕ) (configured : Slices) (table : List Sent) → IsRegion own configured table r → rows_of k r ≡ row_places table k r.nodes.items
+rows_are : (k : Kind) (r : Region) (own : ℕ) (configured : Slices) (table : List Sent) → IsRegion own configured table r → rows_of k r ≡ row_places table k (arc_slice_items r.nodes)
 rows_are Nomination r own configured table is = is.nomination_rows
 rows_are Kind.Ballot r own configured table is = is.ballot_rows
 
@@ -82,7 +83,7 @@ rows_are Kind.Ballot r own configured table is = is.ballot_rows
 pub has_slices : (own : ℕ) (configured : Slices) (table : List Sent) (e : Sent) (r : Region) (k : Kind) (n p : ℕ) → n ≢ r.place → get_or (rows_of k r) n None ≡ Some p
     → option_map (λ (x : Sent). x.slices) (slice_get table p) ≡ Some e.slices → IsRegion own configured table r → HasSlicesAt own configured table e r k n
 has_slices own configured table e r k n p other there same is =
-    let us = r.nodes.items in
+    let us = (arc_slice_items r.nodes) in
     let find = λ (u : ℕ). place_of_row table u k in
     let found : get_or (map find us) n None ≡ Some p = ap (λ (os : List (Option ℕ)). get_or os n None) (sym (rows_are k r own configured table is)) ∙ there in
     elim (cases_lt n (length us)) [

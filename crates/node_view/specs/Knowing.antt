@@ -1,4 +1,5 @@
 -- What a node knows of the nodes that it reaches, from one event to the next.
+use Rattle.std.specs.Arc.{arc_slice_items}
 use Rattle.std.specs.Prelude.{◌≡◌, ℕ, Bool, not, ◌&&◌, List, Option, IfSome, IsTrue, ◌==◌, option_map}
 use Rattle.scp_types.specs.Trees.{Slices}
 use Rattle.scp_types.specs.declared.ballot.Ballot.{Ballot}
@@ -46,8 +47,8 @@ AreSearched own kind table nodes b =
 -- what is known of a node's reach: its region, and its ballots and nominated values where they are listed
 pub record IsKnown (own : ℕ) (configured : Slices) (table : List Sent) (k : KnownReach) : Type 0 where
   pub region : IsRegion own configured table k.region
-  pub ballots : IfSome k.ballots (AreBallotsOf own table k.region.nodes.items)
-  pub values : IfSome k.values (AreValuesOf own table k.region.nodes.items)
+  pub ballots : IfSome k.ballots (AreBallotsOf own table (arc_slice_items k.region.nodes))
+  pub values : IfSome k.values (AreValuesOf own table (arc_slice_items k.region.nodes))
 
 -- a table took an envelope, newer than its sender's row of its kind: its row is this one now, and there was this one
 -- before

@@ -1,4 +1,5 @@
 -- Who a node is, the rows that it has, and the nodes that it reaches by them.
+use Rattle.std.specs.Arc.{arc_slice_items}
 use Rattle.std.specs.Prelude.{ℕ, Bool, Box, true, false, List, Option, Some, None, IfSome, IsFalse, ⊤, box_value, option_map}
 use Rattle.std.specs.Global.{Global}
 use Rattle.scp_types.specs.Statements.{Sent}
@@ -45,7 +46,7 @@ KnowsRegion c table region = IfSome region (λ r. IsRegion c.name c.slices table
 -- the ballots and the values of a reach that is known are those of the rows, where they are listed
 abbrev pub KnowsLists : Configured → List Sent → Option KnownReach → Type 0
 KnowsLists c table known =
-    IfSome known (λ k. IfSome k.ballots (λ b. AreBallotsOf c.name table k.region.nodes.items b) × IfSome k.values (λ v. AreValuesOf c.name table k.region.nodes.items v))
+    IfSome known (λ k. IfSome k.ballots (λ b. AreBallotsOf c.name table (arc_slice_items k.region.nodes) b) × IfSome k.values (λ v. AreValuesOf c.name table (arc_slice_items k.region.nodes) v))
 
 -- what an envelope does to the region that a listener knows, where the table takes it: nothing; one entry is set; the
 -- reach is of some extent, and the region one of before; or it is not known any more
@@ -53,7 +54,7 @@ abbrev pub IsEffect : Configured → List Sent → Sent → Option Region → Ef
 IsEffect c table e region Nothing = KnowsRegion c table region → KnowsRegion c (with_row e table) region
 IsEffect c table e region (Sets x) = IfSome region (λ r. IsEntry c.name c.slices table e r x)
 IsEffect c table e region (Reach extent) =
-    IfSome region (λ r. IsRegion c.name c.slices table r → IsKeptRegion c.name c.slices (with_row e table) e.sender r × IsOfExtent c.name c.slices (with_row e table) e.sender r.nodes.items extent)
+    IfSome region (λ r. IsRegion c.name c.slices table r → IsKeptRegion c.name c.slices (with_row e table) e.sender r × IsOfExtent c.name c.slices (with_row e table) e.sender (arc_slice_items r.nodes) extent)
 IsEffect c table e region Forgets = ⊤
 
 -- a node that is not among those that are reached

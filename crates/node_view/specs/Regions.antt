@@ -1,4 +1,5 @@
 -- The nodes that a node reaches, and slices compiled against them.
+use Rattle.std.specs.Arc.{arc_slice_items}
 use Rattle.std.specs.Prelude.{◌≡◌, ◌≢◌, ℕ, ◌<◌, IsTrue, List, Option, Some, None, get_or, length, map, true, false, ⊤}
 use Rattle.scp_types.specs.Trees.{Slices}
 use Rattle.scp_types.specs.Statements.{Sent, kind_of}
@@ -69,7 +70,7 @@ other_kind Kind.Ballot = Nomination
 -- the node at a place has, by its row of a kind, the envelope's slices
 abbrev pub HasSlicesAt : ℕ → Slices → List Sent → Sent → Region → Kind → ℕ → Type 0
 HasSlicesAt own configured table e r k n =
-    (n < length r.nodes.items) × (slices_by own configured table k (get_or r.nodes.items n 0) ≡ Some e.slices)
+    (n < length (arc_slice_items r.nodes)) × (slices_by own configured table k (get_or (arc_slice_items r.nodes) n 0) ≡ Some e.slices)
 
 -- what is told is so: of the row of the envelope's kind that was set last, and of the row of the other kind that the
 -- node at a place has
@@ -81,20 +82,20 @@ pub record AreToldSame (own : ℕ) (configured : Slices) (table : List Sent) (e 
 -- what the configuration and the table give: the reach, the node's own place, what blocks it, and of all that are
 -- reached the slices, in forms whose numbers are below those to come, and where their rows stand
 pub record IsRegion (own : ℕ) (configured : Slices) (table : List Sent) (r : Region) : Type 0 where
-  pub reach : IsReach own configured table r.nodes.items
-  pub within : r.place < length r.nodes.items
-  pub itself : get_or r.nodes.items r.place 0 ≡ own
-  pub blocking : IsCompiled true r.nodes.items configured r.blocking
-  pub ballots : AreCompiled r.nodes.items (slices_by own configured table Kind.Ballot) r.ballots.items
-  pub nominations : AreCompiled r.nodes.items (slices_by own configured table Nomination) r.nominations.items
-  pub ballot_rows : r.ballot_rows.items ≡ row_places table Kind.Ballot r.nodes.items
-  pub nomination_rows : r.nomination_rows.items ≡ row_places table Nomination r.nodes.items
+  pub reach : IsReach own configured table (arc_slice_items r.nodes)
+  pub within : r.place < length (arc_slice_items r.nodes)
+  pub itself : get_or (arc_slice_items r.nodes) r.place 0 ≡ own
+  pub blocking : IsCompiled true (arc_slice_items r.nodes) configured r.blocking
+  pub ballots : AreCompiled (arc_slice_items r.nodes) (slices_by own configured table Kind.Ballot) r.ballots.items
+  pub nominations : AreCompiled (arc_slice_items r.nodes) (slices_by own configured table Nomination) r.nominations.items
+  pub ballot_rows : r.ballot_rows.items ≡ row_places table Kind.Ballot (arc_slice_items r.nodes)
+  pub nomination_rows : r.nomination_rows.items ≡ row_places table Nomination (arc_slice_items r.nodes)
   pub ballot_numbers : AreBelow r.numbers r.ballots.items
   pub nomination_numbers : AreBelow r.numbers r.nominations.items
 
 -- the same region, in other memory
 pub record IsCopy (old new : Region) : Type 0 where
-  pub nodes : new.nodes.items ≡ old.nodes.items
+  pub nodes : (arc_slice_items new.nodes) ≡ (arc_slice_items old.nodes)
   pub place : new.place ≡ old.place
   pub blocking : new.blocking ≡ old.blocking
   pub ballots : new.ballots.items ≡ old.ballots.items
@@ -107,28 +108,28 @@ pub record IsCopy (old new : Region) : Type 0 where
 -- for its kind and at its sender's place, and where the row then stands
 pub record IsEntry (own : ℕ) (configured : Slices) (table : List Sent) (e : Sent) (r : Region) (x : RegionEntry)
     : Type 0 where
-  pub reach : IsReach own configured table r.nodes.items → IsReach own configured (with_row e table) r.nodes.items
-  pub within : x.place < length r.nodes.items
-  pub sender : get_or r.nodes.items x.place 0 ≡ e.sender
+  pub reach : IsReach own configured table (arc_slice_items r.nodes) → IsReach own configured (with_row e table) (arc_slice_items r.nodes)
+  pub within : x.place < length (arc_slice_items r.nodes)
+  pub sender : get_or (arc_slice_items r.nodes) x.place 0 ≡ e.sender
   pub kind : x.kind ≡ kind_of e.body
   pub another : x.place ≢ r.place
   pub numbers : r.numbers < x.numbers
-  pub form : AreCompiled r.nodes.items (slices_by own configured table (other_kind (kind_of e.body))) (forms_of (other_kind (kind_of e.body)) r)
-      → AreCompiled r.nodes.items (slices_by own configured table (kind_of e.body)) (forms_of (kind_of e.body) r)
+  pub form : AreCompiled (arc_slice_items r.nodes) (slices_by own configured table (other_kind (kind_of e.body))) (forms_of (other_kind (kind_of e.body)) r)
+      → AreCompiled (arc_slice_items r.nodes) (slices_by own configured table (kind_of e.body)) (forms_of (kind_of e.body) r)
       → AreBelow r.numbers (forms_of (kind_of e.body) r)
-      → MayJoin r.nodes.items (forms_of (kind_of e.body) r) x.numbers e.slices x.slices
+      → MayJoin (arc_slice_items r.nodes) (forms_of (kind_of e.body) r) x.numbers e.slices x.slices
   pub row : place_of_row (with_row e table) e.sender (kind_of e.body) ≡ x.row
 
 -- The region of an earlier table, of which the rows of one reached node may be others since: the slices of the other
 -- nodes are compiled, and name no other nodes, and the places of their rows are kept.
 pub record IsKeptRegion (own : ℕ) (configured : Slices) (table : List Sent) (sender : ℕ) (r : Region) : Type 0 where
-  pub ascending : IsAscending r.nodes.items
-  pub ballots : AreFormsBut sender r.nodes.items (slices_by own configured table Kind.Ballot) r.ballots.items
-  pub nominations : AreFormsBut sender r.nodes.items (slices_by own configured table Nomination) r.nominations.items
-  pub ballot_names : NameWithinBut sender r.nodes.items (slices_by own configured table Kind.Ballot)
-  pub nomination_names : NameWithinBut sender r.nodes.items (slices_by own configured table Nomination)
-  pub ballot_rows : ArePlacesBut sender table Kind.Ballot r.nodes.items r.ballot_rows.items
-  pub nomination_rows : ArePlacesBut sender table Nomination r.nodes.items r.nomination_rows.items
+  pub ascending : IsAscending (arc_slice_items r.nodes)
+  pub ballots : AreFormsBut sender (arc_slice_items r.nodes) (slices_by own configured table Kind.Ballot) r.ballots.items
+  pub nominations : AreFormsBut sender (arc_slice_items r.nodes) (slices_by own configured table Nomination) r.nominations.items
+  pub ballot_names : NameWithinBut sender (arc_slice_items r.nodes) (slices_by own configured table Kind.Ballot)
+  pub nomination_names : NameWithinBut sender (arc_slice_items r.nodes) (slices_by own configured table Nomination)
+  pub ballot_rows : ArePlacesBut sender table Kind.Ballot (arc_slice_items r.nodes) r.ballot_rows.items
+  pub nomination_rows : ArePlacesBut sender table Nomination (arc_slice_items r.nodes) r.nomination_rows.items
 
 -- of which extent a reach is: a wider one is that of these nodes, and of those to whom the sender's rows lead
 abbrev pub IsOfExtent : ℕ → Slices → List Sent → ℕ → List ℕ → Extent → Type 0
@@ -139,8 +140,8 @@ IsOfExtent own configured table sender nodes Other = ⊤
 -- but for those of one node
 pub record IsFormerRegion (own : ℕ) (configured : Slices) (table : List Sent) (nodes : List ℕ) (f : FormerRegion)
     : Type 0 where
-  pub ballots : IsFormer nodes (slices_by own configured table Kind.Ballot) f.region.now.nodes.items f.region.now.ballots.items f.places.now f.sender.now
-  pub nominations : IsFormer nodes (slices_by own configured table Nomination) f.region.now.nodes.items f.region.now.nominations.items f.places.now f.sender.now
+  pub ballots : IsFormer nodes (slices_by own configured table Kind.Ballot) (arc_slice_items f.region.now.nodes) f.region.now.ballots.items f.places.now f.sender.now
+  pub nominations : IsFormer nodes (slices_by own configured table Nomination) (arc_slice_items f.region.now.nodes) f.region.now.nominations.items f.places.now f.sender.now
 
 -- what an envelope of another reached node changes in a region where the table takes it: an entry is set, or the reach
 -- is of this extent, and the region one of before
@@ -148,4 +149,4 @@ abbrev pub IsChange : ℕ → Slices → List Sent → Sent → Region → Chang
 IsChange own configured table e r (Sets x) = IsEntry own configured table e r x
 IsChange own configured table e r (Reach extent) =
     IsRegion own configured table r → IsKeptRegion own configured (with_row e table) e.sender r
-    × IsOfExtent own configured (with_row e table) e.sender r.nodes.items extent
+    × IsOfExtent own configured (with_row e table) e.sender (arc_slice_items r.nodes) extent

@@ -1,5 +1,6 @@
 //! A region whose node reaches others than it did.
 
+ghost use Rattle.std.specs.Arc.{arc_slice_items};
 ghost use Rattle.std.specs.Prelude.{◌≡◌, ◌<◌, IfOk, IfSome, get_or, is_some, length};
 ghost use Rattle.scp_types.specs.declared.kind.Kind.{Kind};
 ghost use Rattle.scp_types.specs.declared.kind.Kind.TheVariants.{Nomination};
@@ -50,7 +51,7 @@ impl Region {
         by: NewReach<'_>,
     ) -> Result<Region, AllocError>
         requires kept { IsKeptRegion own.name.now own.slices.now table.now by.sender.now self.now }
-        requires extent { IsOfExtent own.name.now own.slices.now table.now by.sender.now self.now.nodes.items by.extent }
+        requires extent { IsOfExtent own.name.now own.slices.now table.now by.sender.now (arc_slice_items self.now.nodes) by.extent }
         ensures { IfOk result (λ r. IsRegion own.entry.name.now own.entry.slices.now table.now r) }
     {
         let nodes = self.new_reach(alloc, own, &*table, by)?;
@@ -74,7 +75,7 @@ impl Region {
         by: NewReach<'_>,
     ) -> Result<Vec<NodeId>, AllocError>
         requires kept { IsKeptRegion own.name.now own.slices.now table.now by.sender.now self.now }
-        requires extent { IsOfExtent own.name.now own.slices.now table.now by.sender.now self.now.nodes.items by.extent }
+        requires extent { IsOfExtent own.name.now own.slices.now table.now by.sender.now (arc_slice_items self.now.nodes) by.extent }
         ensures { IfOk result (λ v. IsReach own.entry.name.now own.entry.slices.now table.now v.items) }
     {
         match by.extent {
@@ -130,9 +131,9 @@ fn kept_row_places<S: Places>(
     region: &Region,
     sender: &NodeId,
 ) -> Result<KindPlaces, AllocError>
-    requires ascending { IsAscending region.now.nodes.items }
-    requires known_ballots { ArePlacesBut sender.now table.now Kind.Ballot region.now.nodes.items region.now.ballot_rows.items }
-    requires known_nominations { ArePlacesBut sender.now table.now Nomination region.now.nodes.items region.now.nomination_rows.items }
+    requires ascending { IsAscending (arc_slice_items region.now.nodes) }
+    requires known_ballots { ArePlacesBut sender.now table.now Kind.Ballot (arc_slice_items region.now.nodes) region.now.ballot_rows.items }
+    requires known_nominations { ArePlacesBut sender.now table.now Nomination (arc_slice_items region.now.nodes) region.now.nomination_rows.items }
     ensures { IfOk result (AreRowPlaces table.now nodes.now) }
 {
     let mut found = KindPlaces::with_capacity(alloc, nodes.len())?;
@@ -152,9 +153,9 @@ fn places_of<S: Places>(
     place: Option<usize>,
     sender: &NodeId,
 ) -> RowPlaces
-    requires known_ballots { ArePlacesBut sender.now table.now Kind.Ballot region.now.nodes.items region.now.ballot_rows.items }
-    requires known_nominations { ArePlacesBut sender.now table.now Nomination region.now.nodes.items region.now.nomination_rows.items }
-    requires place { IfSome place (λ i. (i < length region.now.nodes.items) × (get_or region.now.nodes.items i 0 ≡ node.now)) }
+    requires known_ballots { ArePlacesBut sender.now table.now Kind.Ballot (arc_slice_items region.now.nodes) region.now.ballot_rows.items }
+    requires known_nominations { ArePlacesBut sender.now table.now Nomination (arc_slice_items region.now.nodes) region.now.nomination_rows.items }
+    requires place { IfSome place (λ i. (i < length (arc_slice_items region.now.nodes)) × (get_or (arc_slice_items region.now.nodes) i 0 ≡ node.now)) }
     ensures ballot { result.ballot ≡ place_of_row table.now node.now Kind.Ballot }
     ensures nomination { result.nomination ≡ place_of_row table.now node.now Nomination }
 {

@@ -2,6 +2,7 @@
 //! region, changes one entry of it, widens or moves it, or makes it unknown. If it stays known, the ballots and
 //! nominated values that are listed follow the row.
 
+ghost use Rattle.std.specs.Arc.{arc_slice_items};
 ghost use Rattle.std.specs.Prelude.{◌≡◌, ℕ, IfOk, IfSome, IsTrue, List, None, Option, Some, is_some, box_value, option_map};
 ghost use Rattle.node_store.specs.Archives.{AreFiled, IsFiled, sent_of, sents_of};
 ghost use Rattle.node_table.specs.Puts.{IsFiledPut, IsPut, before_put};
@@ -18,6 +19,7 @@ ghost use Rattle.node_view.specs.Regions.{AreToldSame, HasSlicesAt, IsFoundAmong
 
 use crate::configured::Configured;
 use crate::region::{ToldSame, other_kind};
+use crate::shared::SharedReach;
 use crate::standing::Standing;
 use crate::{Change, Extent, KnownReach, NewReach, Region, RegionEntry, Taken};
 use node_store::{Archive, Filed, Places};
@@ -95,6 +97,16 @@ pub(crate) fn copy_of_known(
     }
 }
 
+/// Has forms that are known, and may be new, share memory with those of other nodes.
+#[inline(always)]
+pub(crate) fn share_known(known: &mut Option<Box<KnownReach>>, shared: &mut SharedReach)
+    ensures { (c : Configured) (table : List Sent) → KnowsReach c table (reach_in known.old) → KnowsReach c table (reach_in known.new) }
+{
+    if let Some(known) = known {
+        known.region.share(shared);
+    }
+}
+
 /// Puts the row into the table, and says whether the node surely reaches whom it reached before. What is known follows
 /// the row; if it is out of memory for that, nothing is known, and the put goes on.
 pub(crate) fn put_row<S: Places>(
@@ -147,9 +159,9 @@ fn standing_of<S: Places>(
     known: &Option<Box<KnownReach>>,
     row: &FiledRow<'_, S>,
 ) -> Option<Standing>
-    requires ascending { IfSome (region_of (reach_in known.now)) (λ r. IsAscending r.nodes.items) }
+    requires ascending { IfSome (region_of (reach_in known.now)) (λ r. IsAscending (arc_slice_items r.nodes)) }
     requires envelope { IsFiled row.now.archive.now row.now.envelope }
-    ensures among { IfSome (region_of (reach_in known.now)) (λ r. IsFoundAmong r.nodes.items (sent_of row.now.envelope).sender result) }
+    ensures among { IfSome (region_of (reach_in known.now)) (λ r. IsFoundAmong (arc_slice_items r.nodes) (sent_of row.now.envelope).sender result) }
     ensures row { (c : Configured) (table : List Sent) → KnowsRegion c table (region_of (reach_in known.now)) → IfSome result (λ s. place_of_row table (sent_of row.now.envelope).sender (kind_of (sent_of row.now.envelope).body) ≡ s.row) }
 {
     match known {
@@ -197,7 +209,7 @@ fn effect_of<S: Places>(
     requires rows { AreFiled row.now.archive.now table.now }
     requires envelope { IsFiled row.now.archive.now row.now.envelope }
     requires known { KnowsReach configured.now (sents_of table.now) (reach_in known.now) }
-    requires among { IfSome (region_of (reach_in known.now)) (λ r. IsFoundAmong r.nodes.items (sent_of row.now.envelope).sender there.now) }
+    requires among { IfSome (region_of (reach_in known.now)) (λ r. IsFoundAmong (arc_slice_items r.nodes) (sent_of row.now.envelope).sender there.now) }
     requires row { IfSome there.now (λ s. place_of_row (sents_of table.now) (sent_of row.now.envelope).sender (kind_of (sent_of row.now.envelope).body) ≡ s.row) }
     ensures { IsEffect configured.now (sents_of table.now) (sent_of row.now.envelope) (region_of (reach_in known.now)) result }
 {
@@ -261,8 +273,8 @@ fn effect_on<S: Places>(
     there: Standing,
     told: ToldSame,
 ) -> Effect
-    requires ascending { IsAscending region.now.nodes.items }
-    requires among { IsFoundAmong region.now.nodes.items envelope.now.sender (Some there) }
+    requires ascending { IsAscending (arc_slice_items region.now.nodes) }
+    requires among { IsFoundAmong (arc_slice_items region.now.nodes) envelope.now.sender (Some there) }
     requires row { place_of_row rows.now envelope.now.sender (kind_of envelope.now.body) ≡ there.row }
     requires told { AreToldSame configured.now.name configured.now.slices rows.now envelope.now region.now there.node told }
     ensures { IsEffect configured.now rows.now envelope.now (Some region.now) result }
@@ -280,7 +292,7 @@ fn effect_on<S: Places>(
 fn apply(known: &mut Option<Box<KnownReach>>, effect: Effect)
     ensures known { (c : Configured) (table : List Sent) (e : Sent) → IsEffect c table e (region_of (reach_in known.old)) effect → KnowsRegion c table (region_of (reach_in known.old)) → KnowsRegion c (with_row e table) (region_of (reach_in known.new)) }
     ensures reach { IsTrue (is_some known.new) → (c : Configured) (table : List Sent) (e : Sent) → IsEffect c table e (region_of (reach_in known.old)) effect → KnowsRegion c table (region_of (reach_in known.old)) → ReachesSame c.name c.slices table (with_row e table) }
-    ensures nodes { (u : ℕ) (there : Option Standing) → IfSome (region_of (reach_in known.old)) (λ r. IsFoundAmong r.nodes.items u there) → IfSome (region_of (reach_in known.new)) (λ r. IsFoundAmong r.nodes.items u there) }
+    ensures nodes { (u : ℕ) (there : Option Standing) → IfSome (region_of (reach_in known.old)) (λ r. IsFoundAmong (arc_slice_items r.nodes) u there) → IfSome (region_of (reach_in known.new)) (λ r. IsFoundAmong (arc_slice_items r.nodes) u there) }
     ensures lists { (c : Configured) (table : List Sent) → KnowsLists c table (reach_in known.old) → KnowsLists c table (reach_in known.new) }
 {
     match effect {
@@ -314,7 +326,7 @@ fn change<S: Places>(
     requires rows { AreFiled heard.0.archive.now table.now }
     requires envelope { IsFiled heard.0.archive.now heard.0.envelope.now }
     requires kept { IfSome (region_of (reach_in known.old)) (IsKeptRegion configured.now.name configured.now.slices (sents_of table.now) (sent_of heard.0.envelope.now).sender) }
-    requires extent { IfSome (region_of (reach_in known.old)) (λ r. IsOfExtent configured.now.name configured.now.slices (sents_of table.now) (sent_of heard.0.envelope.now).sender r.nodes.items heard.1) }
+    requires extent { IfSome (region_of (reach_in known.old)) (λ r. IsOfExtent configured.now.name configured.now.slices (sents_of table.now) (sent_of heard.0.envelope.now).sender (arc_slice_items r.nodes) heard.1) }
     ensures { KnowsReach configured.now (sents_of table.now) (reach_in known.new) }
 {
     let Some(mut reach) = known.take() else {
@@ -345,7 +357,7 @@ fn hear<S: Places>(
     requires envelope { IsFiled heard.archive.now heard.envelope.now }
     requires put { IsFiledPut heard.archive.now heard.put.now }
     requires region { KnowsRegion configured.now (sents_of table.now) (region_of (reach_in known.old)) }
-    requires there { IfSome (region_of (reach_in known.old)) (λ r. IsFoundAmong r.nodes.items (sent_of heard.envelope.now).sender there.now) }
+    requires there { IfSome (region_of (reach_in known.old)) (λ r. IsFoundAmong (arc_slice_items r.nodes) (sent_of heard.envelope.now).sender there.now) }
     ensures some { IsTrue (is_some known.new) → IsTrue (is_some known.old) }
     ensures known { (old : List Sent) → IsTaken old (sents_of table.now) (sent_of heard.entry.envelope.now) (row_before heard.entry.put.now) → KnowsLists configured.now old (reach_in known.old) → KnowsReach configured.now (sents_of table.now) (reach_in known.new) }
 {

@@ -1,5 +1,6 @@
 //! What a node knows of the nodes that it reaches, from one event to the next.
 
+ghost use Rattle.std.specs.Arc.{arc_slice_items};
 ghost use Rattle.std.specs.Prelude.{◌≡◌, ◌==◌, ◌<◌, ℕ, List, IfOk, IfSome, IsTrue, OnErr, OnOk, Option, false, get_or, is_some, length, option_map};
 ghost use Rattle.scp_types.specs.Statements.{Sent};
 ghost use Rattle.scp_types.specs.Trees.{Slices};
@@ -85,7 +86,7 @@ impl KnownReach {
         by: NewReach<'_>,
     ) -> Result<(), AllocError>
         requires kept { IsKeptRegion own.name.now own.slices.now table.now by.sender.now self.old.region }
-        requires extent { IsOfExtent own.name.now own.slices.now table.now by.sender.now self.old.region.nodes.items by.extent }
+        requires extent { IsOfExtent own.name.now own.slices.now table.now by.sender.now (arc_slice_items self.old.region.nodes) by.extent }
         ensures known { OnOk result (IsKnown own.entry.name.now own.entry.slices.now table.now self.new) }
         ensures err { OnErr result (self.new ≡ self.old) }
     {
@@ -153,13 +154,13 @@ impl KnownReach {
         there: Option<Standing>,
     )
         requires region { IsRegion own.name.now own.slices.now table.now self.old.region }
-        requires there { IsFoundAmong self.old.region.nodes.items taken.now.row.now.sender there }
+        requires there { IsFoundAmong (arc_slice_items self.old.region.nodes) taken.now.row.now.sender there }
         ensures region { self.new.region ≡ self.old.region }
-        ensures other { is_of_another own.entry.name.now self.old.region.nodes.items taken.now.row.now ≡ false → self.new ≡ self.old }
-        ensures same_ballots { is_heard Kind.Ballot own.entry.name.now self.old.region.nodes.items taken.now.row.now ≡ false → self.new.ballots ≡ self.old.ballots }
-        ensures same_values { is_heard Nomination own.entry.name.now self.old.region.nodes.items taken.now.row.now ≡ false → self.new.values ≡ self.old.values }
-        ensures ballots { (old : List Sent) → IsTaken old table.now taken.now.row.now (option_map (λ r. r.now) taken.now.before) → IfSome self.old.ballots (AreBallotsOf own.entry.name.now old self.old.region.nodes.items) → IfSome self.new.ballots (AreBallotsOf own.entry.name.now table.now self.old.region.nodes.items) }
-        ensures values { (old : List Sent) → IsTaken old table.now taken.now.row.now (option_map (λ r. r.now) taken.now.before) → IfSome self.old.values (AreValuesOf own.entry.name.now old self.old.region.nodes.items) → IfSome self.new.values (AreValuesOf own.entry.name.now table.now self.old.region.nodes.items) }
+        ensures other { is_of_another own.entry.name.now (arc_slice_items self.old.region.nodes) taken.now.row.now ≡ false → self.new ≡ self.old }
+        ensures same_ballots { is_heard Kind.Ballot own.entry.name.now (arc_slice_items self.old.region.nodes) taken.now.row.now ≡ false → self.new.ballots ≡ self.old.ballots }
+        ensures same_values { is_heard Nomination own.entry.name.now (arc_slice_items self.old.region.nodes) taken.now.row.now ≡ false → self.new.values ≡ self.old.values }
+        ensures ballots { (old : List Sent) → IsTaken old table.now taken.now.row.now (option_map (λ r. r.now) taken.now.before) → IfSome self.old.ballots (AreBallotsOf own.entry.name.now old (arc_slice_items self.old.region.nodes)) → IfSome self.new.ballots (AreBallotsOf own.entry.name.now table.now (arc_slice_items self.old.region.nodes)) }
+        ensures values { (old : List Sent) → IsTaken old table.now taken.now.row.now (option_map (λ r. r.now) taken.now.before) → IfSome self.old.values (AreValuesOf own.entry.name.now old (arc_slice_items self.old.region.nodes)) → IfSome self.new.values (AreValuesOf own.entry.name.now table.now (arc_slice_items self.old.region.nodes)) }
     {
         let Some(there) = there else {
             return;
@@ -183,12 +184,12 @@ impl KnownReach {
         place: usize,
     )
         requires region { IsRegion own.name.now own.slices.now table.now self.old.region }
-        requires within { place < length self.old.region.nodes.items }
-        requires sender { get_or self.old.region.nodes.items place 0 ≡ taken.now.row.now.sender }
-        requires heard { IsTrue (is_heard Kind.Ballot own.name.now self.old.region.nodes.items taken.now.row.now) }
+        requires within { place < length (arc_slice_items self.old.region.nodes) }
+        requires sender { get_or (arc_slice_items self.old.region.nodes) place 0 ≡ taken.now.row.now.sender }
+        requires heard { IsTrue (is_heard Kind.Ballot own.name.now (arc_slice_items self.old.region.nodes) taken.now.row.now) }
         ensures region { self.new.region ≡ self.old.region }
         ensures values { self.new.values ≡ self.old.values }
-        ensures ballots { (old : List Sent) → IsTaken old table.now taken.now.row.now (option_map (λ r. r.now) taken.now.before) → IfSome self.old.ballots (AreBallotsOf own.entry.name.now old self.old.region.nodes.items) → IfSome self.new.ballots (AreBallotsOf own.entry.name.now table.now self.old.region.nodes.items) }
+        ensures ballots { (old : List Sent) → IsTaken old table.now taken.now.row.now (option_map (λ r. r.now) taken.now.before) → IfSome self.old.ballots (AreBallotsOf own.entry.name.now old (arc_slice_items self.old.region.nodes)) → IfSome self.new.ballots (AreBallotsOf own.entry.name.now table.now (arc_slice_items self.old.region.nodes)) }
     {
         let Some(mut ballots) = self.ballots.take() else {
             return;
@@ -211,12 +212,12 @@ impl KnownReach {
         place: usize,
     )
         requires region { IsRegion own.name.now own.slices.now table.now self.old.region }
-        requires within { place < length self.old.region.nodes.items }
-        requires sender { get_or self.old.region.nodes.items place 0 ≡ row.now.sender }
-        requires heard { IsTrue (is_heard Nomination own.name.now self.old.region.nodes.items row.now) }
+        requires within { place < length (arc_slice_items self.old.region.nodes) }
+        requires sender { get_or (arc_slice_items self.old.region.nodes) place 0 ≡ row.now.sender }
+        requires heard { IsTrue (is_heard Nomination own.name.now (arc_slice_items self.old.region.nodes) row.now) }
         ensures region { self.new.region ≡ self.old.region }
         ensures ballots { self.new.ballots ≡ self.old.ballots }
-        ensures values { (old : List Sent) (before : Option Sent) → IsTaken old table.now row.now before → IfSome self.old.values (AreValuesOf own.entry.name.now old self.old.region.nodes.items) → IfSome self.new.values (AreValuesOf own.entry.name.now table.now self.old.region.nodes.items) }
+        ensures values { (old : List Sent) (before : Option Sent) → IsTaken old table.now row.now before → IfSome self.old.values (AreValuesOf own.entry.name.now old (arc_slice_items self.old.region.nodes)) → IfSome self.new.values (AreValuesOf own.entry.name.now table.now (arc_slice_items self.old.region.nodes)) }
     {
         let Some(mut values) = self.values.take() else {
             return;

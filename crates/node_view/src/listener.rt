@@ -9,7 +9,8 @@ ghost use Rattle.scp_spec.specs.Stirring.{ReachesSame};
 
 use crate::KnownReach;
 use crate::configured::Configured;
-use crate::known::{FiledRow, copy_of_known, put_row, take_known};
+use crate::known::{FiledRow, copy_of_known, put_row, share_known, take_known};
+use crate::shared::SharedReach;
 use node_store::{Archive, Filed, Places};
 use node_table::{Put, Rows, Table};
 use scp_bits::place_near;
@@ -196,6 +197,15 @@ impl Listener {
             archive,
         )?;
         Ok(known)
+    }
+
+    /// Has forms of slices that are known, and may be new, share memory with those of other nodes. What contracts see
+    /// stays.
+    #[inline(always)]
+    pub fn share_reach(&mut self, shared: &mut SharedReach)
+        ensures { self.new ≡ self.old }
+    {
+        share_known(&mut self.known, shared);
     }
 
     /// Keeps what is known of the node's reach, for whoever asks next.

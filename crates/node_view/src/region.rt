@@ -1,5 +1,6 @@
 //! The nodes that a node reaches, and slices compiled against them.
 
+ghost use Rattle.std.specs.Arc.{arc_slice_items};
 ghost use Rattle.std.specs.Prelude.{◌≡◌, ◌<◌, ◌≤◌, ◌++◌, ◌∷◌, [], ℕ, List, IfOk, IfSome, IsTrue, OnOk, Some, get_or, length, set};
 ghost use Rattle.scp_types.specs.Statements.{Sent, kind_of};
 ghost use Rattle.scp_types.specs.Trees.{Slices};
@@ -13,10 +14,12 @@ ghost use Rattle.node_table.specs.Places.{place_of_row};
 ghost use Rattle.node_view.specs.Forms.{AreAllForms, IsFormerOf, IsFoundInEither};
 ghost use Rattle.node_view.specs.Regions.{AreRowPlaces, AreToldSame, IsChange, IsCopy, IsEntry, IsFormerRegion, IsPlaced, IsRegion, forms_of, other_kind, row_places, row_places_of_kind, rows_of};
 
+use crate::alike::FEW_NODES;
 use crate::changing::Extent;
 use crate::forms::{Candidates, Former, SlicesInReach, form_in};
 use crate::own::Own;
 use crate::reached::ReachedRows;
+use crate::shared::SharedReach;
 use crate::standing::Standing;
 use node_reach::{drops_none, reach};
 use node_store::Places;
@@ -24,6 +27,7 @@ use node_table::{RowPlace, RowPlaces, Rows};
 use scp_bits::{CompiledSet, Form, compile, place_in_nodes};
 use scp_types::{Envelope, Kind, Nested, NodeId};
 use std::alloc::{AllocError, Global};
+use std::sync::ArcSlice;
 
 /// The nodes that a node reaches, its place among them, and what blocks it. Of each kind it has whose slices are met by
 /// whom, and where in the table the rows of the nodes stand. Its owner keeps it from event to event.
@@ -34,7 +38,7 @@ use std::alloc::{AllocError, Global};
 /// A newer row stands in the place of the one before, so the places change only with a first row.
 #[derive(Drop)]
 pub struct Region {
-    pub nodes: Vec<NodeId>,
+    pub nodes: ArcSlice<NodeId>,
     pub place: usize,
     pub blocking: CompiledSet,
     pub ballots: Vec<Option<Form>>,
@@ -43,7 +47,16 @@ pub struct Region {
     pub nomination_rows: Vec<RowPlace>,
     pub numbers: usize,
     pub latest: usize,
+    /// The first place whose forms may be new, and the one behind the last: the greatest number, if the nodes may be new
+    /// too. All else shares memory with other regions, if any have the same.
+    pub unshared: (usize, usize),
 }
+
+/// All places.
+const ALL_PLACES: (usize, usize) = (0, usize::MAX);
+
+/// No place.
+const NO_PLACES: (usize, usize) = (usize::MAX, 0);
 
 /// All that a row changes in a region whose reach stays: the compiled slices of a reached node's row of a kind, and
 /// where the row is to stand in the table. The numbers of all forms are below `numbers` afterwards.
@@ -120,7 +133,7 @@ impl Region {
         let Placed { nodes, rows } = placed;
         let numbers = nodes.len();
         Ok(Region {
-            nodes,
+            nodes: ArcSlice::from_vec(nodes)?,
             place,
             blocking,
             ballots: forms.ballots,
@@ -129,6 +142,7 @@ impl Region {
             nomination_rows: rows.nominations,
             numbers,
             latest: place,
+            unshared: ALL_PLACES,
         })
     }
 
@@ -137,7 +151,7 @@ impl Region {
         ensures { IfOk result (λ r. IsCopy self.now r) }
     {
         Ok(Region {
-            nodes: Vec::from_slice(alloc, &self.nodes)?,
+            nodes: self.nodes.clone()?,
             place: self.place,
             blocking: self.blocking.try_copy(alloc)?,
             ballots: copy_of_all(alloc, &self.ballots)?,
@@ -146,7 +160,31 @@ impl Region {
             nomination_rows: Vec::from_slice(alloc, &self.nomination_rows)?,
             numbers: self.numbers,
             latest: self.latest,
+            unshared: NO_PLACES,
         })
+    }
+
+    /// Has nodes and forms that may be new share memory with those of other regions. What contracts see stays. It is not
+    /// worth it for few nodes.
+    #[inline(always)]
+    pub(crate) fn share(&mut self, shared: &mut SharedReach)
+        ensures { IsCopy self.old self.new }
+    {
+        let (first, end) = self.unshared;
+        if first < end && self.nodes.len() > FEW_NODES {
+            self.share_places(first, end, shared);
+        }
+    }
+
+    fn share_places(&mut self, first: usize, end: usize, shared: &mut SharedReach)
+        ensures { IsCopy self.old self.new }
+    {
+        if end > self.nodes.len() {
+            shared.share_nodes(&mut self.nodes);
+        }
+        share_all(&mut self.ballots, first, end, shared);
+        share_all(&mut self.nominations, first, end, shared);
+        self.unshared = NO_PLACES;
     }
 
     /// What the envelope changes in the region if the table takes it. An error says that it is out of memory.
@@ -165,7 +203,7 @@ impl Region {
         table: &Rows<'_, S>,
         envelope: &Envelope,
     ) -> Result<Change, AllocError>
-        requires { IsAscending self.now.nodes.items }
+        requires { IsAscending (arc_slice_items self.now.nodes) }
         ensures { IfOk result (IsChange own.entry.name.now own.entry.slices.now table.now envelope.now self.now) }
     {
         let sender = envelope.sender();
@@ -191,9 +229,9 @@ impl Region {
         there: Standing,
         told: ToldSame,
     ) -> Result<Change, AllocError>
-        requires ascending { IsAscending self.now.nodes.items }
-        requires within { there.node < length self.now.nodes.items }
-        requires sender { get_or self.now.nodes.items there.node 0 ≡ envelope.now.sender }
+        requires ascending { IsAscending (arc_slice_items self.now.nodes) }
+        requires within { there.node < length (arc_slice_items self.now.nodes) }
+        requires sender { get_or (arc_slice_items self.now.nodes) there.node 0 ≡ envelope.now.sender }
         requires row { place_of_row table.now envelope.now.sender (kind_of envelope.now.body) ≡ there.row }
         requires told { AreToldSame own.name.now own.slices.now table.now envelope.now self.now there.node told }
         ensures { IfOk result (IsChange own.entry.name.now own.entry.slices.now table.now envelope.now self.now) }
@@ -234,9 +272,9 @@ impl Region {
         node: usize,
         told: ToldSame,
     ) -> Result<Option<Form>, AllocError>
-        requires ascending { IsAscending self.now.nodes.items }
+        requires ascending { IsAscending (arc_slice_items self.now.nodes) }
         requires told { AreToldSame own.name.now own.slices.now table.now envelope.now self.now node told }
-        ensures { IfOk result (λ o. IfSome o (IsFoundInEither self.now.nodes.items (slices_by own.entry.name.now own.entry.slices.now table.now (kind_of envelope.now.body)) (forms_of (kind_of envelope.now.body) self.now) (slices_by own.entry.name.now own.entry.slices.now table.now (other_kind (kind_of envelope.now.body))) (forms_of (other_kind (kind_of envelope.now.body)) self.now) self.now.numbers envelope.now.slices)) }
+        ensures { IfOk result (λ o. IfSome o (IsFoundInEither (arc_slice_items self.now.nodes) (slices_by own.entry.name.now own.entry.slices.now table.now (kind_of envelope.now.body)) (forms_of (kind_of envelope.now.body) self.now) (slices_by own.entry.name.now own.entry.slices.now table.now (other_kind (kind_of envelope.now.body))) (forms_of (other_kind (kind_of envelope.now.body)) self.now) self.now.numbers envelope.now.slices)) }
     {
         let kind = envelope.body().kind();
         if told.latest {
@@ -281,8 +319,8 @@ impl Region {
         table: &'a Rows<'a, S>,
         kind: Kind,
     ) -> ReachedRows<'a, S>
-        requires { rows_of kind self.now ≡ row_places table.now kind self.now.nodes.items }
-        ensures { result ≡ record { nodes = self.now.nodes.items; table = table.now; kind = kind } }
+        requires { rows_of kind self.now ≡ row_places table.now kind (arc_slice_items self.now.nodes) }
+        ensures { result ≡ record { nodes = (arc_slice_items self.now.nodes); table = table.now; kind = kind } }
     {
         let places = match kind {
             Kind::Nomination => &self.nomination_rows,
@@ -294,9 +332,14 @@ impl Region {
     /// Sets what [`Region::change_by`] found. The region is then that of the table with the row; its nodes stay the
     /// same. It takes no memory.
     pub fn set_entry(&mut self, entry: RegionEntry)
-        ensures nodes { self.new.nodes.items ≡ self.old.nodes.items }
+        ensures nodes { (arc_slice_items self.new.nodes) ≡ (arc_slice_items self.old.nodes) }
         ensures region { (own : ℕ) (configured : Slices) (table : List Sent) (e : Sent) → IsEntry own configured table e self.old entry → IsRegion own configured table self.old → IsRegion own configured (with_row e table) self.new }
     {
+        let (first, end) = self.unshared;
+        self.unshared = (
+            first.min(entry.place),
+            end.max(entry.place.saturating_add(1)),
+        );
         self.numbers = entry.numbers;
         self.latest = entry.place;
         match entry.kind {
@@ -336,6 +379,17 @@ fn set_row(rows: &mut [RowPlace], place: usize, row: RowPlace)
 {
     if place < rows.len() {
         rows[place] = row;
+    }
+}
+
+/// Has the forms from a place on to before another share memory with those of other regions.
+fn share_all(forms: &mut [Option<Form>], first: usize, end: usize, shared: &mut SharedReach)
+    ensures { forms.new ≡ forms.old }
+{
+    for place in first..end.min(forms.len()) {
+        if let Some(form) = &mut forms[place] {
+            shared.share_form(place, form);
+        }
     }
 }
 

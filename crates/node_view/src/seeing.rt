@@ -1,5 +1,6 @@
 //! A node's view of its table.
 
+ghost use Rattle.std.specs.Arc.{arc_slice_items};
 ghost use Rattle.std.proofs.Props.{props};
 ghost use Rattle.std.specs.Coded.{codes};
 ghost use Rattle.std.specs.Prelude.{◌≡◌, ℕ, IfOk, IfSome, false, length, refl, true, IsFalse};
@@ -62,8 +63,8 @@ pub struct View<'a, S: Places> {
     values: &'a Option<ReachedValues>,
     ghost known: { IsRegion own.now slices.now table.now region.now } by { Prim.hlevel (props, codes, compiled_code) },
     ghost single: { has_single_rows table.now ≡ true },
-    ghost ballots_kept: { ballots ≡ record { nodes = region.now.nodes.items; table = table.now; kind = Kind.Ballot } },
-    ghost nominations_kept: { nominations ≡ record { nodes = region.now.nodes.items; table = table.now; kind = Kind.Nomination } },
+    ghost ballots_kept: { ballots ≡ record { nodes = (arc_slice_items region.now.nodes); table = table.now; kind = Kind.Ballot } },
+    ghost nominations_kept: { nominations ≡ record { nodes = (arc_slice_items region.now.nodes); table = table.now; kind = Kind.Nomination } },
     ghost ballots_listed: { IfSome listed.now (λ l. AreSearched own.now ballots.kind ballots.table ballots.nodes l) } by { Prim.hlevel (props, codes) },
     ghost values_listed: { IfSome values.now (λ v. v.values ≡ values_in (rows_of_others own.now nominations.kind nominations.table nominations.nodes)) } by { Prim.hlevel (props, codes) },
     ghost ballots_alike: { IfSome listed.now (λ l. IfSome l.alike (AreGrouped own.now ballots)) } by { Prim.hlevel (props, codes) },
@@ -116,7 +117,7 @@ impl<'a, S: Places> View<'a, S> {
         ballots: ReachedRows<'a, S>,
     ) -> View<'a, S>
         requires known { IsKnown own.name.now own.slices.now ballots.table known.now }
-        requires ballots { ballots ≡ record { nodes = known.now.region.nodes.items; table = ballots.table; kind = Kind.Ballot } }
+        requires ballots { ballots ≡ record { nodes = (arc_slice_items known.now.region.nodes); table = ballots.table; kind = Kind.Ballot } }
         ensures { ⟦<View<'a, S> as Sight>⟧.seen result ≡ seen own.entry.name.now own.entry.slices.now leaders.now ballots.entry.table }
     {
         let table = ballots.table();
@@ -138,7 +139,7 @@ impl<'a, S: Places> View<'a, S> {
 
     /// The rows that a question asks.
     fn rows_for(&self, question: &Question<'_>) -> &ReachedRows<'a, S>
-        ensures { result.now ≡ record { nodes = self.now.region.now.nodes.items; table = self.now.table.now; kind = kind_asked question.now } }
+        ensures { result.now ≡ record { nodes = (arc_slice_items self.now.region.now.nodes); table = self.now.table.now; kind = kind_asked question.now } }
     {
         match question.kind() {
             Kind::Nomination => &self.nominations,
@@ -148,7 +149,7 @@ impl<'a, S: Places> View<'a, S> {
 
     /// The compiled slices by the rows that a question asks.
     fn forms_for(&self, question: &Question<'_>) -> &[Option<Form>]
-        ensures { AreCompiled self.now.region.now.nodes.items (slices_by self.now.own.now self.now.slices.now self.now.table.now (kind_asked question.now)) result.now }
+        ensures { AreCompiled (arc_slice_items self.now.region.now.nodes) (slices_by self.now.own.now self.now.slices.now self.now.table.now (kind_asked question.now)) result.now }
     {
         match question.kind() {
             Kind::Nomination => &self.region.nominations,
@@ -159,7 +160,7 @@ impl<'a, S: Places> View<'a, S> {
     /// Which of the rows that a question asks say the same, if that is known.
     #[inline(always)]
     fn groups_for(&self, question: &Question<'_>) -> Option<&[[u64; FEW_WORDS]]>
-        ensures { IfSome result (λ gs. AreAllGrouped self.now.own.now (record { nodes = self.now.region.now.nodes.items; table = self.now.table.now; kind = kind_asked question.now }) gs.now) }
+        ensures { IfSome result (λ gs. AreAllGrouped self.now.own.now (record { nodes = (arc_slice_items self.now.region.now.nodes); table = self.now.table.now; kind = kind_asked question.now }) gs.now) }
     {
         match question.kind() {
             Kind::Nomination => values_alike(self.values),
@@ -170,7 +171,7 @@ impl<'a, S: Places> View<'a, S> {
     /// Whether some quorum that contains the node passes. `places` is the empty set of the reached nodes.
     #[inline(always)]
     fn has_quorum(&self, places: &mut [u64], own_passes: bool, question: &Question<'_>) -> bool
-        requires { IsEmptySet (length self.now.region.now.nodes.items) places.old }
+        requires { IsEmptySet (length (arc_slice_items self.now.region.now.nodes)) places.old }
         ensures { result ≡ (seen self.now.own.now self.now.slices.now self.now.leaders.now self.now.table.now).quorum (kind_asked question.now) own_passes (asks question.now) }
     {
         let supporters = Supporters {

@@ -1,5 +1,6 @@
 //! Where the sender of an envelope stands.
 
+ghost use Rattle.std.specs.Arc.{arc_slice_items};
 ghost use Rattle.std.specs.Prelude.{◌≡◌, IfSome, List, None, get_or};
 ghost use Rattle.node_table.specs.Places.{place_of_row};
 ghost use Rattle.node_view.specs.Regions.{IsFoundAmong, row_places, rows_of};
@@ -22,9 +23,9 @@ impl Region {
     /// Where the sender of an envelope stands, if it is reached, and its row of the envelope's kind. It is looked for at
     /// the place `first`, and else costs one search among the nodes. It takes no memory.
     pub fn standing(&self, first: usize, envelope: &Envelope) -> Option<Standing>
-        requires { IsAscending self.now.nodes.items }
-        ensures among { IsFoundAmong self.now.nodes.items envelope.now.sender result }
-        ensures row { (table : List Sent) → rows_of (kind_of envelope.now.body) self.now ≡ row_places table (kind_of envelope.now.body) self.now.nodes.items → IfSome result (λ s. place_of_row table envelope.now.sender (kind_of envelope.now.body) ≡ s.row) }
+        requires { IsAscending (arc_slice_items self.now.nodes) }
+        ensures among { IsFoundAmong (arc_slice_items self.now.nodes) envelope.now.sender result }
+        ensures row { (table : List Sent) → rows_of (kind_of envelope.now.body) self.now ≡ row_places table (kind_of envelope.now.body) (arc_slice_items self.now.nodes) → IfSome result (λ s. place_of_row table envelope.now.sender (kind_of envelope.now.body) ≡ s.row) }
     {
         match place_near(&self.nodes, first, envelope.sender()) {
             None => None,

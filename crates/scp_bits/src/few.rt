@@ -21,7 +21,7 @@ use std::alloc::{AllocError, Global};
 pub(crate) const FEW_WORDS: usize = 4;
 
 /// How many places are needed, and the places, as a set of nodes: a bit for each.
-#[derive(Clone, Copy, Debug)]
+#[derive(Clone, Copy, Debug, PartialEq, Eq)]
 pub(crate) struct FewPlaces {
     pub needed: usize,
     pub words: [u64; FEW_WORDS],

@@ -13,7 +13,7 @@ use crate::asking::{Passing, is_met_by};
 use crate::compiling::{compile, has_places};
 use crate::few::FewPlaces;
 use crate::moving::relocate_set;
-use crate::set::{CompiledSet, is_met};
+use crate::set::{CompiledSet, is_met, is_same};
 use scp_types::{NodeId, SliceSet};
 use std::alloc::{AllocError, Global};
 use std::marker::Model;
@@ -120,6 +120,33 @@ impl Form {
             number,
             set: Arc::try_clone(&self.set)?,
         })
+    }
+
+    /// Shares the set of another form from now on, if theirs is the same; whether it does. It takes no memory.
+    pub fn share(&mut self, other: &Form) -> bool
+        ensures { self.new ≡ self.old }
+    {
+        if !self.has_set_of(other) {
+            return false;
+        }
+        match Arc::try_clone(&other.set) {
+            Ok(set) => {
+                self.set = set;
+                true
+            }
+            Err(_) => false,
+        }
+    }
+
+    /// Whether their sets are the same. It takes no memory.
+    fn has_set_of(&self, other: &Form) -> bool
+        ensures { IsTrue result → self.now.set ≡ other.now.set }
+    {
+        match (&*self.set, &*other.set) {
+            (FormSet::Few(few), FormSet::Few(others)) => *few == *others,
+            (FormSet::Any(set), FormSet::Any(others)) => is_same(set, others),
+            _ => false,
+        }
     }
 
     /// The form of this number with each place moved to the one that stands at it in the list. A place that is not in

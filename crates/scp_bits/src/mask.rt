@@ -6,7 +6,7 @@ ghost use Rattle.scp_bits.specs.Places.{bit_of, count_in, ones_at, places_in, is
 use std::alloc::AllocError;
 
 /// Places that have their bits in one word of a set of nodes.
-#[derive(Clone, Copy, Debug)]
+#[derive(Clone, Copy, Debug, PartialEq, Eq)]
 pub(crate) struct Mask {
     pub index: usize,
     pub bits: u64,

@@ -1,6 +1,6 @@
 //! A compiled set.
 
-ghost use Rattle.std.specs.Prelude.{◌≡◌, ◌+◌, ◌≤◌, IfOk, length};
+ghost use Rattle.std.specs.Prelude.{◌≡◌, ◌+◌, ◌≤◌, IfOk, IsTrue, length};
 ghost use Rattle.scp_bits.specs.Met.{has_needed};
 ghost use Rattle.scp_bits.specs.Places.{count_in, count_sets, sets_of};
 
@@ -101,6 +101,26 @@ fn copy_of_set(alloc: Global, set: &CompiledSet) -> Result<CompiledSet, AllocErr
         inner.push(copy_of_set(alloc, each)?)?;
     }
     Ok(CompiledSet::new(set.needed_count(), set.members(), masks, inner))
+}
+
+/// Whether both sets need as many of the same places and inner sets, in the same order. It takes no memory.
+pub(crate) fn is_same(set: &CompiledSet, other: &CompiledSet) -> bool
+    ensures { IsTrue result → set.now ≡ other.now }
+{
+    let sets = set.inner();
+    let others = other.inner();
+    if set.needed_count() != other.needed_count() || *set.masks() != *other.masks() {
+        return false;
+    }
+    if sets.len() != others.len() {
+        return false;
+    }
+    for place in 0..sets.len() {
+        if !is_same(&sets[place], &others[place]) {
+            return false;
+        }
+    }
+    true
 }
 
 /// Whether as many places and inner sets as are needed are in the set of nodes. It takes no memory.

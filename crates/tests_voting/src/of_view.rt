@@ -1,6 +1,7 @@
 //! What no clause says of a region: that a first row that names others is found to widen it, if there is memory. It
 //! would be right too to find the reach anew.
 
+ghost use Rattle.std.specs.Arc.{arc_slice_items};
 ghost use Rattle.std.specs.Prelude.{IfOk};
 ghost use Rattle.scp_spec.specs.Sets.{IsAscending};
 
@@ -14,7 +15,7 @@ use std::test::Fail;
 
 /// The region of node 1 by a table.
 fn region_of(alloc: Global, slices: &Nested, table: &Rows<'_, BoxShelf>) -> Result<Region, Fail>
-    ensures { IfOk result (λ r. IsAscending r.nodes.items) }
+    ensures { IfOk result (λ r. IsAscending (arc_slice_items r.nodes)) }
 {
     let region = Region::of(alloc, &name(1), slices, table)?;
     Ok(region)

@@ -1,3 +1,4 @@
+use Rattle.std.specs.Arc.{arc_slice_items}
 use Rattle.std.proofs.Common.{Box, IfSome, List, Option, subst, sym, ℕ}
 use Rattle.std.specs.Global.{Global}
 use Rattle.node_view.specs.declared.known_reach.KnownReach.{KnownReach}
@@ -30,5 +31,5 @@ returns-in-Some-clause-lists c = λ k table are.
     let v = c.deref_mut.result.now in
     let known = subst (λ (o : Option (Box KnownReach Global)). KnowsLists k table (reach_in o)) c.in-Some.is are in
     let lists : KnownReach → List ℕ → Type 0 = λ w us. IfSome w.ballots (λ b. AreBallotsOf k.name table us b) × IfSome w.values (λ z. AreValuesOf k.name table us z) in
-    let before = subst (λ (w : KnownReach). lists w w.region.nodes.items) (sym c.deref_mut.ensures.value) known in
+    let before = subst (λ (w : KnownReach). lists w (arc_slice_items w.region.nodes)) (sym c.deref_mut.ensures.value) known in
     subst (lists v) (sym c.set_entry.ensures.nodes) before

@@ -1,3 +1,4 @@
+use Rattle.std.specs.Arc.{arc_slice_items}
 use Rattle.std.proofs.Common.{◌∙◌, Bor, IfSome, Option, Some, option_map, subst, sym}
 use Rattle.scp_types.specs.declared.envelope.Envelope.{Envelope}
 use Rattle.scp_types.specs.declared.statement.Statement.{Statement}
@@ -9,7 +10,7 @@ use Rattle.node_view.proofs.known_reach.KnownReach.follow_ballots.Goals as goal
 pub returns-in-Ok-clause-ballots : goal.returns-in-Ok-clause-ballots
 returns-in-Ok-clause-ballots g c = λ old taken are.
     let own = c.args.own.name.now in
-    let nodes = c.args.self.now.region.nodes.items in
+    let nodes = (arc_slice_items c.args.self.now.region.nodes) in
     let table = c.args.table.now in
     let e = c.args.taken.now.row.now in
     let before = c.in-Some.ballots in

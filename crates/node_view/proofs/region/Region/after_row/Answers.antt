@@ -1,3 +1,4 @@
+use Rattle.std.specs.Arc.{arc_slice_items}
 use Rattle.std.proofs.Common.{List, ℕ, subst, sym}
 use Rattle.scp_types.specs.declared.kind.Kind.{Kind}
 use Rattle.scp_types.specs.declared.kind.Kind.TheVariants.{Nomination}
@@ -10,7 +11,7 @@ moved_places-requires-clause-now g c = subst (λ (us : List ℕ). IsAscending us
 
 pub over-requires-clause-former : goal.over-requires-clause-former
 over-requires-clause-former g c =
-    let us = c.args.self.now.nodes.items in
+    let us = (arc_slice_items c.args.self.now.nodes) in
     let all = c.in_ok-nodes.nodes.items in
     let kept = c.requires.kept in
     let closed = c.in_ok-nodes.ensures.closed in

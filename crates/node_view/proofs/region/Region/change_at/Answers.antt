@@ -1,3 +1,4 @@
+use Rattle.std.specs.Arc.{arc_slice_items}
 use Rattle.std.proofs.Common.{rules, ◌<◌, IsTrue, arith}
 use Rattle.scp_types.specs.Statements.{kind_of}
 use Rattle.scp_spec.specs.Backing.{slices_by}
@@ -15,7 +16,7 @@ returns g c =
     let r = c.args.self.now in
     let e = c.args.envelope.now in
     let k = kind_of e.body in
-    let us = r.nodes.items in
+    let us = (arc_slice_items r.nodes) in
     let f = c.in-Some-found.form in
     let slices_at = slices_by c.args.own.name.now c.args.own.slices.now c.args.table.now k in
     let more : r.numbers < c.in-Some.numbers = omega (arith, c.in-Some.ensures) in
@@ -40,8 +41,8 @@ returns-in_default-found g c = λ is.
     let t = c.args.table.now in
     let r = c.args.self.now in
     let e = c.args.envelope.now in
-    let there : IsTrue (among r.nodes.items e.sender) = among_there r.nodes.items c.args.there.node e.sender c.requires.within c.requires.sender in
-    (kept_region own q t e r is, c.in_ok-drops_none.ensures.narrow c.if-not-drops_none.false r.nodes.items there is.reach)
+    let there : IsTrue (among (arc_slice_items r.nodes) e.sender) = among_there (arc_slice_items r.nodes) c.args.there.node e.sender c.requires.within c.requires.sender in
+    (kept_region own q t e r is, c.in_ok-drops_none.ensures.narrow c.if-not-drops_none.false (arc_slice_items r.nodes) there is.reach)
 
 pub returns-then-there-self : goal.returns-then-there-self
 returns-then-there-self g c = λ is. (kept_region c.args.own.name.now c.args.own.slices.now c.args.table.now c.args.envelope.now c.args.self.now is, tt)

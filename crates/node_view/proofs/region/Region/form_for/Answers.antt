@@ -1,3 +1,4 @@
+use Rattle.std.specs.Arc.{arc_slice_items}
 use Rattle.std.proofs.Common.{rules, ◌≡◌, ◌<◌, ◌∙◌, List, None, Option, ap, get_or, inr, length, subst, sym}
 use Rattle.scp_types.specs.Statements.{kind_of}
 use Rattle.scp_types.specs.declared.kind.Kind.{Kind}
@@ -17,7 +18,7 @@ returns-in-Some-form_in g c =
     let j = other_kind (kind_of e.body) in
     let forms : c.forms-then-told-2.result.now ≡ forms_of j r = c.forms-then-told-2.ensures ∙ ap (λ (i : Kind). forms_of i r) (c.other_kind.ensures ∙ ap other_kind kind) in
     let its = c.requires.told.other c.if-told-2.true in
-    let twin : IsTwin r.nodes.items (slices_by c.args.own.name.now c.args.own.slices.now c.args.table.now j) (forms_of j r) e.slices form = record {
+    let twin : IsTwin (arc_slice_items r.nodes) (slices_by c.args.own.name.now c.args.own.slices.now c.args.table.now j) (forms_of j r) e.slices form = record {
       place = n;
       listed = its.0;
       inside = subst (λ (fs : List (Option Numbered)). n < length fs) forms c.in-Some-form_in.ensures.0;

@@ -1,3 +1,4 @@
+use Rattle.std.specs.Arc.{arc_slice_items}
 use Rattle.std.proofs.Common.{List, ℕ, subst, sym}
 use Rattle.std.proofs.lemmas.Result.{IfOk-weaker}
 use Rattle.node_reach.specs.Widening.{IsNarrow}
@@ -11,7 +12,7 @@ returns-in-Wider g c =
     let q = c.args.own.slices.now in
     let t = c.args.table.now in
     let sender = c.args.by.sender.now in
-    let us = c.args.self.now.nodes.items in
+    let us = (arc_slice_items c.args.self.now.nodes) in
     let narrow : IsNarrow own q t sender us = subst (λ (x : Extent). IsOfExtent own q t sender us x) c.in-Wider.is c.requires.extent in
     let there = subst (λ (ns : List ℕ). IsNarrow own q t sender ns) (sym c.deref.ensures.value) narrow in
     IfOk-weaker c.wider_reach.result _ _ (λ v found. found own q there) c.wider_reach.ensures

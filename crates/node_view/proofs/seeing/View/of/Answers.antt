@@ -1,3 +1,4 @@
+use Rattle.std.specs.Arc.{arc_slice_items}
 use Rattle.std.proofs.Common.{◌≡◌, ◌∙◌, List, ℕ, ap, subst, sym}
 use Rattle.scp_types.specs.declared.kind.Kind.{Kind}
 use Rattle.scp_spec.specs.Views.{seen}
@@ -14,10 +15,10 @@ pub by_ballot_rows-requires : goal.by_ballot_rows-requires
 by_ballot_rows-requires g c =
     let known = c.args.known.now in
     let at : List ℕ → RowsOfNodes = λ us. record { nodes = us; table = c.args.table.now; kind = Kind.Ballot } in
-    let is : c.in_ok-ballots.ballots ≡ at known.region.nodes.items = c.in_ok-ballots.ensures ∙ ap at c.deref.ensures.value in
+    let is : c.in_ok-ballots.ballots ≡ at (arc_slice_items known.region.nodes) = c.in_ok-ballots.ensures ∙ ap at c.deref.ensures.value in
     record {
       known = subst (λ (k : RowsOfNodes). IsKnown c.args.own.name.now c.args.own.slices.now k.table known) (sym is) c.requires;
-      ballots = is ∙ ap (λ (k : RowsOfNodes). record { nodes = known.region.nodes.items; table = k.table; kind = Kind.Ballot }) (sym is);
+      ballots = is ∙ ap (λ (k : RowsOfNodes). record { nodes = (arc_slice_items known.region.nodes); table = k.table; kind = Kind.Ballot }) (sym is);
     }
 
 pub returns : goal.returns
