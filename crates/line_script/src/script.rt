@@ -132,11 +132,12 @@ pub fn fields_of<'a>(alloc: Global, line: &'a [u8]) -> Result<Option<Vec<&'a [u8
         AreFields line.now (map (λ field. field.now) fields.items))) }
     ensures bad { result ≡ Err LineError.Bad → IsBad line.now }
 {
-    if !is_ascii(line) {
-        return Err(LineError::Bad);
-    }
     if is_no_record(line) {
-        return Ok(None);
+        return if is_ascii(line) {
+            Ok(None)
+        } else {
+            Err(LineError::Bad)
+        };
     }
     match cut_at_spaces(alloc, line) {
         Ok(fields) if are_fields(fields.as_slice()) => Ok(Some(fields)),

@@ -350,6 +350,7 @@ impl Table {
     {
         let place = self.len();
         if place >= MOST_ROWS {
+            // Memory: no row more has a place, whatever memory there is.
             return Err(AllocError);
         }
         self.rows.reserve(1)?;

@@ -22,6 +22,7 @@ use Rattle.scp_bits.specs.Met.{IsCompiled, nodes_at}
 use Rattle.scp_bits.specs.Searching.{AreCompiled, met_at}
 use Rattle.node_view.specs.declared.region.RegionEntry.{RegionEntry}
 use Rattle.node_view.specs.declared.region.Region.{Region}
+use Rattle.node_view.specs.declared.region.Unshared.{Unshared}
 use Rattle.node_table.specs.Places.{place_of_row}
 use Rattle.node_view.specs.Forms.{AreBelow, Fits, IsFoundInEither, IsFoundWithin, MayJoin}
 use Rattle.node_view.specs.Regions.{IsCopy, IsEntry, IsRegion, forms_of, other_kind, row_places}
@@ -134,7 +135,7 @@ module _ (table : List Sent) (e : Sent) (r : Region) (own : ℕ) (configured : S
         subst (λ (j : Kind). AreCompiled (arc_slice_items r.nodes) (slices_by own configured table (other_kind j)) (forms_of (other_kind j) r) → AreCompiled (arc_slice_items r.nodes) (slices_by own configured table j) (forms_of j r) → AreBelow r.numbers (forms_of j r) → MayJoin (arc_slice_items r.nodes) (forms_of j r) x.numbers e.slices x.slices)
         (sym same) entry.form
 
-    pub ballot_set : x.kind ≡ Kind.Ballot → (unshared : ℕ × ℕ) → (v : Vec (Option Numbered) Global) → (x.place < length r.ballots.items → v.items ≡ set r.ballots.items x.place (Some x.slices))
+    pub ballot_set : x.kind ≡ Kind.Ballot → (unshared : Unshared) → (v : Vec (Option Numbered) Global) → (x.place < length r.ballots.items → v.items ≡ set r.ballots.items x.place (Some x.slices))
         → (w : Vec (Option ℕ) Global) → (x.place < length r.ballot_rows.items → w.items ≡ set r.ballot_rows.items x.place x.row)
         → IsRegion own configured (with_row e table) (record r { ballots = v; ballot_rows = w; numbers = x.numbers; latest = x.place; unshared = unshared })
     ballot_set kind unshared v now w row_now =
@@ -157,7 +158,7 @@ module _ (table : List Sent) (e : Sent) (r : Region) (own : ℕ) (configured : S
           nomination_numbers = below_more r.nominations.items r.numbers x.numbers entry.numbers is.nomination_numbers;
         }
 
-    pub nomination_set : x.kind ≡ Nomination → (unshared : ℕ × ℕ) → (v : Vec (Option Numbered) Global) → (x.place < length r.nominations.items → v.items ≡ set r.nominations.items x.place (Some x.slices))
+    pub nomination_set : x.kind ≡ Nomination → (unshared : Unshared) → (v : Vec (Option Numbered) Global) → (x.place < length r.nominations.items → v.items ≡ set r.nominations.items x.place (Some x.slices))
         → (w : Vec (Option ℕ) Global) → (x.place < length r.nomination_rows.items → w.items ≡ set r.nomination_rows.items x.place x.row)
         → IsRegion own configured (with_row e table) (record r { nominations = v; nomination_rows = w; numbers = x.numbers; latest = x.place; unshared = unshared })
     nomination_set kind unshared v now w row_now =

@@ -95,7 +95,7 @@ pub record IsRegion (own : ℕ) (configured : Slices) (table : List Sent) (r : R
 
 -- the same region, in other memory
 pub record IsCopy (old new : Region) : Type 0 where
-  pub nodes : (arc_slice_items new.nodes) ≡ (arc_slice_items old.nodes)
+  pub nodes : arc_slice_items new.nodes ≡ arc_slice_items old.nodes
   pub place : new.place ≡ old.place
   pub blocking : new.blocking ≡ old.blocking
   pub ballots : new.ballots.items ≡ old.ballots.items

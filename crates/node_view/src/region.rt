@@ -47,16 +47,40 @@ pub struct Region {
     pub nomination_rows: Vec<RowPlace>,
     pub numbers: usize,
     pub latest: usize,
-    /// The first place whose forms may be new, and the one behind the last: the greatest number, if the nodes may be new
-    /// too. All else shares memory with other regions, if any have the same.
-    pub unshared: (usize, usize),
+    pub unshared: Unshared,
 }
 
-/// All places.
-const ALL_PLACES: (usize, usize) = (0, usize::MAX);
+/// What of a region may be new: the list of nodes, and the forms from the first of these places on to before the end. All
+/// else shares memory with other regions, if any have the same.
+#[derive(Clone, Copy)]
+pub struct Unshared {
+    nodes: bool,
+    first: usize,
+    end: usize,
+}
 
-/// No place.
-const NO_PLACES: (usize, usize) = (usize::MAX, 0);
+const ALL: Unshared = Unshared {
+    nodes: true,
+    first: 0,
+    end: usize::MAX,
+};
+
+const NOTHING: Unshared = Unshared {
+    nodes: false,
+    first: usize::MAX,
+    end: 0,
+};
+
+impl Unshared {
+    /// This, and the forms at a place.
+    fn with_place(self, place: usize) -> Unshared {
+        Unshared {
+            nodes: self.nodes,
+            first: self.first.min(place),
+            end: self.end.max(place.saturating_add(1)),
+        }
+    }
+}
 
 /// All that a row changes in a region whose reach stays: the compiled slices of a reached node's row of a kind, and
 /// where the row is to stand in the table. The numbers of all forms are below `numbers` afterwards.
@@ -142,7 +166,7 @@ impl Region {
             nomination_rows: rows.nominations,
             numbers,
             latest: place,
-            unshared: ALL_PLACES,
+            unshared: ALL,
         })
     }
 
@@ -160,7 +184,7 @@ impl Region {
             nomination_rows: Vec::from_slice(alloc, &self.nomination_rows)?,
             numbers: self.numbers,
             latest: self.latest,
-            unshared: NO_PLACES,
+            unshared: NOTHING,
         })
     }
 
@@ -170,21 +194,21 @@ impl Region {
     pub(crate) fn share(&mut self, shared: &mut SharedReach)
         ensures { IsCopy self.old self.new }
     {
-        let (first, end) = self.unshared;
-        if first < end && self.nodes.len() > FEW_NODES {
-            self.share_places(first, end, shared);
+        let unshared = self.unshared;
+        if unshared.first < unshared.end && self.nodes.len() > FEW_NODES {
+            self.share_all(unshared, shared);
         }
     }
 
-    fn share_places(&mut self, first: usize, end: usize, shared: &mut SharedReach)
+    fn share_all(&mut self, unshared: Unshared, shared: &mut SharedReach)
         ensures { IsCopy self.old self.new }
     {
-        if end > self.nodes.len() {
+        if unshared.nodes {
             shared.share_nodes(&mut self.nodes);
         }
-        share_all(&mut self.ballots, first, end, shared);
-        share_all(&mut self.nominations, first, end, shared);
-        self.unshared = NO_PLACES;
+        share_forms(&mut self.ballots, unshared, shared);
+        share_forms(&mut self.nominations, unshared, shared);
+        self.unshared = NOTHING;
     }
 
     /// What the envelope changes in the region if the table takes it. An error says that it is out of memory.
@@ -332,14 +356,10 @@ impl Region {
     /// Sets what [`Region::change_by`] found. The region is then that of the table with the row; its nodes stay the
     /// same. It takes no memory.
     pub fn set_entry(&mut self, entry: RegionEntry)
-        ensures nodes { (arc_slice_items self.new.nodes) ≡ (arc_slice_items self.old.nodes) }
+        ensures nodes { arc_slice_items self.new.nodes ≡ arc_slice_items self.old.nodes }
         ensures region { (own : ℕ) (configured : Slices) (table : List Sent) (e : Sent) → IsEntry own configured table e self.old entry → IsRegion own configured table self.old → IsRegion own configured (with_row e table) self.new }
     {
-        let (first, end) = self.unshared;
-        self.unshared = (
-            first.min(entry.place),
-            end.max(entry.place.saturating_add(1)),
-        );
+        self.unshared = self.unshared.with_place(entry.place);
         self.numbers = entry.numbers;
         self.latest = entry.place;
         match entry.kind {
@@ -382,11 +402,11 @@ fn set_row(rows: &mut [RowPlace], place: usize, row: RowPlace)
     }
 }
 
-/// Has the forms from a place on to before another share memory with those of other regions.
-fn share_all(forms: &mut [Option<Form>], first: usize, end: usize, shared: &mut SharedReach)
+/// Has forms that may be new share memory with those of other regions.
+fn share_forms(forms: &mut [Option<Form>], unshared: Unshared, shared: &mut SharedReach)
     ensures { forms.new ≡ forms.old }
 {
-    for place in first..end.min(forms.len()) {
+    for place in unshared.first..unshared.end.min(forms.len()) {
         if let Some(form) = &mut forms[place] {
             shared.share_form(place, form);
         }

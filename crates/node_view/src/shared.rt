@@ -8,7 +8,7 @@ use scp_types::NodeId;
 use std::alloc::Global;
 use std::sync::ArcSlice;
 
-/// Forms of this many places are kept at most: a set that lies in one piece has no others.
+/// Forms of this many places are kept at most, the first ones. Those of others are not shared.
 const MOST_PLACES: usize = 256;
 
 /// The reached nodes and the forms that a node at a slot was last seen with, place by place. Others that have the same

@@ -230,7 +230,7 @@ impl Nested {
         if !keeps_shape(&set, MAX_INNER_LEVELS) {
             return Ok(None);
         }
-        let mut names = Vec::new(alloc);
+        let mut names = Vec::with_capacity(alloc, set.members().len())?;
         push_names(&set, &mut names)?;
         if names.len() > MAX_NAMES || !all_differ(names) {
             return Ok(None);

@@ -3,7 +3,7 @@ use Rattle.line_script.specs.Script.{is_ascii}
 use Rattle.line_script.proofs.ScriptLemmas.{not_ascii_is_bad}
 use Rattle.line_script.proofs.script.fields_of.Goals as goal
 
-pub returns-then-not-is_ascii-clause-bad : goal.returns-then-not-is_ascii-clause-bad
-returns-then-not-is_ascii-clause-bad c e =
+pub returns-else-is_ascii-clause-bad : goal.returns-else-is_ascii-clause-bad
+returns-else-is_ascii-clause-bad c e =
     let no_ascii : is_ascii c.args.line.now ≡ false = search rules in
     not_ascii_is_bad c.args.line.now no_ascii

@@ -14,7 +14,7 @@ returns-in-Ballot-clause-region c = λ own configured table e entry is.
     let rows = c.set_row.new.rows in
     let few = ap (λ (os : List (Option ℕ)). length os) c.deref_mut-in-Ballot.ensures.value in
     let many = ap (λ (cs : List (Option Numbered)). length cs) c.deref_mut.ensures.value in
-    ballot_set table e c.args.self.now own configured is x entry c.in-Ballot.is (c.min.result, c.max.result) (with_items v now) (λ within.
+    ballot_set table e c.args.self.now own configured is x entry c.in-Ballot.is c.with_place-self.result (with_items v now) (λ within.
     with_items_is v now (omega (arith, c.set_at.auto.entries, c.deref_mut.ensures.len, many))
     ∙ (c.set_at.ensures (omega (arith, within, many)) ∙ ap (λ (cs : List (Option Numbered)). set cs x.place (Some x.slices)) c.deref_mut.ensures.value))
     (with_items w rows) (λ within.
@@ -30,7 +30,7 @@ returns-in-Nomination-clause-region c = λ own configured table e entry is.
     let rows = c.set_row-in-Nomination.new.rows in
     let few = ap (λ (os : List (Option ℕ)). length os) c.deref_mut-in-Nomination-2.ensures.value in
     let many = ap (λ (cs : List (Option Numbered)). length cs) c.deref_mut-in-Nomination.ensures.value in
-    nomination_set table e c.args.self.now own configured is x entry c.in-Nomination.is (c.min.result, c.max.result) (with_items v now) (λ within.
+    nomination_set table e c.args.self.now own configured is x entry c.in-Nomination.is c.with_place-self.result (with_items v now) (λ within.
     with_items_is v now (omega (arith, c.set_at-in-Nomination.auto.entries, c.deref_mut-in-Nomination.ensures.len, many))
     ∙ (c.set_at-in-Nomination.ensures (omega (arith, within, many)) ∙ ap (λ (cs : List (Option Numbered)). set cs x.place (Some x.slices)) c.deref_mut-in-Nomination.ensures.value))
     (with_items w rows) (λ within.
